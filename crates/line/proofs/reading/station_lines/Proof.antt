@@ -1,0 +1,104 @@
+-- `line::reading::station_lines` meets its contract. The invariant: the lines yet to read, laid into the array from here on, give what the whole gives.
+-- Assumes nothing.
+use Prim.Native.Nat.{suc, _≤_, _-_, _+_}
+use mathlib.Core.Path.{_≡_, _∙_, sym, ap, refl}
+use native.Mathlib.Omega.{arith}
+use native.Mathlib.Nat.{sub-zero}
+use denote.Ref.{now}
+use Rattle.text.specs.Lists.{padded}
+use Rattle.text.specs.LayLaws.{layMany, lay-done, lay-step, lay-stop}
+use Rattle.text.specs.Told.{stoppedBy}
+use Rattle.line.specs.Ranges.{tracks}
+use Rattle.line.specs.File.{stationLine}
+use Rattle.line.specs.FileLaws.{number-told, ended-told}
+use borrow.Author.Needs.{needs}
+use Rattle.line.proofs.reading.station_lines.Statement.{statement}
+use Rattle.line.proofs.reading.station_lines.Tie as tie
+
+abbrev Inv-lines : tie.InvT-lines
+Inv-lines s count tracks₀ cursor₀ i₀ tracks cursor i =
+    (layMany (count - i) stationLine (i + 2) s cursor tracks i ≡ layMany count stationLine 2 s cursor₀ tracks₀ 0) × (i ≤ count)
+
+abbrev μ-lines : tie.MeasureT-lines
+μ-lines s count tracks₀ cursor₀ i₀ tracks cursor i = count - i
+
+lines-holds : tie.Need-lines-holds Inv-lines μ-lines
+lines-holds c = (rw sub-zero refl, omega arith)
+
+add-faults-on : tie.Need-add-faults-on Inv-lines μ-lines
+add-faults-on c = search needs
+
+faults-on-requires : tie.Need-faults-on-requires Inv-lines μ-lines
+faults-on-requires c κs = search needs
+
+ranged-requires : tie.Need-ranged-requires Inv-lines μ-lines
+ranged-requires c κs = search needs
+
+enum-known-field : tie.Need-enum-known-field Inv-lines μ-lines
+enum-known-field c = search needs
+
+enum-told : tie.Need-enum-told Inv-lines μ-lines
+enum-told c = search needs
+
+stopped-requires : tie.Need-stopped-requires Inv-lines μ-lines
+stopped-requires c κs = search needs
+
+mul-tracks : tie.Need-mul-tracks Inv-lines μ-lines
+mul-tracks c = search needs
+
+array-write-tracks : tie.Need-array-write-tracks Inv-lines μ-lines
+array-write-tracks c = search needs
+
+add-i : tie.Need-add-i Inv-lines μ-lines
+add-i c = search needs
+
+lines-less : tie.Need-lines-less Inv-lines μ-lines
+lines-less c = search needs
+
+lines-again : tie.Need-lines-again Inv-lines μ-lines
+lines-again c =
+    let w = c .before .before .before .before .before .before .lines in
+    let a = c .before .before .before .before .before .before .before .before .args in
+    let field = number-told tracks 10 (w .i + 2) (now (a .s)) _ refl (c .before .before .before .before .faults-on .ensures) (c .before .before .before .ranged .ensures) (c .before .field .given .1) in
+    let k : a .count - w .i ≡ suc (a .count - (w .i + 1)) = omega arith in
+    let next : w .i + 1 + 2 ≡ w .i + 2 + 1 = omega arith in
+    (sym (lay-step stationLine _ _ _ _ _ _ _ _ k next _ _ field) ∙ w .inv .0, omega arith)
+
+returns : tie.Need-returns Inv-lines μ-lines
+unfolding padded
+returns c =
+    let w = c .before .lines in
+    let a = c .before .before .before .args in
+    let k : a .count - w .i ≡ 0 = omega arith in
+    sym (lay-done stationLine _ 0 _ 0 _ _ _ _ k) ∙ w .inv .0
+
+returns-2 : tie.Need-returns-2 Inv-lines μ-lines
+unfolding padded
+returns-2 c =
+    let w = c .before .before .before .before .before .before .lines in
+    let a = c .before .before .before .before .before .before .before .before .args in
+    let refused = c .before .enum-told .given .1 in
+    let field = number-told tracks 10 (w .i + 2) (now (a .s)) _ refl (c .before .before .before .before .faults-on .ensures) (c .before .before .before .ranged .ensures) refused in
+    let k : a .count - w .i ≡ suc (a .count - (w .i + 1)) = omega arith in
+    ended-told _ (c .stopped .ensures ∙ ap stoppedBy refused) ∙ sym (lay-stop stationLine _ _ _ 0 _ _ _ _ k _ _ field) ∙ w .inv .0
+
+pub station-lines-spec : {M : Type 1} → statement M
+station-lines-spec =
+    tie.close
+    (tie.spec
+    Inv-lines
+    μ-lines
+    lines-holds
+    add-faults-on
+    faults-on-requires
+    ranged-requires
+    enum-known-field
+    enum-told
+    stopped-requires
+    mul-tracks
+    array-write-tracks
+    add-i
+    lines-less
+    lines-again
+    returns
+    returns-2)

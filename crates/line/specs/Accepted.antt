@@ -1,0 +1,379 @@
+-- What is accepted is the text of its line: each part that was read is within the limits, and its bytes are its text.
+use Prim.Native.Nat.{ℕ, zero, suc, _+_, _-_, _<_, _≤_}
+use mathlib.Core.Path.{_≡_, refl, sym, ap, _∙_}
+use mathlib.Core.Bool.{Bool, true, false}
+use mathlib.Core.List.{List, [], _∷_, _++_}
+use native.Mathlib.Omega.{arith}
+use borrow.Author.Tests.{ltb-true, ltb-false, eqb-true, eqb-false}
+use lib.Dec.{ltb, eqb}
+use lib.ListN.{length, take, drop, drop-of-length-le, length-replicate, replicate}
+use lib.Seq.{sets, length-sets}
+use Rattle.text.specs.declared.Cursor.{Cursor}
+use Rattle.text.specs.declared.Limits.{Limits}
+use Rattle.text.specs.declared.Step.{Step}
+use Rattle.text.specs.Choice.{pick, onStep}
+use Rattle.text.specs.Bytes.{byteAt, from, ahead, pastOf}
+use Rattle.text.specs.BytesLaws.{inside, from-cons, past-spelt}
+use Rattle.text.specs.Digits.{digits}
+use Rattle.text.specs.Lists.{padded, take-padded, padded-length}
+use Rattle.text.specs.Each.{eachThen, Each}
+use Rattle.text.specs.Parsed.{Parsed, thenRead, many}
+use Rattle.text.specs.ParsedLaws.{then-got, got-is, ranged-spelt, PartSpelt, many-spelt}
+use Rattle.line.specs.declared.Kind.{Kind}
+use Rattle.line.specs.declared.Segment.{Segment}
+use Rattle.line.specs.declared.Train.{Train}
+use Rattle.line.specs.declared.Line.{Line}
+use Rattle.line.specs.declared.reading.Letter.{Letter}
+use Rattle.line.specs.declared.reading.Path.{Path}
+use Rattle.line.specs.declared.reading.Head.{Head}
+use Rattle.line.specs.Ranges.{In, stationCount, tracks, gap, trainCount, station, time, weight, run, stop}
+use Rattle.line.specs.Record.{noSegment, noTrain, legsBetween, legsOf, tidyTrain, tidyLine, runsOf, stopsOf, tracksOf, segmentsOf, trainsOf}
+use Rattle.line.specs.File.{number, stationLine, letterOf, onLetter, kindAt, segmentLine, pathAt, headAt, Journey, journeyAt, trainWith, trainLine, trainsPart, segmentsPart, stationsPart, lineFile}
+use Rattle.line.specs.Spell.{field, stationText, letterByte, segmentText, journeyText, headText, trainText, textOf}
+use Rattle.line.specs.Within.{SegmentWithin, TrainWithin, Within, TrainArrays, Arrays}
+
+-- a number that was read
+pub record NumberSpelt (r : Limits) (b : ℕ) (s : List ℕ) (c : Cursor) (n : ℕ) (next : Cursor) : Type 0 where
+  pub range : In r n
+  pub text : from s c ≡ field n b (from s next)
+
+number-spelt : (r : Limits) (b p : ℕ) (s : List ℕ) (c : Cursor) (n : ℕ) (next : Cursor) → b < 256 → number r b p s c ≡ Parsed.got n next → NumberSpelt r b s c n next
+number-spelt r b p s c n next h e =
+    let a = ranged-spelt 2 3 (r .min) (r .max) b p s c n next h e in
+    record { range = (a .low, a .high); text = a .text }
+
+-- ---- stations
+
+station-spelt : (s : List ℕ) (p : ℕ) (c : Cursor) (t : ℕ) (next : Cursor) → stationLine p s c ≡ Parsed.got t next → PartSpelt (In tracks) stationText stationLine s c t next
+station-spelt s p c t next e =
+    let a = number-spelt tracks 10 p s c t next (omega arith) e in
+    record { valid = a .range; spelt = a .text }
+
+-- ---- segments
+
+letter-byte : (b : ℕ) (k : Kind) → letterOf b ≡ Letter.Found k → b ≡ letterByte k
+unfolding letterOf
+letter-byte b k e = go (eqb b 83) (eqb b 70) (eqb b 68) refl refl refl e
+  where
+    go : (p q r : Bool) → eqb b 83 ≡ p → eqb b 70 ≡ q → eqb b 68 ≡ r → pick p (Letter.Found Kind.S) (pick q (Letter.Found Kind.F) (pick r (Letter.Found Kind.D) Letter.Other)) ≡ Letter.Found k → b ≡ letterByte k
+    go true q r hp hq hr h = let z : Kind.S ≡ k = cc in eqb-true b 83 hp ∙ ap letterByte z
+    go false true r hp hq hr h = let z : Kind.F ≡ k = cc in eqb-true b 70 hq ∙ ap letterByte z
+    go false false true hp hq hr h = let z : Kind.D ≡ k = cc in eqb-true b 68 hr ∙ ap letterByte z
+    go false false false hp hq hr h = let z : _≡_ {A = ℕ} 0 1 = cc in absurd (omega arith)
+
+letter-small : (k : Kind) → letterByte k < 256
+letter-small Kind.S = omega arith
+letter-small Kind.F = omega arith
+letter-small Kind.D = omega arith
+
+kind-spelt : (p : ℕ) (s : List ℕ) (c : Cursor) (k : Kind) (next : Cursor) → kindAt p s c ≡ Parsed.got k next → from s c ≡ letterByte k ∷ (32 ∷ from s next)
+unfolding kindAt
+kind-spelt p s c k next e = go (letterOf (byteAt s c)) refl e
+  where
+    step : (m : Kind) → letterOf (byteAt s c) ≡ Letter.Found m → (y : Step) → pastOf s (ahead c) 32 ≡ y → onStep y (λ x. Parsed.got m x) (Parsed.bad 2 p) ≡ Parsed.got k next → from s c ≡ letterByte k ∷ (32 ∷ from s next)
+    step m hx (Step.Next x) hy f =
+        let q : m ≡ k = cc in
+        let z : x ≡ next = cc in
+        let w = letter-byte (byteAt s c) m hx in
+        let t : from s c ≡ letterByte m ∷ from s (ahead c) = rw w at (from-cons s c (inside s (c .at) (omega (arith, w, letter-small m)))) in
+        rw (← q, ← z) (t ∙ ap (λ (l : List ℕ). letterByte m ∷ l) (past-spelt s (ahead c) x 32 (omega arith) hy))
+    step m hx Step.Wrong hy f = let z : _≡_ {A = ℕ} 0 1 = cc in absurd (omega arith)
+
+    go : (x : Letter) → letterOf (byteAt s c) ≡ x → onLetter x (λ m. onStep (pastOf s (ahead c) 32) (λ y. Parsed.got m y) (Parsed.bad 2 p)) (Parsed.bad 2 p) ≡ Parsed.got k next → from s c ≡ letterByte k ∷ (32 ∷ from s next)
+    go (Letter.Found m) hx f = step m hx (pastOf s (ahead c) 32) refl f
+    go Letter.Other hx f = let z : _≡_ {A = ℕ} 0 1 = cc in absurd (omega arith)
+
+segment-spelt : (s : List ℕ) (p : ℕ) (c : Cursor) (g : Segment) (next : Cursor) → segmentLine p s c ≡ Parsed.got g next → PartSpelt SegmentWithin segmentText segmentLine s c g next
+unfolding segmentLine
+segment-spelt s p c g next e =
+    let k = then-got (kindAt p s c) _ g next e in
+    let f = then-got (number gap 32 p s (k .next)) _ g next (k .after) in
+    let o = then-got (number gap 10 p s (f .next)) _ g next (f .after) in
+    let following = number-spelt gap 32 p s (k .next) (f .value) (f .next) (omega arith) (f .first) in
+    let opposing = number-spelt gap 10 p s (f .next) (o .value) (o .next) (omega arith) (o .first) in
+    got-is (λ x end. PartSpelt SegmentWithin segmentText segmentLine s c x end) (o .after) (record {
+      valid = record { following = following .range; opposing = opposing .range };
+      spelt =
+          kind-spelt p s c (k .value) (k .next) (k .first)
+          ∙ ap (λ (l : List ℕ). letterByte (k .value) ∷ (32 ∷ l)) (following .text)
+          ∙ ap (λ (l : List ℕ). letterByte (k .value) ∷ (32 ∷ field (f .value) 32 l)) (opposing .text);
+    })
+
+-- ---- trains
+
+record PathSpelt (n : ℕ) (s : List ℕ) (c : Cursor) (h : Path) (next : Cursor) : Type 0 where
+  origin : In (station n) (h .origin)
+  destination : In (station n) (h .destination)
+  apart : h .destination ≡ h .origin → ⊥
+  text : from s c ≡ field (h .origin) 32 (field (h .destination) 32 (from s next))
+
+path-spelt : (n p : ℕ) (s : List ℕ) (c : Cursor) (h : Path) (next : Cursor) → pathAt n p s c ≡ Parsed.got h next → PathSpelt n s c h next
+unfolding pathAt
+path-spelt n p s c h next e =
+    let o = then-got (number (station n) 32 p s c) _ h next e in
+    let d = then-got (number (station n) 32 p s (o .next)) _ h next (o .after) in
+    let from-o = number-spelt (station n) 32 p s c (o .value) (o .next) (omega arith) (o .first) in
+    let to-d = number-spelt (station n) 32 p s (o .next) (d .value) (d .next) (omega arith) (d .first) in
+    go (o .value) (d .value) (d .next) (eqb (d .value) (o .value)) refl (from-o .range) (to-d .range)
+    (from-o .text ∙ ap (λ (l : List ℕ). field (o .value) 32 l) (to-d .text))
+    (d .after)
+  where
+    go : (o d : ℕ) (m : Cursor) (b : Bool) → eqb d o ≡ b → In (station n) o → In (station n) d → from s c ≡ field o 32 (field d 32 (from s m)) → pick b (Parsed.bad 4 p) (Parsed.got (record { origin = o; destination = d }) m) ≡ Parsed.got h next → PathSpelt n s c h next
+    go o d m true q io id t f = let z : _≡_ {A = ℕ} 0 1 = cc in absurd (omega arith)
+    go o d m false q io id t f =
+        let same : _≡_ {A = Path} (record { origin = o; destination = d }) h = cc in
+        let end : m ≡ next = cc in
+        let so : o ≡ h .origin = ap (λ (x : Path). x .origin) same in
+        let sd : d ≡ h .destination = ap (λ (x : Path). x .destination) same in
+        record {
+          origin = rw so at io;
+          destination = rw sd at id;
+          apart = λ w. eqb-false d o q (sd ∙ w ∙ sym so);
+          text = rw (so, sd, end) at t;
+        }
+
+record HeadSpelt (n : ℕ) (s : List ℕ) (c : Cursor) (h : Head) (next : Cursor) : Type 0 where
+  origin : In (station n) (h .origin)
+  destination : In (station n) (h .destination)
+  apart : h .destination ≡ h .origin → ⊥
+  earliest : In time (h .earliest)
+  latest : In time (h .latest)
+  weight : In weight (h .weight)
+  text : from s c ≡ field (h .origin) 32 (field (h .destination) 32 (field (h .earliest) 32 (field (h .latest) 32 (field (h .weight) 32 (from s next)))))
+
+head-spelt : (n p : ℕ) (s : List ℕ) (c : Cursor) (h : Head) (next : Cursor) → headAt n p s c ≡ Parsed.got h next → HeadSpelt n s c h next
+unfolding headAt
+head-spelt n p s c h next x =
+    let path = then-got (pathAt n p s c) _ h next x in
+    let e = then-got (number time 32 p s (path .next)) _ h next (path .after) in
+    let l = then-got (number time 32 p s (e .next)) _ h next (e .after) in
+    let w = then-got (number weight 32 p s (l .next)) _ h next (l .after) in
+    let ends = path-spelt n p s c (path .value) (path .next) (path .first) in
+    let earliest = number-spelt time 32 p s (path .next) (e .value) (e .next) (omega arith) (e .first) in
+    let latest = number-spelt time 32 p s (e .next) (l .value) (l .next) (omega arith) (l .first) in
+    let weighs = number-spelt weight 32 p s (l .next) (w .value) (w .next) (omega arith) (w .first) in
+    let o = path .value .origin in
+    let d = path .value .destination in
+    got-is (λ x end. HeadSpelt n s c x end) (w .after) (record {
+      origin = ends .origin;
+      destination = ends .destination;
+      apart = ends .apart;
+      earliest = earliest .range;
+      latest = latest .range;
+      weight = weighs .range;
+      text =
+          ends .text
+          ∙ ap (λ (r : List ℕ). field o 32 (field d 32 r)) (earliest .text)
+          ∙ ap (λ (r : List ℕ). field o 32 (field d 32 (field (e .value) 32 r))) (latest .text)
+          ∙ ap (λ (r : List ℕ). field o 32 (field d 32 (field (e .value) 32 (field (l .value) 32 r)))) (weighs .text);
+    })
+
+pub record JourneySpelt (k : ℕ) (s : List ℕ) (c : Cursor) (j : Journey) (next : Cursor) : Type 0 where
+  pub many-runs : length (j .runs) ≡ suc k
+  pub many-stops : length (j .stops) ≡ k
+  pub runs : Each (In run) (j .runs)
+  pub stops : Each (In stop) (j .stops)
+  pub text : from s c ≡ journeyText (j .stops) (j .runs) (from s next)
+
+journey-spelt : (k p : ℕ) (s : List ℕ) (c : Cursor) (j : Journey) (next : Cursor) → journeyAt k p s c ≡ Parsed.got j next → JourneySpelt k s c j next
+unfolding journeyAt
+journey-spelt zero p s c j next e =
+    let r = then-got (number run 10 p s c) _ j next e in
+    let last = number-spelt run 10 p s c (r .value) (r .next) (omega arith) (r .first) in
+    got-is (λ x end. JourneySpelt 0 s c x end) (r .after) (record { many-runs = refl; many-stops = refl; runs = (last .range, tt); stops = tt; text = last .text })
+journey-spelt (suc k) p s c j next e =
+    let r = then-got (number run 32 p s c) _ j next e in
+    let t = then-got (number stop 32 p s (r .next)) _ j next (r .after) in
+    let x = then-got (journeyAt k p s (t .next)) _ j next (t .after) in
+    let one = number-spelt run 32 p s c (r .value) (r .next) (omega arith) (r .first) in
+    let two = number-spelt stop 32 p s (r .next) (t .value) (t .next) (omega arith) (t .first) in
+    let rest = journey-spelt k p s (t .next) (x .value) (x .next) (x .first) in
+    got-is (λ x end. JourneySpelt (suc k) s c x end) (x .after) (record {
+      many-runs = ap suc (rest .many-runs);
+      many-stops = ap suc (rest .many-stops);
+      runs = (one .range, rest .runs);
+      stops = (two .range, rest .stops);
+      text =
+          one .text
+          ∙ ap (λ (l : List ℕ). field (r .value) 32 l) (two .text)
+          ∙ ap (λ (l : List ℕ). field (r .value) 32 (field (t .value) 32 l)) (rest .text);
+    })
+
+-- what is known of a train that was read: its entries beyond the path are 0
+pub record TrainRead (n : ℕ) (t : Train) : Type 0 where
+  pub limits : TrainWithin n t
+  pub arrays : TrainArrays t
+  pub tidy : tidyTrain t ≡ t
+
+-- its path has 1 to 11 segments
+pub path-legs : (n o d : ℕ) → n ≤ 12 → In (station n) o → In (station n) d → (d ≡ o → ⊥) → (1 ≤ legsBetween o d) × (legsBetween o d ≤ 11)
+path-legs n o d few io id apart = (go (ltb o d) (ltb d o) refl refl, omega (arith, io .0, io .1, id .0, id .1))
+  where
+    go : (b a : Bool) → ltb o d ≡ b → ltb d o ≡ a → 1 ≤ legsBetween o d
+    go true a e f = omega (arith, ltb-true o d e)
+    go false true e f = omega (arith, ltb-true d o f)
+    go false false e f = absurd (apart (omega (arith, ltb-false o d e, ltb-false d o f)))
+
+tidy-is : (h : Head) (rs ts : List ℕ) → take (legsBetween (h .origin) (h .destination)) (padded 11 0 rs) ≡ rs → take (legsBetween (h .origin) (h .destination) - 1) (padded 11 0 ts) ≡ ts → tidyTrain (trainWith h (padded 11 0 rs) (padded 11 0 ts)) ≡ trainWith h (padded 11 0 rs) (padded 11 0 ts)
+unfolding tidyTrain
+tidy-is h rs ts e f = λ i. trainWith h (padded 11 0 (e i)) (padded 11 0 (f i))
+
+module _ (n : ℕ) (few : n ≤ 12) (s : List ℕ) where
+  train-read : (c m : Cursor) (h : Head) (j : Journey) (end : Cursor) → HeadSpelt n s c h m → JourneySpelt (legsBetween (h .origin) (h .destination) - 1) s m j end → PartSpelt (TrainRead n) trainText (trainLine n) s c (trainWith h (padded 11 0 (j .runs)) (padded 11 0 (j .stops))) end
+  train-read c m h j end a b =
+      let legs = path-legs n (h .origin) (h .destination) few (a .origin) (a .destination) (a .apart) in
+      let many : length (j .runs) ≡ legsBetween (h .origin) (h .destination) = b .many-runs ∙ (omega (arith, legs .0)) in
+      let rs : take (legsBetween (h .origin) (h .destination)) (padded 11 0 (j .runs)) ≡ j .runs = rw many at (take-padded 11 0 (j .runs) (omega (arith, many, legs .1))) in
+      let ts : take (legsBetween (h .origin) (h .destination) - 1) (padded 11 0 (j .stops)) ≡ j .stops = rw (b .many-stops) at (take-padded 11 0 (j .stops) (omega (arith, b .many-stops, legs .1))) in
+      record {
+        valid = record {
+          limits = record {
+            origin = a .origin;
+            destination = a .destination;
+            apart = a .apart;
+            earliest = a .earliest;
+            latest = a .latest;
+            weight = a .weight;
+            runs = rw rs (b .runs);
+            stops = rw ts (b .stops);
+          };
+          arrays = (padded-length 11 0 (j .runs), padded-length 11 0 (j .stops));
+          tidy = tidy-is h (j .runs) (j .stops) rs ts;
+        };
+        spelt =
+            a .text
+            ∙ ap (λ (l : List ℕ). field (h .origin) 32 (field (h .destination) 32 (field (h .earliest) 32 (field (h .latest) 32 (field (h .weight) 32 l))))) (b .text)
+            ∙ (rw (rs, ts) refl);
+      }
+
+  train-spelt : (p : ℕ) (c : Cursor) (t : Train) (next : Cursor) → trainLine n p s c ≡ Parsed.got t next → PartSpelt (TrainRead n) trainText (trainLine n) s c t next
+  unfolding trainLine
+  train-spelt p c t next e =
+      let h = then-got (headAt n p s c) _ t next e in
+      let j = then-got (journeyAt (legsBetween (h .value .origin) (h .value .destination) - 1) p s (h .next)) _ t next (h .after) in
+      got-is (λ x end. PartSpelt (TrainRead n) trainText (trainLine n) s c x end) (j .after)
+      (train-read c (h .next) (h .value) (j .value) (j .next) (head-spelt n p s c (h .value) (h .next) (h .first)) (journey-spelt _ p s (h .next) (j .value) (j .next) (j .first)))
+
+-- ---- the sections
+
+-- the record of a line with these stations, segments and trains
+abbrev pub lineOf : ℕ → List ℕ → List Segment → ℕ → List Train → Line
+lineOf n ts gs t trs = record { «station_count» = n; tracks = padded 12 0 ts; segments = padded 11 noSegment gs; «train_count» = t; trains = padded 12 noTrain trs }
+
+-- the trains, from their count to the end of the file
+pub record TrainsRead (n : ℕ) (ts : List ℕ) (gs : List Segment) (s : List ℕ) (c : Cursor) (l : Line) : Type 0 where
+  pub t : ℕ
+  pub trs : List Train
+  pub few : In trainCount t
+  pub many : length trs ≡ t
+  pub each : Each (TrainRead n) trs
+  pub line : l ≡ record { «station_count» = n; tracks = ts; segments = gs; «train_count» = t; trains = padded 12 noTrain trs }
+  pub text : from s c ≡ field t 10 (eachThen trainText trs [])
+
+trains-spelt : (n : ℕ) → n ≤ 12 → (ts : List ℕ) (gs : List Segment) (s : List ℕ) (c : Cursor) (l : Line) (end : Cursor) → trainsPart n ts gs s c ≡ Parsed.got l end → TrainsRead n ts gs s c l
+unfolding trainsPart
+trains-spelt n h ts gs s c l end e =
+    let t = then-got (number trainCount 10 (n + n + 2) s c) _ l end e in
+    let trs = then-got (many (t .value) (trainLine n) (n + n + 3) s (t .next)) _ l end (t .after) in
+    let count = number-spelt trainCount 10 (n + n + 2) s c (t .value) (t .next) (omega arith) (t .first) in
+    let lines = many-spelt (TrainRead n) trainText (trainLine n) s (train-spelt n h s) (t .value) (n + n + 3) (t .next) (trs .value) (trs .next) (trs .first) in
+    go (t .value) (trs .value) (trs .next) (count .range) (lines .many) (lines .valid)
+    (count .text ∙ ap (λ (r : List ℕ). field (t .value) 10 r) (lines .spelt))
+    (ltb (trs .next .at) (length s)) refl (trs .after)
+  where
+    go : (t : ℕ) (trs : List Train) (last : Cursor) → In trainCount t → length trs ≡ t → Each (TrainRead n) trs → from s c ≡ field t 10 (eachThen trainText trs (from s last)) → (b : Bool) → ltb (last .at) (length s) ≡ b → pick b (Parsed.bad 2 (n + n + 3 + t)) (Parsed.got (record { «station_count» = n; tracks = ts; segments = gs; «train_count» = t; trains = padded 12 noTrain trs }) last) ≡ Parsed.got l end → TrainsRead n ts gs s c l
+    go t trs last i m v x true q f = let z : _≡_ {A = ℕ} 0 1 = cc in absurd (omega arith)
+    go t trs last i m v x false q f =
+        let none : from s last ≡ [] = drop-of-length-le s (ltb-false (last .at) (length s) q) in
+        record {
+          t = t;
+          trs = trs;
+          few = i;
+          many = m;
+          each = v;
+          line = sym (cc);
+          text = x ∙ ap (λ (r : List ℕ). field t 10 (eachThen trainText trs r)) none;
+        }
+
+pub record SegmentsRead (n : ℕ) (ts : List ℕ) (s : List ℕ) (c : Cursor) (l : Line) : Type 0 where
+  pub gs : List Segment
+  pub many : length gs ≡ n - 1
+  pub each : Each SegmentWithin gs
+  pub next : Cursor
+  pub rest : TrainsRead n ts (padded 11 noSegment gs) s next l
+  pub text : from s c ≡ field (n - 1) 10 (eachThen segmentText gs (from s next))
+
+segments-spelt : (n : ℕ) → n ≤ 12 → (ts : List ℕ) (s : List ℕ) (c : Cursor) (l : Line) (end : Cursor) → segmentsPart n ts s c ≡ Parsed.got l end → SegmentsRead n ts s c l
+unfolding segmentsPart
+segments-spelt n h ts s c l end e =
+    let m = then-got (number (record { min = n - 1; max = n - 1 }) 10 (n + 2) s c) _ l end e in
+    let gs = then-got (many (n - 1) segmentLine (n + 3) s (m .next)) _ l end (m .after) in
+    let count = number-spelt (record { min = n - 1; max = n - 1 }) 10 (n + 2) s c (m .value) (m .next) (omega arith) (m .first) in
+    let lines = many-spelt SegmentWithin segmentText segmentLine s (segment-spelt s) (n - 1) (n + 3) (m .next) (gs .value) (gs .next) (gs .first) in
+    let same : m .value ≡ n - 1 = omega (arith, count .range .0, count .range .1) in
+    record {
+      gs = gs .value;
+      many = lines .many;
+      each = lines .valid;
+      next = gs .next;
+      rest = trains-spelt n h ts (padded 11 noSegment (gs .value)) s (gs .next) l end (gs .after);
+      text = count .text ∙ ap (λ (k : ℕ). field k 10 (from s (m .next))) same ∙ ap (λ (r : List ℕ). field (n - 1) 10 r) (lines .spelt);
+    }
+
+-- the whole file
+pub record LineRead (s : List ℕ) (l : Line) : Type 0 where
+  pub n : ℕ
+  pub ts : List ℕ
+  pub gs : List Segment
+  pub t : ℕ
+  pub trs : List Train
+  pub stations : In stationCount n
+  pub many-stations : length ts ≡ n
+  pub each-station : Each (In tracks) ts
+  pub many-segments : length gs ≡ n - 1
+  pub each-segment : Each SegmentWithin gs
+  pub trains : In trainCount t
+  pub many-trains : length trs ≡ t
+  pub each-train : Each (TrainRead n) trs
+  pub line : l ≡ lineOf n ts gs t trs
+  pub text : s ≡ field n 10 (eachThen stationText ts (field (n - 1) 10 (eachThen segmentText gs (field t 10 (eachThen trainText trs [])))))
+
+stations-spelt : (s : List ℕ) (l : Line) (end : Cursor) → stationsPart s (record { at = 0 }) ≡ Parsed.got l end → LineRead s l
+unfolding stationsPart
+stations-spelt s l end e =
+    let start : Cursor = record { at = 0 } in
+    let n = then-got (number stationCount 10 1 s start) _ l end e in
+    let ts = then-got (many (n .value) stationLine 2 s (n .next)) _ l end (n .after) in
+    let count = number-spelt stationCount 10 1 s start (n .value) (n .next) (omega arith) (n .first) in
+    let lines = many-spelt (In tracks) stationText stationLine s (station-spelt s) (n .value) 2 (n .next) (ts .value) (ts .next) (ts .first) in
+    let joins = segments-spelt (n .value) (count .range .1) (padded 12 0 (ts .value)) s (ts .next) l end (ts .after) in
+    let rest = joins .rest in
+    record {
+      n = n .value;
+      ts = ts .value;
+      gs = joins .gs;
+      t = rest .t;
+      trs = rest .trs;
+      stations = count .range;
+      many-stations = lines .many;
+      each-station = lines .valid;
+      many-segments = joins .many;
+      each-segment = joins .each;
+      trains = rest .few;
+      many-trains = rest .many;
+      each-train = rest .each;
+      line = rest .line;
+      text =
+          count .text
+          ∙ ap (λ (r : List ℕ). field (n .value) 10 r) (lines .spelt)
+          ∙ ap (λ (r : List ℕ). field (n .value) 10 (eachThen stationText (ts .value) r)) (joins .text)
+          ∙ ap (λ (r : List ℕ). field (n .value) 10 (eachThen stationText (ts .value) (field (n .value - 1) 10 (eachThen segmentText (joins .gs) r)))) (rest .text);
+    }
+
+pub file-spelt : (s : List ℕ) (l : Line) (end : Cursor) → lineFile s ≡ Parsed.got l end → LineRead s l
+unfolding lineFile
+file-spelt s l end e = go (ltb 4096 (length s)) e
+  where
+    go : (b : Bool) → pick b (Parsed.bad 1 0) (stationsPart s (record { at = 0 })) ≡ Parsed.got l end → LineRead s l
+    go true f = let z : _≡_ {A = ℕ} 0 1 = cc in absurd (omega arith)
+    go false f = stations-spelt s l end f

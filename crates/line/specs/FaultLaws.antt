@@ -1,0 +1,138 @@
+-- Laws of the check of a record: one check and then the next, the lines of a section one by one, and what it means that a check finds nothing.
+use Prim.Native.Nat.{ℕ, suc, _+_, _<_, _≤_}
+use mathlib.Core.Path.{_≡_, refl, sym, ap, _∙_}
+use mathlib.Core.List.{List, [], _∷_}
+use mathlib.Core.Bool.{Bool, true, false}
+use native.Mathlib.Omega.{arith}
+use native.Mathlib.Numerals.{add-one}
+use borrow.Author.Tests.{eq-eqb, ne-eqb, eqb-false}
+use lib.Dec.{eqb}
+use lib.ListN.{length, getD, take, drop}
+use lib.Seq.{drop-cons, getD-take, length-take-le, drop-length}
+use Rattle.text.specs.declared.Limits.{Limits}
+use Rattle.text.specs.declared.Bounded.{Bounded}
+use Rattle.text.specs.Choice.{pick, onBounded}
+use Rattle.text.specs.Limits.{boundedOf}
+use Rattle.text.specs.ParsedLaws.{bounded-within, bounded-fits}
+use Rattle.line.specs.declared.Train.{Train}
+use Rattle.line.specs.declared.writing.Fault.{Fault}
+use Rattle.line.specs.Ranges.{In, station, time, weight}
+use Rattle.line.specs.Record.{legsOf}
+use Rattle.line.specs.Writing.{thenFault, numberFault, linesFault, timesFault, pathFault, headFault}
+
+-- ---- one check and then the next
+
+-- the first check, which answered r, found a fault: it is the answer of both
+pub found-first : {r a : Fault} {n p : ℕ} (b : Fault) → r ≡ a → r ≡ Fault.At n p → r ≡ thenFault a b
+found-first b e h = h ∙ ap (λ (f : Fault). thenFault f b) (sym h ∙ e)
+
+-- the first check, which answered r, found none: the answer is that of the second
+pub found-later : {r a b x : Fault} → r ≡ a → r ≡ Fault.None → x ≡ b → x ≡ thenFault a b
+found-later {r} {a} {b} e h g = g ∙ ap (λ (f : Fault). thenFault f b) (sym h ∙ e)
+
+-- a check against limits that a call gave
+pub fault-by : {r : Fault} {l m : Limits} (n p : ℕ) → r ≡ numberFault l n p → l ≡ m → r ≡ numberFault m n p
+fault-by n p e h = e ∙ ap (λ (k : Limits). numberFault k n p) h
+
+-- a check of as many values as a call gave
+pub times-by : {r : Fault} {k n : ℕ} (xs : List ℕ) (l : Limits) (p : ℕ) → r ≡ timesFault (take k xs) l p → k ≡ n → r ≡ timesFault (take n xs) l p
+times-by xs l p e h = e ∙ ap (λ (m : ℕ). timesFault (take m xs) l p) h
+
+-- ---- the first lines of a section, of which those before i have no fault
+
+module _ {A : Type 0} (f : ℕ → A → Fault) (xs : List A) (count i p : ℕ) (room : count ≤ length xs) where
+  left-cons : (d : A) → i < count → drop i (take count xs) ≡ getD xs i d ∷ drop (i + 1) (take count xs)
+  left-cons d h =
+      rw (add-one i) (
+      drop-cons (take count xs) i d (omega (arith, length-take-le count xs room))
+      ∙ ap (λ (x : A). x ∷ drop (suc i) (take count xs)) (getD-take count xs i d h)
+      )
+
+  pub lines-found : {r : Fault} {n m : ℕ} (d : A) → i < count → r ≡ f p (getD xs i d) → r ≡ Fault.At n m → r ≡ linesFault (drop i (take count xs)) f p
+  unfolding linesFault
+  lines-found d h e g = rw (left-cons d h) (found-first _ e g)
+
+  pub lines-step : {r : Fault} (d : A) (q : ℕ) → q ≡ p + 1 → i < count → r ≡ f p (getD xs i d) → r ≡ Fault.None → linesFault (drop (i + 1) (take count xs)) f q ≡ linesFault (drop i (take count xs)) f p
+  unfolding linesFault
+  lines-step d q w h e g = rw (left-cons d h, w) (found-later e g refl)
+
+  pub lines-end : i ≡ count → Fault.None ≡ linesFault (drop i (take count xs)) f p
+  unfolding linesFault
+  lines-end e =
+      let none : drop i (take count xs) ≡ [] = ap (λ (k : ℕ). drop k (take count xs)) (e ∙ sym (length-take-le count xs room)) ∙ drop-length (take count xs) in
+      rw none refl
+
+-- values that stand on one line are checked as those on lines of their own, whatever these lines are
+pub times-lines : (xs : List ℕ) (r : Limits) (p q : ℕ) → timesFault xs r p ≡ linesFault xs (λ _ n. numberFault r n p) q
+unfolding timesFault linesFault
+times-lines [] r p q = refl
+times-lines (x ∷ xs) r p q = ap (λ (f : Fault). thenFault (numberFault r x p) f) (times-lines xs r p (q + 1))
+
+-- ---- origin and destination
+
+module _ (o d p : ℕ) where
+  pub same-ends : d ≡ o → Fault.At 4 p ≡ pick (eqb d o) (Fault.At 4 p) Fault.None
+  same-ends e = simp (eq-eqb d o e)
+
+  pub other-ends : (d ≡ o → ⊥) → Fault.None ≡ pick (eqb d o) (Fault.At 4 p) Fault.None
+  other-ends h = simp (ne-eqb d o h)
+
+-- ---- what has no fault
+
+-- a check finds no fault exactly when P holds
+pub record Tells (f : Fault) (P : Type 0) : Type 0 where
+  pub holds : f ≡ Fault.None → P
+  pub clean : P → f ≡ Fault.None
+
+pub tells-then : {P Q : Type 0} (a b : Fault) → Tells a P → Tells b Q → Tells (thenFault a b) (P × Q)
+tells-then a b p q = record {
+  holds = λ e. let n = neither a b e in (p .holds (n .0), q .holds (n .1));
+  clean = λ h. sym (found-later (sym (p .clean (h .0))) refl (sym (q .clean (h .1))));
+}
+  where
+    neither : (a b : Fault) → thenFault a b ≡ Fault.None → (a ≡ Fault.None) × (b ≡ Fault.None)
+    neither Fault.None b e = (refl, e)
+    neither (Fault.At n p) b e = let z : _≡_ {A = ℕ} 0 1 = cc in absurd (omega arith)
+
+pub tells-number : (r : Limits) (n p : ℕ) → Tells (numberFault r n p) (In r n)
+unfolding numberFault
+tells-number r n p = record {
+  holds = go (boundedOf (r .min) (r .max) n) refl;
+  clean = λ h. simp (bounded-fits (r .min) (r .max) n (h .0) (h .1));
+}
+  where
+    go : (b : Bounded) → boundedOf (r .min) (r .max) n ≡ b → onBounded b (λ v. Fault.None) (Fault.At 3 p) ≡ Fault.None → In r n
+    go (Bounded.Within v) h g = let w = bounded-within (r .min) (r .max) n v h in (w .low, w .high)
+    go Bounded.Outside h g = let z : _≡_ {A = ℕ} 0 1 = cc in absurd (omega arith)
+
+tells-apart : (p o d : ℕ) → Tells (pick (eqb d o) (Fault.At 4 p) Fault.None) (d ≡ o → ⊥)
+tells-apart p o d = record { holds = λ e. eqb-false d o (go (eqb d o) e); clean = λ h. sym (other-ends o d p h) }
+  where
+    go : (t : Bool) → pick t (Fault.At 4 p) Fault.None ≡ Fault.None → t ≡ false
+    go true g = let z : _≡_ {A = ℕ} 0 1 = cc in absurd (omega arith)
+    go false g = refl
+
+-- both ends of the path are stations, and they are apart
+abbrev pub PathIn : ℕ → ℕ → ℕ → Type 0
+PathIn n o d = In (station n) o × (In (station n) d × (d ≡ o → ⊥))
+
+tells-path : (n p o d : ℕ) → Tells (pathFault n p o d) (PathIn n o d)
+unfolding pathFault
+tells-path n p o d = tells-then _ _ (tells-number (station n) o p) (tells-then _ _ (tells-number (station n) d p) (tells-apart p o d))
+
+abbrev pub HeadIn : ℕ → Train → Type 0
+HeadIn n t = PathIn n (t .origin) (t .destination) × (In time (t .earliest) × (In time (t .latest) × In weight (t .weight)))
+
+pub tells-head : (n p : ℕ) (t : Train) → Tells (headFault n p t) (HeadIn n t)
+unfolding headFault
+tells-head n p t =
+    tells-then _ _ (tells-path n p (t .origin) (t .destination))
+    (tells-then _ _ (tells-number time (t .earliest) p)
+    (tells-then _ _ (tells-number time (t .latest) p)
+    (tells-number weight (t .weight) p)))
+
+-- the legs of a train whose head was checked and has no fault
+pub legs-fit : {r : Fault} {k : ℕ} (n p : ℕ) (t : Train) → r ≡ headFault n p t → r ≡ Fault.None → n ≤ 12 → k ≡ legsOf t → (1 ≤ k) × (k ≤ 11)
+legs-fit n p t e g h l =
+    let path = tells-head n p t .holds (sym e ∙ g) .0 in
+    (omega (arith, path .1 .1, l), omega (arith, path .0, path .1 .0, l))

@@ -1,0 +1,120 @@
+-- Laws of reading the line file: what a field of the code tells, and each line's refusals and its value.
+use Prim.Native.Nat.{ℕ, _<_}
+use mathlib.Core.Path.{_≡_, refl, sym, ap, _∙_}
+use mathlib.Core.Bool.{Bool, true, false}
+use mathlib.Core.List.{List}
+use native.Mathlib.Omega.{arith}
+use borrow.Author.Tests.{eqb-true, eq-eqb, ne-eqb}
+use lib.Dec.{eqb}
+use lib.ListN.{length}
+use Rattle.text.specs.declared.Cursor.{Cursor}
+use Rattle.text.specs.declared.Ending.{Ending}
+use Rattle.text.specs.declared.Faults.{Faults}
+use Rattle.text.specs.declared.Field.{Field}
+use Rattle.text.specs.declared.Limits.{Limits}
+use Rattle.text.specs.Choice.{pick}
+use Rattle.text.specs.Bytes.{byteAt}
+use Rattle.text.specs.BytesLaws.{inside}
+use Rattle.text.specs.Parsed.{Parsed, rangedAt}
+use Rattle.text.specs.Told.{toldField, toldEnding}
+use Rattle.line.specs.declared.Kind.{Kind}
+use Rattle.line.specs.declared.reading.Letter.{Letter}
+use Rattle.line.specs.declared.reading.Path.{Path}
+use Rattle.line.specs.Ranges.{gap, station, time, weight}
+use Rattle.line.specs.File.{faultsOn, number, letterOf, kindAt, segmentLine, pathAt, headAt}
+
+-- ---- a field of the code
+
+-- with the faults x and the limits l that the code was given, a field tells what the number of the file is
+pub number-told : (r : Limits) {l : Limits} {x : Faults} (b p : ℕ) (s : List ℕ) (c : Cursor) {f y : Field} → l ≡ r → x ≡ faultsOn p → toldField f ≡ rangedAt (x .form) (x .range) (l .min) (l .max) b (x .line) s c → f ≡ y → number r b p s c ≡ toldField y
+number-told r {l} {x} b p s c {f} {y} same faults told is =
+    ap (λ (k : Limits). number k b p s c) (sym same)
+    ∙ ap (λ (k : Faults). rangedAt (k .form) (k .range) (l .min) (l .max) b (k .line) s c) (sym faults)
+    ∙ sym told
+    ∙ ap toldField is
+
+-- what a part tells whose ending is known
+pub ended-told : {A : Type 0} {e y : Ending} (x : A) → e ≡ y → toldEnding e x ≡ toldEnding y x
+ended-told x is = ap (λ (k : Ending). toldEnding k x) is
+
+-- ---- a segment's line
+
+-- a letter that names a kind stands inside the text
+pub letter-inside : (s : List ℕ) (c : Cursor) (k : Kind) → letterOf (byteAt s c) ≡ Letter.Found k → c .at < length s
+unfolding letterOf
+letter-inside s c k e = inside s (c .at) (go (eqb b 83) (eqb b 70) (eqb b 68) refl refl refl e)
+  where
+    b : ℕ
+    b = byteAt s c
+
+    go : (p q r : Bool) → eqb b 83 ≡ p → eqb b 70 ≡ q → eqb b 68 ≡ r → pick p (Letter.Found Kind.S) (pick q (Letter.Found Kind.F) (pick r (Letter.Found Kind.D) Letter.Other)) ≡ Letter.Found k → b < 256
+    go true q r hp hq hr h = omega (arith, eqb-true b 83 hp)
+    go false true r hp hq hr h = omega (arith, eqb-true b 70 hq)
+    go false false true hp hq hr h = omega (arith, eqb-true b 68 hr)
+    go false false false hp hq hr h = let z : _≡_ {A = ℕ} 0 1 = cc in absurd (omega arith)
+
+module _ (p : ℕ) (s : List ℕ) (c : Cursor) where
+  pub segment-no-kind : {n q : ℕ} → kindAt p s c ≡ Parsed.bad n q → segmentLine p s c ≡ Parsed.bad n q
+  unfolding segmentLine
+  segment-no-kind e = rw e refl
+
+  module _ {k : Kind} {c₁ : Cursor} (kind : kindAt p s c ≡ Parsed.got k c₁) where
+    pub segment-no-following : {n q : ℕ} → number gap 32 p s c₁ ≡ Parsed.bad n q → segmentLine p s c ≡ Parsed.bad n q
+    unfolding segmentLine
+    segment-no-following e = rw (kind, e) refl
+
+    module _ {f : ℕ} {c₂ : Cursor} (following : number gap 32 p s c₁ ≡ Parsed.got f c₂) where
+      pub segment-no-opposing : {n q : ℕ} → number gap 10 p s c₂ ≡ Parsed.bad n q → segmentLine p s c ≡ Parsed.bad n q
+      unfolding segmentLine
+      segment-no-opposing e = rw (kind, following, e) refl
+
+      pub segment-got : {o : ℕ} {c₃ : Cursor} → number gap 10 p s c₂ ≡ Parsed.got o c₃ → segmentLine p s c ≡ Parsed.got (record { kind = k; following = f; opposing = o }) c₃
+      unfolding segmentLine
+      segment-got e = rw (kind, following, e) refl
+
+-- ---- origin and destination on a train's line
+
+module _ (k p : ℕ) (s : List ℕ) (c : Cursor) where
+  pub path-no-origin : {n q : ℕ} → number (station k) 32 p s c ≡ Parsed.bad n q → pathAt k p s c ≡ Parsed.bad n q
+  unfolding pathAt
+  path-no-origin e = rw e refl
+
+  module _ {o : ℕ} {c₁ : Cursor} (origin : number (station k) 32 p s c ≡ Parsed.got o c₁) where
+    pub path-no-destination : {n q : ℕ} → number (station k) 32 p s c₁ ≡ Parsed.bad n q → pathAt k p s c ≡ Parsed.bad n q
+    unfolding pathAt
+    path-no-destination e = rw (origin, e) refl
+
+    module _ {d : ℕ} {c₂ : Cursor} (destination : number (station k) 32 p s c₁ ≡ Parsed.got d c₂) where
+      pub path-nowhere : d ≡ o → pathAt k p s c ≡ Parsed.bad 4 p
+      unfolding pathAt
+      path-nowhere e = rw (origin, destination, eq-eqb _ _ e) refl
+
+      pub path-got : (d ≡ o → ⊥) → pathAt k p s c ≡ Parsed.got (record { origin = o; destination = d }) c₂
+      unfolding pathAt
+      path-got apart = rw (origin, destination, ne-eqb _ _ apart) refl
+
+-- ---- a train's line up to its weight
+
+module _ (k p : ℕ) (s : List ℕ) (c : Cursor) where
+  pub head-no-path : {n q : ℕ} → pathAt k p s c ≡ Parsed.bad n q → headAt k p s c ≡ Parsed.bad n q
+  unfolding headAt
+  head-no-path e = rw e refl
+
+  module _ {x : Path} {c₁ : Cursor} (path : pathAt k p s c ≡ Parsed.got x c₁) where
+    pub head-no-earliest : {n q : ℕ} → number time 32 p s c₁ ≡ Parsed.bad n q → headAt k p s c ≡ Parsed.bad n q
+    unfolding headAt
+    head-no-earliest e = rw (path, e) refl
+
+    module _ {t : ℕ} {c₂ : Cursor} (earliest : number time 32 p s c₁ ≡ Parsed.got t c₂) where
+      pub head-no-latest : {n q : ℕ} → number time 32 p s c₂ ≡ Parsed.bad n q → headAt k p s c ≡ Parsed.bad n q
+      unfolding headAt
+      head-no-latest e = rw (path, earliest, e) refl
+
+      module _ {u : ℕ} {c₃ : Cursor} (latest : number time 32 p s c₂ ≡ Parsed.got u c₃) where
+        pub head-no-weight : {n q : ℕ} → number weight 32 p s c₃ ≡ Parsed.bad n q → headAt k p s c ≡ Parsed.bad n q
+        unfolding headAt
+        head-no-weight e = rw (path, earliest, latest, e) refl
+
+        pub head-got : {w : ℕ} {c₄ : Cursor} → number weight 32 p s c₃ ≡ Parsed.got w c₄ → headAt k p s c ≡ Parsed.got (record { origin = x .origin; destination = x .destination; earliest = t; latest = u; weight = w }) c₄
+        unfolding headAt
+        head-got e = rw (path, earliest, latest, e) refl

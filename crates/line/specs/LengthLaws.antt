@@ -1,0 +1,88 @@
+-- The text of a line within the limits is short: a number and the byte after it take at most five bytes, and there are few of them.
+use Prim.Native.Nat.{ℕ, zero, suc, _+_, _-_, _*_, _≤_, _<_}
+use mathlib.Core.List.{List, [], _∷_}
+use native.Mathlib.Omega.{arith}
+use native.Mathlib.Nat.{suc-mul}
+use lib.ListN.{length, getD, take, drop, length-append, length-take}
+use Rattle.text.specs.Digits.{digits}
+use Rattle.text.specs.DigitsLaws.{digits-length}
+use Rattle.text.specs.Each.{eachThen, Each}
+use Rattle.line.specs.declared.Segment.{Segment}
+use Rattle.line.specs.declared.Train.{Train}
+use Rattle.line.specs.declared.Line.{Line}
+use Rattle.line.specs.Ranges.{In, tracks, run, stop}
+use Rattle.line.specs.Record.{runsOf, stopsOf, legsOf}
+use Rattle.line.specs.Spell.{field, stationText, segmentText, journeyText, trainText, textOf}
+use Rattle.line.specs.SpellLaws.{train-path}
+use Rattle.line.specs.Within.{SegmentWithin, TrainWithin, Within}
+
+-- ---- each part, where at most m bytes follow it
+
+field-length : (n b m : ℕ) (rest : List ℕ) → n < 10000 → length rest ≤ m → length (field n b rest) ≤ m + 5
+field-length n b m rest small h = omega (arith, length-append (digits n) (b ∷ rest), digits-length 3 n (omega arith))
+
+station-length : (t : ℕ) → In tracks t → (m : ℕ) (rest : List ℕ) → length rest ≤ m → length (stationText t rest) ≤ m + 5
+station-length t w m rest h = field-length t 10 m rest (omega arith) h
+
+segment-length : (g : Segment) → SegmentWithin g → (m : ℕ) (rest : List ℕ) → length rest ≤ m → length (segmentText g rest) ≤ m + 12
+segment-length g w m rest h =
+    let gaps : length (field (g .following) 32 (field (g .opposing) 10 rest)) ≤ m + 5 + 5 =
+    field-length (g .following) 32 _ _ (omega (arith, w .following)) (
+    field-length (g .opposing) 10 m rest (omega (arith, w .opposing)) h
+    ) in
+    omega arith
+
+-- the first of the runs left, or 0
+first-run : (rs : List ℕ) → Each (In run) rs → getD rs 0 0 < 10000
+first-run [] e = omega arith
+first-run (r ∷ rs) e = omega (arith, e .0)
+
+other-runs : (rs : List ℕ) → Each (In run) rs → Each (In run) (drop 1 rs)
+other-runs [] e = tt
+other-runs (r ∷ rs) e = e .1
+
+journey-length : (ts rs : List ℕ) → Each (In stop) ts → Each (In run) rs → (m : ℕ) (rest : List ℕ) → length rest ≤ m → length (journeyText ts rs rest) ≤ m + 5 + 10 * length ts
+journey-length [] rs s r m rest h = omega (arith, field-length (getD rs 0 0) 10 m rest (first-run rs r) h)
+journey-length (t ∷ ts) rs s r m rest h =
+    let leg : length (journeyText (t ∷ ts) rs rest) ≤ m + 5 + 10 * length ts + 5 + 5 =
+    field-length (getD rs 0 0) 32 _ _ (first-run rs r) (
+    field-length t 32 _ _ (omega (arith, s .0)) (
+    journey-length ts (drop 1 rs) (s .1) (other-runs rs r) m rest h
+    )) in
+    omega arith
+
+train-length : (n : ℕ) → n ≤ 12 → (t : Train) → TrainWithin n t → (m : ℕ) (rest : List ℕ) → length rest ≤ m → length (trainText t rest) ≤ m + 130
+train-length n few t w m rest h =
+    let head : length (trainText t rest) ≤ m + 5 + 10 * length (stopsOf t) + 5 + 5 + 5 + 5 + 5 =
+    field-length (t .origin) 32 _ _ (omega (arith, w .origin)) (
+    field-length (t .destination) 32 _ _ (omega (arith, w .destination)) (
+    field-length (t .earliest) 32 _ _ (omega (arith, w .earliest)) (
+    field-length (t .latest) 32 _ _ (omega (arith, w .latest)) (
+    field-length (t .weight) 32 _ _ (omega (arith, w .weight)) (
+    journey-length (stopsOf t) (runsOf t) (w .stops) (w .runs) m rest h
+    ))))) in
+    omega (arith, length-take (legsOf t - 1) (t .stops), train-path n few t w .1)
+
+-- ---- a part of at most k bytes for each of the first n elements
+
+module _ {A : Type 0} (P : A → Type 0) (text : A → List ℕ → List ℕ) (k : ℕ) (short : (x : A) → P x → (m : ℕ) (rest : List ℕ) → length rest ≤ m → length (text x rest) ≤ m + k) where
+  each-length : (n : ℕ) (xs : List A) → Each P (take n xs) → (m : ℕ) (rest : List ℕ) → length rest ≤ m → length (eachThen text (take n xs) rest) ≤ m + n * k
+  each-length zero xs e m rest h = omega arith
+  each-length (suc n) [] e m rest h = omega arith
+  each-length (suc n) (x ∷ xs) e m rest h =
+      omega (arith, suc-mul n k, short x (e .0) (m + n * k) (eachThen text (take n xs) rest) (each-length n xs (e .1) m rest h))
+
+-- the text of a line within the limits has at most 4,096 bytes
+pub text-fits : (l : Line) → Within l → length (textOf l) ≤ 4096
+unfolding textOf
+text-fits l w =
+    let n = l .«station_count» in
+    let size : length (textOf l) ≤ 0 + l .«train_count» * 130 + 5 + (n - 1) * 12 + 5 + n * 5 + 5 =
+    field-length n 10 _ _ (omega (arith, w .stations)) (
+    each-length (In tracks) stationText 5 station-length n (l .tracks) (w .tracks) _ _ (
+    field-length (n - 1) 10 _ _ (omega (arith, w .stations)) (
+    each-length SegmentWithin segmentText 12 segment-length (n - 1) (l .segments) (w .segments) _ _ (
+    field-length (l .«train_count») 10 _ _ (omega (arith, w .trains)) (
+    each-length (TrainWithin n) trainText 130 (train-length n (w .stations .1)) (l .«train_count») (l .trains) (w .each-train) 0 [] (omega arith)
+    ))))) in
+    omega (arith, w .stations, w .trains)

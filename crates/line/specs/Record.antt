@@ -1,0 +1,80 @@
+-- The record of a line: its empty entries, its used entries, and when two records are the same line.
+use Prim.Native.Nat.{ℕ, _+_, _-_, _≤_}
+use mathlib.Core.Path.{_≡_}
+use mathlib.Core.List.{List, [], _∷_, map}
+use lib.ListN.{replicate, take}
+use Rattle.text.specs.Lists.{padded}
+use Rattle.line.specs.declared.Kind.{Kind}
+use Rattle.line.specs.declared.Segment.{Segment}
+use Rattle.line.specs.declared.Train.{Train}
+use Rattle.line.specs.declared.Line.{Line}
+
+-- "entries beyond a count are 0 (a kind is S)"
+abbrev pub noSegment : Segment
+noSegment = record { kind = Kind.S; following = 0; opposing = 0 }
+
+abbrev pub noTrain : Train
+noTrain = record { origin = 0; destination = 0; earliest = 0; latest = 0; weight = 0; runs = replicate 11 0; stops = replicate 11 0 }
+
+abbrev pub emptyLine : Line
+emptyLine = record { «station_count» = 0; tracks = replicate 12 0; segments = replicate 11 noSegment; «train_count» = 0; trains = replicate 12 noTrain }
+
+-- the segments of a train's path: as many as its origin and destination are apart
+abbrev pub legsBetween : ℕ → ℕ → ℕ
+legsBetween o d = (o - d) + (d - o)
+
+abbrev pub legsOf : Train → ℕ
+legsOf t = legsBetween (t .origin) (t .destination)
+
+-- a path of 1 to 11 segments
+abbrev pub HasPath : Train → Type 0
+HasPath t = (1 ≤ legsOf t) × (legsOf t ≤ 11)
+
+-- ---- the used entries
+
+abbrev pub tracksOf : Line → List ℕ
+tracksOf l = take (l .«station_count») (l .tracks)
+
+abbrev pub segmentsOf : Line → List Segment
+segmentsOf l = take (l .«station_count» - 1) (l .segments)
+
+abbrev pub trainsOf : Line → List Train
+trainsOf l = take (l .«train_count») (l .trains)
+
+-- a run for each segment of the path, and a stop at each station between two of them
+abbrev pub runsOf : Train → List ℕ
+runsOf t = take (legsOf t) (t .runs)
+
+abbrev pub stopsOf : Train → List ℕ
+stopsOf t = take (legsOf t - 1) (t .stops)
+
+-- ---- "two records are the same line when the used entries agree"
+
+-- a train with its entries beyond the path emptied, and a line with its entries beyond the counts
+unfoldable pub tidyTrain : Train → Train
+tidyTrain t = record { origin = t .origin; destination = t .destination; earliest = t .earliest; latest = t .latest; weight = t .weight; runs = padded 11 0 (runsOf t); stops = padded 11 0 (stopsOf t) }
+
+unfoldable pub tidyLine : Line → Line
+tidyLine l = record { «station_count» = l .«station_count»; tracks = padded 12 0 (tracksOf l); segments = padded 11 noSegment (segmentsOf l); «train_count» = l .«train_count»; trains = padded 12 noTrain (map tidyTrain (trainsOf l)) }
+
+pub record SameTrain (t u : Train) : Type 0 where
+  pub origin : t .origin ≡ u .origin
+  pub destination : t .destination ≡ u .destination
+  pub earliest : t .earliest ≡ u .earliest
+  pub latest : t .latest ≡ u .latest
+  pub weight : t .weight ≡ u .weight
+  pub runs : runsOf t ≡ runsOf u
+  pub stops : stopsOf t ≡ stopsOf u
+
+abbrev pub SameTrains : List Train → List Train → Type 0
+SameTrains [] [] = Unit {0}
+SameTrains [] (u ∷ us) = ⊥
+SameTrains (t ∷ ts) [] = ⊥
+SameTrains (t ∷ ts) (u ∷ us) = SameTrain t u × SameTrains ts us
+
+pub record SameLine (l m : Line) : Type 0 where
+  pub stations : l .«station_count» ≡ m .«station_count»
+  pub tracks : tracksOf l ≡ tracksOf m
+  pub segments : segmentsOf l ≡ segmentsOf m
+  pub trains : l .«train_count» ≡ m .«train_count»
+  pub each-train : SameTrains (trainsOf l) (trainsOf m)

@@ -1,0 +1,44 @@
+-- The text of a line: the bytes of its line file, section by section. Each part is written with what follows it.
+use Prim.Native.Nat.{ℕ, _-_}
+use mathlib.Core.List.{List, [], _∷_, _++_}
+use lib.ListN.{getD, drop}
+use Rattle.text.specs.Digits.{digits}
+use Rattle.text.specs.Each.{eachThen}
+use Rattle.line.specs.declared.Kind.{Kind}
+use Rattle.line.specs.declared.Segment.{Segment}
+use Rattle.line.specs.declared.Train.{Train}
+use Rattle.line.specs.declared.Line.{Line}
+use Rattle.line.specs.Record.{tracksOf, segmentsOf, trainsOf, runsOf, stopsOf}
+
+-- a number and the byte b after it
+abbrev pub field : ℕ → ℕ → List ℕ → List ℕ
+field n b rest = digits n ++ (b ∷ rest)
+
+abbrev pub stationText : ℕ → List ℕ → List ℕ
+stationText t rest = field t 10 rest
+
+abbrev pub letterByte : Kind → ℕ
+letterByte Kind.S = 83
+letterByte Kind.F = 70
+letterByte Kind.D = 68
+
+abbrev pub segmentText : Segment → List ℕ → List ℕ
+segmentText g rest = letterByte (g .kind) ∷ (32 ∷ field (g .following) 32 (field (g .opposing) 10 rest))
+
+-- run, stop, run, stop, .., run: a run before each stop, and the last run
+abbrev pub journeyText : List ℕ → List ℕ → List ℕ → List ℕ
+journeyText [] rs rest = field (getD rs 0 0) 10 rest
+journeyText (t ∷ ts) rs rest = field (getD rs 0 0) 32 (field t 32 (journeyText ts (drop 1 rs) rest))
+
+abbrev pub headText : Train → List ℕ → List ℕ
+headText t rest = field (t .origin) 32 (field (t .destination) 32 (field (t .earliest) 32 (field (t .latest) 32 (field (t .weight) 32 rest))))
+
+abbrev pub trainText : Train → List ℕ → List ℕ
+trainText t rest = headText t (journeyText (stopsOf t) (runsOf t) rest)
+
+-- the whole text
+unfoldable pub textOf : Line → List ℕ
+textOf l =
+    field (l .«station_count») 10 (eachThen stationText (tracksOf l)
+    (field (l .«station_count» - 1) 10 (eachThen segmentText (segmentsOf l)
+    (field (l .«train_count») 10 (eachThen trainText (trainsOf l) [])))))

@@ -1,0 +1,179 @@
+-- The texts of a line in parts: each part is its own text and then what follows it, so that parts written one after the other are the whole.
+use Prim.Native.Nat.{ℕ, zero, suc, _+_, _-_, _≤_, _<_}
+use mathlib.Core.Path.{_≡_, refl, sym, ap, _∙_}
+use mathlib.Core.List.{List, [], _∷_, _++_, append-assoc, append-nil}
+use native.Mathlib.Omega.{arith}
+use native.Mathlib.Numerals.{add-one}
+use lib.ListN.{length, getD, take, drop, length-append}
+use lib.Seq.{drop-cons, drop-drop, drop-length, getD-take, getD-drop, length-take-le}
+use Rattle.text.specs.Digits.{digits, fieldText}
+use Rattle.text.specs.Each.{eachThen, Each}
+use Rattle.text.specs.Splice.{Put}
+use Rattle.text.specs.SpliceLaws.{Putting, putting-step, putting-room, putting-end}
+use Rattle.line.specs.declared.Segment.{Segment}
+use Rattle.line.specs.declared.Train.{Train}
+use Rattle.line.specs.declared.Line.{Line}
+use Rattle.line.specs.Record.{HasPath, tracksOf, segmentsOf, trainsOf, stopsOf, runsOf}
+use Rattle.line.specs.Spell.{stationText, letterByte, segmentText, journeyText, headText, trainText, textOf}
+use Rattle.line.specs.Within.{TrainWithin}
+
+-- ---- each part, and then what follows it
+
+pub station-then : (t : ℕ) (rest : List ℕ) → stationText t rest ≡ stationText t [] ++ rest
+station-then t rest = simp append-assoc
+
+pub segment-then : (g : Segment) (rest : List ℕ) → segmentText g rest ≡ segmentText g [] ++ rest
+segment-then g rest = simp append-assoc
+
+head-then : (t : Train) (rest : List ℕ) → headText t rest ≡ headText t [] ++ rest
+head-then t rest = simp append-assoc
+
+journey-then : (ts rs rest : List ℕ) → journeyText ts rs rest ≡ journeyText ts rs [] ++ rest
+journey-then [] rs rest = simp append-assoc
+journey-then (t ∷ ts) rs rest = simp (append-assoc, journey-then ts (drop 1 rs) rest)
+
+pub train-then : (t : Train) (rest : List ℕ) → trainText t rest ≡ trainText t [] ++ rest
+train-then t rest =
+    ap (λ (l : List ℕ). headText t l) (journey-then (stopsOf t) (runsOf t) rest)
+    ∙ (simp append-assoc)
+
+module _ {A : Type 0} (text : A → List ℕ → List ℕ) (parts : (x : A) (rest : List ℕ) → text x rest ≡ text x [] ++ rest) where
+  each-then : (xs : List A) (rest : List ℕ) → eachThen text xs rest ≡ eachThen text xs [] ++ rest
+  each-then [] rest = refl
+  each-then (x ∷ xs) rest =
+      parts x (eachThen text xs rest)
+      ∙ ap (λ (l : List ℕ). text x [] ++ l) (each-then xs rest)
+      ∙ sym (append-assoc (text x []) (eachThen text xs []) rest)
+      ∙ ap (λ (l : List ℕ). l ++ rest) (sym (parts x (eachThen text xs [])))
+
+  -- ---- a part for each of the first n elements, of which i are written
+
+  module _ (n : ℕ) (xs : List A) (i : ℕ) (full : n ≤ length xs) where
+    -- the lines yet to write: that of element i, and the others
+    step : (d : A) → i < n → eachThen text (drop i (take n xs)) [] ≡ text (getD xs i d) [] ++ eachThen text (drop (i + 1) (take n xs)) []
+    step d h =
+        let here : i < length (take n xs) = rw (length-take-le n xs full) h in
+        ap (λ (l : List A). eachThen text l []) (drop-cons (take n xs) i d here)
+        ∙ parts (getD (take n xs) i d) (eachThen text (drop (suc i) (take n xs)) [])
+        ∙ (rw (add-one, getD-take n xs i d h) refl)
+
+    module _ {entry : List ℕ} {start : ℕ} {whole now : List ℕ} {at : ℕ} (putting : Putting entry start whole now at (eachThen text (drop i (take n xs)) [])) where
+      pub each-room : (d : A) → i < n → start + length whole ≤ length entry → at + length (text (getD xs i d) []) ≤ length now
+      each-room d h fits = putting-room (text (getD xs i d) []) (eachThen text (drop (i + 1) (take n xs)) []) putting (step d h) fits
+
+      pub each-put : {then : List ℕ} {next : ℕ} (d : A) → i < n → Put now then at (text (getD xs i d) []) next → Putting entry start whole then next (eachThen text (drop (i + 1) (take n xs)) [])
+      each-put d h put = putting-step (eachThen text (drop (i + 1) (take n xs)) []) putting (step d h) put
+
+      pub each-end : i ≡ n → Put entry now start whole at
+      each-end e =
+          let last : drop i (take n xs) ≡ [] = ap (λ (k : ℕ). drop k (take n xs)) (e ∙ sym (length-take-le n xs full)) ∙ drop-length (take n xs) in
+          putting-end putting (ap (λ (l : List A). eachThen text l []) last)
+
+-- ---- the runs and stops of a path, of which k of each are written
+
+module _ (runs stops : List ℕ) (legs k : ℕ) (full : legs - 1 ≤ length stops) where
+  abbrev left : ℕ → List ℕ
+  left j = journeyText (drop j (take (legs - 1) stops)) (drop j (take legs runs)) []
+
+  abbrev leg : List ℕ
+  leg = fieldText (getD runs k 0) 32 ++ fieldText (getD stops k 0) 32
+
+  run-at : k < legs → getD (drop k (take legs runs)) 0 0 ≡ getD runs k 0
+  run-at h =
+      let at : k + 0 ≡ k = omega arith in
+      getD-drop k (take legs runs) 0 0 ∙ ap (λ (i : ℕ). getD (take legs runs) i 0) at ∙ getD-take legs runs k 0 h
+
+  -- a run, a stop, and the others
+  next-leg : k + 1 < legs → left k ≡ leg ++ left (k + 1)
+  next-leg h =
+      let here : k < length (take (legs - 1) stops) = rw (length-take-le (legs - 1) stops full) (omega arith) in
+      let stop : getD (take (legs - 1) stops) k 0 ≡ getD stops k 0 = getD-take (legs - 1) stops k 0 (omega arith) in
+      ap (λ (l : List ℕ). journeyText l (drop k (take legs runs)) []) (drop-cons (take (legs - 1) stops) k 0 here)
+      ∙ (rw (run-at (omega arith), stop, drop-drop 1 k (take legs runs), add-one k) (simp append-assoc))
+
+  -- the last run
+  last-leg : k + 1 ≡ legs → left k ≡ fieldText (getD runs k 0) 10
+  last-leg e =
+      let last : k ≡ legs - 1 = omega arith in
+      let none : drop k (take (legs - 1) stops) ≡ [] = ap (λ (i : ℕ). drop i (take (legs - 1) stops)) (last ∙ sym (length-take-le (legs - 1) stops full)) ∙ drop-length (take (legs - 1) stops) in
+      rw (none, run-at (omega arith)) refl
+
+  module _ {entry : List ℕ} {start : ℕ} {whole now : List ℕ} {at : ℕ} (putting : Putting entry start whole now at (left k)) where
+    pub journey-room : k + 1 < legs → start + length whole ≤ length entry → at + (length (fieldText (getD runs k 0) 32) + length (fieldText (getD stops k 0) 32)) ≤ length now
+    journey-room h fits = rw length-append at (putting-room leg (left (k + 1)) putting (next-leg h) fits)
+
+    pub journey-put : {then : List ℕ} {next : ℕ} → k + 1 < legs → Put now then at leg next → Putting entry start whole then next (left (k + 1))
+    journey-put h put = putting-step (left (k + 1)) putting (next-leg h) put
+
+    pub journey-last : k + 1 ≡ legs → start + length whole ≤ length entry → at + length (fieldText (getD runs k 0) 10) ≤ length now
+    journey-last e fits = omega (arith, putting .next, putting .size, ap length (last-leg e))
+
+    pub journey-end : {then : List ℕ} {next : ℕ} → k + 1 ≡ legs → Put now then at (fieldText (getD runs k 0) 10) next → Put entry then start whole next
+    journey-end e put = putting-end (putting-step [] putting (last-leg e ∙ sym (append-nil (fieldText (getD runs k 0) 10))) put) refl
+
+-- ---- what calls write one after the other, and its size
+
+module _ (g : Segment) where
+  pub segment-parts : segmentText g [] ≡ (letterByte (g .kind) ∷ []) ++ ((32 ∷ []) ++ (fieldText (g .following) 32 ++ fieldText (g .opposing) 10))
+  segment-parts = simp append-assoc
+
+  pub segment-size : length (segmentText g []) ≡ suc (suc (length (fieldText (g .following) 32) + length (fieldText (g .opposing) 10)))
+  segment-size = ap length segment-parts ∙ (rw (length-append (fieldText (g .following) 32)) refl)
+
+module _ (t : Train) where
+  pub head-parts : headText t [] ≡ fieldText (t .origin) 32 ++ (fieldText (t .destination) 32 ++ (fieldText (t .earliest) 32 ++ (fieldText (t .latest) 32 ++ fieldText (t .weight) 32)))
+  head-parts = simp append-assoc
+
+  pub head-size : length (headText t []) ≡ length (fieldText (t .origin) 32) + (length (fieldText (t .destination) 32) + (length (fieldText (t .earliest) 32) + (length (fieldText (t .latest) 32) + length (fieldText (t .weight) 32))))
+  head-size =
+      ap length head-parts
+      ∙ (rw (length-append (fieldText (t .origin) 32), length-append (fieldText (t .destination) 32), length-append (fieldText (t .earliest) 32), length-append (fieldText (t .latest) 32)) refl)
+
+  pub train-parts : trainText t [] ≡ headText t [] ++ journeyText (stopsOf t) (runsOf t) []
+  train-parts = head-then t (journeyText (stopsOf t) (runsOf t) [])
+
+  pub train-size : length (trainText t []) ≡ length (headText t []) + length (journeyText (stopsOf t) (runsOf t) [])
+  train-size = ap length train-parts ∙ length-append (headText t []) (journeyText (stopsOf t) (runsOf t) [])
+
+module _ (l : Line) where
+  abbrev stations-part : List ℕ
+  stations-part = eachThen stationText (tracksOf l) []
+
+  abbrev segments-part : List ℕ
+  segments-part = eachThen segmentText (segmentsOf l) []
+
+  abbrev trains-part : List ℕ
+  trains-part = eachThen trainText (trainsOf l) []
+
+  pub line-parts : textOf l ≡ fieldText (l .«station_count») 10 ++ (stations-part ++ (fieldText (l .«station_count» - 1) 10 ++ (segments-part ++ (fieldText (l .«train_count») 10 ++ trains-part))))
+  unfolding textOf
+  line-parts =
+      let rest = digits (l .«train_count») ++ (10 ∷ trains-part) in
+      ap (λ (x : List ℕ). digits (l .«station_count») ++ (10 ∷ x)) (
+      each-then stationText station-then (tracksOf l) (digits (l .«station_count» - 1) ++ (10 ∷ eachThen segmentText (segmentsOf l) rest))
+      ∙ ap (λ (x : List ℕ). stations-part ++ (digits (l .«station_count» - 1) ++ (10 ∷ x))) (each-then segmentText segment-then (segmentsOf l) rest)
+      )
+      ∙ (simp append-assoc)
+
+  pub line-size : length (textOf l) ≡ length (fieldText (l .«station_count») 10) + (length stations-part + (length (fieldText (l .«station_count» - 1) 10) + (length segments-part + (length (fieldText (l .«train_count») 10) + length trains-part))))
+  line-size =
+      ap length line-parts
+      ∙ (rw (length-append (fieldText (l .«station_count») 10), length-append stations-part, length-append (fieldText (l .«station_count» - 1) 10), length-append segments-part, length-append (fieldText (l .«train_count») 10)) refl)
+
+-- ---- what holds of each element
+
+pub each-at : {A : Type 0} (P : A → Type 0) (n : ℕ) (xs : List A) (i : ℕ) (d : A) → n ≤ length xs → i < n → Each P (take n xs) → P (getD xs i d)
+each-at P zero xs i d full h e = absurd (omega arith)
+each-at P (suc n) [] i d full h e = absurd (omega arith)
+each-at P (suc n) (x ∷ xs) zero d full h e = e .0
+each-at P (suc n) (x ∷ xs) (suc i) d full h e = each-at P n xs i d (omega arith) (omega arith) (e .1)
+
+pub each-so : {A : Type 0} {P Q : A → Type 0} → ((x : A) → P x → Q x) → (xs : List A) → Each P xs → Each Q xs
+each-so f [] e = tt
+each-so f (x ∷ xs) e = (f x (e .0), each-so f xs (e .1))
+
+-- a train within the limits of a line of n stations has a path
+pub train-path : (n : ℕ) → n ≤ 12 → (t : Train) → TrainWithin n t → HasPath t
+train-path n few t w =
+    let apart = w .apart in
+    (omega (arith, w .origin, w .destination), omega (arith, w .origin, w .destination))

@@ -1,0 +1,101 @@
+// The line of a railway: its record, the limits of its fields, and its file, read and written.
+ghost use mathlib.Core.Path.{_≡_};
+ghost use Prim.Native.Nat.{_+_, _-_, _≤_, _<_};
+ghost use Rattle.line.specs.Ranges.{station};
+ghost use Rattle.line.specs.Record.{legsBetween};
+use text::Limits;
+
+pub mod reading;
+pub mod writing;
+
+pub enum Kind {
+    S,
+    F,
+    D,
+}
+
+// The track between two stations: its kind, the gap to a following train and to an opposing one.
+pub struct Segment {
+    pub kind: Kind,
+    pub following: u16,
+    pub opposing: u16,
+}
+
+// A run for each segment of its path, and a stop at each station between two of them, in travel order.
+pub struct Train {
+    pub origin: u16,
+    pub destination: u16,
+    pub earliest: u16,
+    pub latest: u16,
+    pub weight: u16,
+    pub runs: [u16; 11],
+    pub stops: [u16; 11],
+}
+
+// Segment p joins stations p and p + 1. Entries beyond a count are 0 (a kind is S) after reading and ignored in writing.
+pub struct Line {
+    pub station_count: u16,
+    pub tracks: [u16; 12],
+    pub segments: [Segment; 11],
+    pub train_count: u16,
+    pub trains: [Train; 12],
+}
+
+pub enum Answer {
+    Accepted,
+    Refused(u8, usize),
+}
+
+// What reading a file gives: accepted with its line, or refused with an empty one.
+pub struct ReadLine {
+    pub answer: Answer,
+    pub line: Line,
+}
+
+// Whole minutes.
+pub struct Time {}
+
+impl Time {
+    pub const LIMITS: Limits = Limits { min: 0, max: 2879 };
+}
+
+// Stations are numbered from 1.
+pub struct Station {}
+
+impl Station {
+    pub const COUNT: Limits = Limits { min: 2, max: 12 };
+
+    pub const TRACKS: Limits = Limits { min: 1, max: 12 };
+
+    // The numbers of the stations of a line that has `count` of them.
+    pub fn numbers(count: u16) -> Limits
+        ensures { λ r. ⌜ r ≡ station count ⌝ }
+    {
+        Limits { min: 1, max: count }
+    }
+}
+
+impl Segment {
+    pub const GAP: Limits = Limits { min: 1, max: 60 };
+}
+
+impl Train {
+    pub const COUNT: Limits = Limits { min: 0, max: 12 };
+
+    pub const WEIGHT: Limits = Limits { min: 0, max: 99 };
+
+    pub const RUN: Limits = Limits { min: 1, max: 240 };
+
+    pub const STOP: Limits = Limits { min: 0, max: 240 };
+}
+
+// How many segments lie between two stations.
+pub fn legs_between(origin: u16, destination: u16) -> usize
+    ensures { λ r. ⌜ r ≡ legsBetween origin destination ⌝ }
+{
+    if origin < destination {
+        (destination - origin) as usize
+    } else {
+        (origin - destination) as usize
+    }
+}

@@ -1,0 +1,346 @@
+// Writing the line file: the first bad field of the record refuses it; else its text goes into the lent bytes, if it fits.
+ghost use mathlib.Core.Path.{_≡_};
+ghost use mathlib.Core.List.{[]};
+ghost use Prim.Native.Nat.{_+_, _-_, _≤_, _<_};
+ghost use lib.ListN.{length, take};
+ghost use Rattle.text.specs.Each.{eachThen, Each};
+ghost use Rattle.text.specs.Splice.{Put};
+ghost use Rattle.text.specs.Lend.{Lent};
+ghost use Rattle.line.specs.Within.{Within};
+ghost use Rattle.line.specs.Record.{legsOf, HasPath};
+ghost use Rattle.line.specs.Spell.{stationText, letterByte, segmentText, journeyText, headText, trainText, textOf};
+ghost use Rattle.line.specs.Writing.{numberFault, linesFault, timesFault, trackFault, segmentFault, pathFault, headFault, trainFault, faultOf, refusedBy, spelling};
+use crate::Kind;
+use crate::Line;
+use crate::Segment;
+use crate::Station;
+use crate::Time;
+use crate::Train;
+use crate::legs_between;
+use text::Bounded;
+use text::LINE_FEED;
+use text::Limits;
+use text::SPACE;
+use text::Written;
+use text::lend_text;
+use text::put_byte;
+use text::put_field;
+
+// The longest text of a line file.
+const MAX_BYTES: usize = 4096;
+
+// A bad field of a record, with the number and the line that it would have.
+pub enum Fault {
+    None,
+    At(u8, usize),
+}
+
+fn number_fault(n: u16, limits: Limits, line: usize) -> Fault
+    ensures { λ r. ⌜ r ≡ numberFault limits n line ⌝ }
+{
+    let Bounded::Within(_) = limits.value(n as u32) else {
+        return Fault::At(3, line);
+    };
+    Fault::None
+}
+
+// The tracks of the stations, from line 2 on.
+fn station_faults(tracks: [u16; 12], count: usize) -> Fault
+    requires { ⌜ count ≤ 12 ⌝ }
+    ensures { λ r. ⌜ r ≡ linesFault (take count tracks) trackFault 2 ⌝ }
+{
+    let mut i: usize = 0;
+    while i < count {
+        let fault = number_fault(tracks[i], Station::TRACKS, i + 2);
+        let Fault::None = fault else {
+            return fault;
+        };
+        i = i + 1;
+    }
+    Fault::None
+}
+
+fn segment_fault(segment: Segment, line: usize) -> Fault
+    ensures { λ r. ⌜ r ≡ segmentFault line segment ⌝ }
+{
+    let fault = number_fault(segment.following, Segment::GAP, line);
+    let Fault::None = fault else {
+        return fault;
+    };
+    number_fault(segment.opposing, Segment::GAP, line)
+}
+
+fn segment_faults(segments: [Segment; 11], count: usize, first: usize) -> Fault
+    requires { ⌜ (count ≤ 11) × (first ≤ 100) ⌝ }
+    ensures { λ r. ⌜ r ≡ linesFault (take count segments) segmentFault first ⌝ }
+{
+    let mut i: usize = 0;
+    while i < count {
+        let segment = segments[i];
+        let fault = segment_fault(segment, first + i);
+        let Fault::None = fault else {
+            return fault;
+        };
+        i = i + 1;
+    }
+    Fault::None
+}
+
+// The first `count` runs or stops of a train, all on one line.
+fn time_faults(times: [u16; 11], count: usize, limits: Limits, line: usize) -> Fault
+    requires { ⌜ count ≤ 11 ⌝ }
+    ensures { λ r. ⌜ r ≡ timesFault (take count times) limits line ⌝ }
+{
+    let mut i: usize = 0;
+    while i < count {
+        let fault = number_fault(times[i], limits, line);
+        let Fault::None = fault else {
+            return fault;
+        };
+        i = i + 1;
+    }
+    Fault::None
+}
+
+fn path_fault(origin: u16, destination: u16, stations: u16, line: usize) -> Fault
+    ensures { λ r. ⌜ r ≡ pathFault stations line origin destination ⌝ }
+{
+    let from = number_fault(origin, Station::numbers(stations), line);
+    let Fault::None = from else {
+        return from;
+    };
+    let to = number_fault(destination, Station::numbers(stations), line);
+    let Fault::None = to else {
+        return to;
+    };
+    if destination == origin {
+        return Fault::At(4, line);
+    }
+    Fault::None
+}
+
+// The numbers before the runs and stops of a train.
+fn head_fault(train: Train, stations: u16, line: usize) -> Fault
+    ensures { λ r. ⌜ r ≡ headFault stations line train ⌝ }
+{
+    let path = path_fault(train.origin, train.destination, stations, line);
+    let Fault::None = path else {
+        return path;
+    };
+    let earliest = number_fault(train.earliest, Time::LIMITS, line);
+    let Fault::None = earliest else {
+        return earliest;
+    };
+    let latest = number_fault(train.latest, Time::LIMITS, line);
+    let Fault::None = latest else {
+        return latest;
+    };
+    number_fault(train.weight, Train::WEIGHT, line)
+}
+
+fn train_fault(train: Train, stations: u16, line: usize) -> Fault
+    requires { ⌜ stations ≤ 12 ⌝ }
+    ensures { λ r. ⌜ r ≡ trainFault stations line train ⌝ }
+{
+    let head = head_fault(train, stations, line);
+    let Fault::None = head else {
+        return head;
+    };
+    let legs = legs_between(train.origin, train.destination);
+    let runs = train.runs;
+    let fault = time_faults(runs, legs, Train::RUN, line);
+    let Fault::None = fault else {
+        return fault;
+    };
+    let stops = train.stops;
+    time_faults(stops, legs - 1, Train::STOP, line)
+}
+
+fn train_faults(trains: [Train; 12], count: usize, stations: u16, first: usize) -> Fault
+    requires { ⌜ (count ≤ 12) × (stations ≤ 12) × (first ≤ 100) ⌝ }
+    ensures { λ r. ⌜ r ≡ linesFault (take count trains) (trainFault stations) first ⌝ }
+{
+    let mut i: usize = 0;
+    while i < count {
+        let train = trains[i];
+        let fault = train_fault(train, stations, first + i);
+        let Fault::None = fault else {
+            return fault;
+        };
+        i = i + 1;
+    }
+    Fault::None
+}
+
+// The first bad field of a record, in the order of the file's bytes.
+fn fault_of(line: Line) -> Fault
+    ensures { λ r. ⌜ r ≡ faultOf line ⌝ }
+{
+    let stations = line.station_count;
+    let count = number_fault(stations, Station::COUNT, 1);
+    let Fault::None = count else {
+        return count;
+    };
+    let n = stations as usize;
+    let tracks = line.tracks;
+    let fault = station_faults(tracks, n);
+    let Fault::None = fault else {
+        return fault;
+    };
+    let segments = line.segments;
+    let joins = segment_faults(segments, n - 1, n + 3);
+    let Fault::None = joins else {
+        return joins;
+    };
+    let number = number_fault(line.train_count, Train::COUNT, n + n + 2);
+    let Fault::None = number else {
+        return number;
+    };
+    let trains = line.trains;
+    train_faults(trains, line.train_count as usize, stations, n + n + 3)
+}
+
+fn put_stations(out: &mut [u8], start: usize, tracks: [u16; 12], count: usize) -> usize
+    requires { ⌜ (count ≤ 12) × (start + length (eachThen stationText (take count tracks) []) ≤ length (now out)) ⌝ }
+    ensures { λ r. ⌜ Put (now (out .entry)) (now (out .exit)) start (eachThen stationText (take count tracks) []) r ⌝ }
+{
+    let mut at = start;
+    let mut i: usize = 0;
+    while i < count {
+        at = put_field(out, at, tracks[i] as u32, LINE_FEED);
+        i = i + 1;
+    }
+    at
+}
+
+fn letter_byte(kind: Kind) -> u8
+    ensures { λ r. ⌜ r ≡ letterByte kind ⌝ }
+{
+    match kind {
+        Kind::S => 83,
+        Kind::F => 70,
+        Kind::D => 68,
+    }
+}
+
+fn put_segment(out: &mut [u8], start: usize, segment: Segment) -> usize
+    requires { ⌜ start + length (segmentText segment []) ≤ length (now out) ⌝ }
+    ensures { λ r. ⌜ Put (now (out .entry)) (now (out .exit)) start (segmentText segment []) r ⌝ }
+{
+    let kind = segment.kind;
+    let after_letter = put_byte(out, start, letter_byte(kind));
+    let after_kind = put_byte(out, after_letter, SPACE);
+    let after_following = put_field(out, after_kind, segment.following as u32, SPACE);
+    put_field(out, after_following, segment.opposing as u32, LINE_FEED)
+}
+
+fn put_segments(out: &mut [u8], start: usize, segments: [Segment; 11], count: usize) -> usize
+    requires { ⌜ (count ≤ 11) × (start + length (eachThen segmentText (take count segments) []) ≤ length (now out)) ⌝ }
+    ensures { λ r. ⌜ Put (now (out .entry)) (now (out .exit)) start (eachThen segmentText (take count segments) []) r ⌝ }
+{
+    let mut at = start;
+    let mut i: usize = 0;
+    while i < count {
+        let segment = segments[i];
+        at = put_segment(out, at, segment);
+        i = i + 1;
+    }
+    at
+}
+
+// The runs and stops of a path of `legs` segments.
+fn put_journey(
+    out: &mut [u8],
+    start: usize,
+    runs: [u16; 11],
+    stops: [u16; 11],
+    legs: usize,
+) -> usize
+    requires { ⌜ (1 ≤ legs) × (legs ≤ 11) × (start + length (journeyText (take (legs - 1) stops) (take legs runs) []) ≤ length (now out)) ⌝ }
+    ensures { λ r. ⌜ Put (now (out .entry)) (now (out .exit)) start (journeyText (take (legs - 1) stops) (take legs runs) []) r ⌝ }
+{
+    let mut at = start;
+    let mut k: usize = 0;
+    while k + 1 < legs {
+        let after_run = put_field(out, at, runs[k] as u32, SPACE);
+        at = put_field(out, after_run, stops[k] as u32, SPACE);
+        k = k + 1;
+    }
+    put_field(out, at, runs[k] as u32, LINE_FEED)
+}
+
+fn put_head(out: &mut [u8], start: usize, train: Train) -> usize
+    requires { ⌜ start + length (headText train []) ≤ length (now out) ⌝ }
+    ensures { λ r. ⌜ Put (now (out .entry)) (now (out .exit)) start (headText train []) r ⌝ }
+{
+    let after_origin = put_field(out, start, train.origin as u32, SPACE);
+    let after_destination = put_field(out, after_origin, train.destination as u32, SPACE);
+    let after_earliest = put_field(out, after_destination, train.earliest as u32, SPACE);
+    let after_latest = put_field(out, after_earliest, train.latest as u32, SPACE);
+    put_field(out, after_latest, train.weight as u32, SPACE)
+}
+
+fn put_train(out: &mut [u8], start: usize, train: Train) -> usize
+    requires { ⌜ (1 ≤ legsOf train) × (legsOf train ≤ 11) × (start + length (trainText train []) ≤ length (now out)) ⌝ }
+    ensures { λ r. ⌜ Put (now (out .entry)) (now (out .exit)) start (trainText train []) r ⌝ }
+{
+    let after_head = put_head(out, start, train);
+    let legs = legs_between(train.origin, train.destination);
+    let runs = train.runs;
+    let stops = train.stops;
+    put_journey(out, after_head, runs, stops, legs)
+}
+
+fn put_trains(out: &mut [u8], start: usize, trains: [Train; 12], count: usize) -> usize
+    requires { ⌜ (count ≤ 12) × Each HasPath (take count trains) × (start + length (eachThen trainText (take count trains) []) ≤ length (now out)) ⌝ }
+    ensures { λ r. ⌜ Put (now (out .entry)) (now (out .exit)) start (eachThen trainText (take count trains) []) r ⌝ }
+{
+    let mut at = start;
+    let mut i: usize = 0;
+    while i < count {
+        let train = trains[i];
+        at = put_train(out, at, train);
+        i = i + 1;
+    }
+    at
+}
+
+// The whole text of a line within the limits, from the first byte on.
+fn put_line(out: &mut [u8], line: Line) -> usize
+    requires { ⌜ Within line × (length (textOf line) ≤ length (now out)) ⌝ }
+    ensures { λ r. ⌜ Put (now (out .entry)) (now (out .exit)) 0 (textOf line) r ⌝ }
+{
+    let stations = line.station_count;
+    let n = stations as usize;
+    let tracks = line.tracks;
+    let segments = line.segments;
+    let trains = line.trains;
+    let after_count = put_field(out, 0, stations as u32, LINE_FEED);
+    let after_stations = put_stations(out, after_count, tracks, n);
+    let after_joins = put_field(out, after_stations, (stations - 1) as u32, LINE_FEED);
+    let after_segments = put_segments(out, after_joins, segments, n - 1);
+    let after_number = put_field(out, after_segments, line.train_count as u32, LINE_FEED);
+    put_trains(out, after_number, trains, line.train_count as usize)
+}
+
+fn refused_by(fault: Fault) -> Written
+    ensures { λ r. ⌜ r ≡ refusedBy fault ⌝ }
+{
+    match fault {
+        Fault::None => Written::Length(0),
+        Fault::At(number, place) => Written::Refused(number, place),
+    }
+}
+
+// Writes the record of a line, in range or not, into the lent bytes: the length of its text, or 3, 4 or 6 and no byte changed.
+pub fn write(line: Line, out: &mut [u8]) -> Written
+    ensures { λ r. ⌜ Lent (spelling line) (now (out .entry)) (now (out .exit)) r ⌝ }
+{
+    let fault = fault_of(line);
+    let Fault::None = fault else {
+        return refused_by(fault);
+    };
+    let mut text = [0u8; MAX_BYTES];
+    let count = put_line(&mut text, line);
+    lend_text(&text, count, out)
+}

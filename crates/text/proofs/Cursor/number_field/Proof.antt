@@ -1,0 +1,58 @@
+-- `text::Cursor::number_field` meets its contract: each `return` rewrites with the answers that led there. Assumes nothing.
+use borrow.Author.Needs.{needs}
+use mathlib.Core.Path.{_∙_, sym}
+use Rattle.text.specs.Numbers.{fieldAt}
+use Rattle.text.proofs.Cursor.number_field.Statement.{statement}
+use Rattle.text.proofs.Cursor.number_field.Tie as tie
+
+number-requires : tie.Need-number-requires
+number-requires c κs = search needs
+
+enum-known-n : tie.Need-enum-known-n
+enum-known-n c = search needs
+
+enum-told : tie.Need-enum-told
+enum-told c = search needs
+
+returns : tie.Need-returns
+unfolding fieldAt
+returns c =
+    let e = sym (c .before .before .number .ensures) ∙ c .enum-told .given .1 in
+    simp e
+
+past-requires : tie.Need-past-requires
+past-requires c κs = search needs
+
+enum-known-next : tie.Need-enum-known-next
+enum-known-next c = search needs
+
+enum-told-2 : tie.Need-enum-told-2
+enum-told-2 c = search needs
+
+returns-2 : tie.Need-returns-2
+unfolding fieldAt
+returns-2 c =
+    let number = sym (c .before .before .before .before .before .before .number .ensures) ∙ c .before .before .before .before .n .given .1 in
+    let past = sym (c .before .before .past .ensures) ∙ c .enum-told2 .given .1 in
+    simp (number, past)
+
+returns-3 : tie.Need-returns-3
+unfolding fieldAt
+returns-3 c =
+    let number = sym (c .before .before .before .before .before .before .before .number .ensures) ∙ c .before .before .before .before .before .n .given .1 in
+    let past = sym (c .before .before .before .past .ensures) ∙ c .before .next .given .1 in
+    simp (number, past)
+
+pub number-field-spec : {M : Type 1} → statement M
+number-field-spec =
+    tie.close
+    (tie.spec
+    number-requires
+    enum-known-n
+    enum-told
+    returns
+    past-requires
+    enum-known-next
+    enum-told-2
+    returns-2
+    returns-3)

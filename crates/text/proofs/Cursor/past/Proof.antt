@@ -1,0 +1,38 @@
+-- `text::Cursor::past` meets its contract: the byte that was found stands inside the text, so the position after it fits. Assumes nothing.
+use borrow.Author.Needs.{needs}
+use native.Mathlib.Omega.{arith}
+use mathlib.Core.Path.{_≡_, _∙_, sym}
+use denote.Ref.{now}
+use borrow.Author.Tests.{eq-eqb, ne-eqb}
+use Rattle.text.specs.Bytes.{byteAt, pastOf}
+use Rattle.text.specs.BytesLaws.{inside}
+use Rattle.text.proofs.Cursor.past.Statement.{statement}
+use Rattle.text.proofs.Cursor.past.Tie as tie
+
+byte-requires : tie.Need-byte-requires
+byte-requires c κs = search needs
+
+wide-requires : tie.Need-wide-requires
+wide-requires c κs = search needs
+
+add-t8 : tie.Need-add-t8
+add-t8 c =
+    let a = c .before .before .before .before .before .args in
+    omega (arith, inside (now (a .s)) (a .self .at) (omega arith))
+
+returns : tie.Need-returns
+unfolding pastOf
+returns c =
+    let a = c .before .before .before .before .before .args in
+    let e : byteAt (now (a .s)) (a .self) ≡ a .b = sym (c .before .before .before .byte .ensures) ∙ c .before .if1 .taken ∙ c .before .before .wide .ensures in
+    simp (eq-eqb _ _ e)
+
+returns-2 : tie.Need-returns-2
+unfolding pastOf
+returns-2 c =
+    let a = c .before .before .before .before .args in
+    let ne : byteAt (now (a .s)) (a .self) ≡ a .b → ⊥ = λ e. c .if1 .left (c .before .before .byte .ensures ∙ e ∙ sym (c .before .wide .ensures)) in
+    simp (ne-eqb _ _ ne)
+
+pub past-spec : {M : Type 1} → statement M
+past-spec = tie.close (tie.spec byte-requires wide-requires add-t8 returns returns-2)

@@ -1,0 +1,29 @@
+-- The byte at a cursor, and what it is worth as a digit.
+use Prim.Native.Nat.{ℕ, _+_, _-_}
+use mathlib.Core.List.{List}
+use lib.ListN.{getD, drop}
+use lib.Dec.{ltb, eqb}
+use Rattle.text.specs.declared.Cursor.{Cursor}
+use Rattle.text.specs.declared.Digit.{Digit}
+use Rattle.text.specs.declared.Step.{Step}
+use Rattle.text.specs.Choice.{pick}
+
+-- the byte at a cursor; past the end stands 256, which is no byte
+abbrev pub byteAt : List ℕ → Cursor → ℕ
+byteAt s c = getD s (c .at) 256
+
+-- the text from a cursor on
+abbrev pub from : List ℕ → Cursor → List ℕ
+from s c = drop (c .at) s
+
+-- the cursor one byte on
+abbrev pub ahead : Cursor → Cursor
+ahead c = record { at = c .at + 1 }
+
+-- what a byte is worth as a decimal digit
+unfoldable pub digitOf : ℕ → Digit
+digitOf b = pick (ltb b 48) Digit.Other (pick (ltb 57 b) Digit.Other (Digit.Worth (b - 48)))
+
+-- past the byte b
+unfoldable pub pastOf : List ℕ → Cursor → ℕ → Step
+pastOf s c b = pick (eqb (byteAt s c) b) (Step.Next (ahead c)) Step.Wrong

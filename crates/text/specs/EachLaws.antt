@@ -1,0 +1,21 @@
+-- Laws of what holds of each element of a list.
+use Prim.Native.Nat.{ℕ, zero, suc}
+use mathlib.Core.List.{List, [], _∷_}
+use lib.ListN.{take}
+use Rattle.text.specs.Each.{Each}
+
+-- what holds of each holds of the first n
+pub each-take : {A : Type 0} (P : A → Type 0) (n : ℕ) (xs : List A) → Each P xs → Each P (take n xs)
+each-take P zero xs v = tt
+each-take P (suc n) [] v = tt
+each-take P (suc n) (x ∷ xs) v = (v .0, each-take P n xs (v .1))
+
+-- two properties together
+pub each-both : {A : Type 0} (P Q R : A → Type 0) → ((x : A) → P x → Q x → R x) → (xs : List A) → Each P xs → Each Q xs → Each R xs
+each-both P Q R f [] v w = tt
+each-both P Q R f (x ∷ xs) v w = (f x (v .0) (w .0), each-both P Q R f xs (v .1) (w .1))
+
+-- what follows from a property, of each
+pub each-map : {A : Type 0} (P Q : A → Type 0) → ((x : A) → P x → Q x) → (xs : List A) → Each P xs → Each Q xs
+each-map P Q f [] v = tt
+each-map P Q f (x ∷ xs) v = (f x (v .0), each-map P Q f xs (v .1))

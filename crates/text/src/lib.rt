@@ -1,0 +1,244 @@
+// Fields of a text: the byte at a cursor, a number and the byte after it; and fields written into a lent buffer.
+ghost use mathlib.Core.Path.{_≡_};
+ghost use mathlib.Core.List.{_∷_, []};
+ghost use Prim.Native.Nat.{_+_, _-_, _≤_, _<_};
+ghost use lib.ListN.{length, take};
+ghost use Rattle.text.specs.Bytes.{byteAt, digitOf, pastOf};
+ghost use Rattle.text.specs.Numbers.{numberAt, fieldAt};
+ghost use Rattle.text.specs.Digits.{digits, fieldText};
+ghost use Rattle.text.specs.Splice.{Put};
+ghost use Rattle.text.specs.Limits.{boundedOf};
+ghost use Rattle.text.specs.Parsed.{rangedAt};
+ghost use Rattle.text.specs.Told.{toldField, stoppedBy};
+ghost use Rattle.text.specs.Lend.{Spelling, Lent};
+
+pub const LINE_FEED: u8 = 10;
+
+pub const SPACE: u8 = 32;
+// What stands past the last byte: no byte.
+const END: u32 = 256;
+
+// The reading position.
+pub struct Cursor {
+    pub at: usize,
+}
+
+pub enum Digit {
+    Worth(u32),
+    Other,
+}
+
+pub enum Number {
+    Value(u32, Cursor),
+    Malformed,
+}
+
+pub enum Step {
+    Next(Cursor),
+    Wrong,
+}
+
+// A number and the byte after it.
+pub enum NumberField {
+    Value(u32, Cursor),
+    Malformed,
+}
+
+// A number within the limits of its type, or outside them.
+pub enum Bounded {
+    Within(u16),
+    Outside,
+}
+
+// The limits of a type, both included.
+pub struct Limits {
+    pub min: u16,
+    pub max: u16,
+}
+
+impl Limits {
+    // Builds the value n of the type, or refuses.
+    pub fn value(self, n: u32) -> Bounded
+        ensures { λ r. ⌜ r ≡ boundedOf (self .min) (self .max) n ⌝ }
+    {
+        if n < self.min as u32 {
+            return Bounded::Outside;
+        }
+        if n > self.max as u32 {
+            return Bounded::Outside;
+        }
+        Bounded::Within(n as u16)
+    }
+}
+
+// The numbers with which a field is refused, and the line that it stands on.
+pub struct Faults {
+    pub form: u8,
+    pub range: u8,
+    pub line: usize,
+}
+
+// A number field within its limits, or the refusal with its place.
+pub enum Field {
+    Value(u16, Cursor),
+    Refused(u8, usize),
+}
+
+// How a part of a file ends: past its last byte, or refused.
+pub enum Ending {
+    Done(Cursor),
+    Refused(u8, usize),
+}
+
+// The answer of an operation that writes: the length of the text, or the refusal with its place.
+pub enum Written {
+    Length(usize),
+    Refused(u8, usize),
+}
+
+fn wide(b: u8) -> u32
+    ensures { λ r. ⌜ r ≡ b ⌝ }
+{
+    b as u32
+}
+
+fn digit_of(b: u32) -> Digit
+    ensures { λ r. ⌜ r ≡ digitOf b ⌝ }
+{
+    if b < 48 {
+        return Digit::Other;
+    }
+    if 57 < b {
+        return Digit::Other;
+    }
+    Digit::Worth(b - 48)
+}
+
+impl Cursor {
+    // The byte here, or END.
+    pub fn byte(self, s: &[u8]) -> u32
+        ensures { λ r. ⌜ r ≡ byteAt (now (s .entry)) self ⌝ }
+    {
+        let at = self.at;
+        if at < s.len() { wide(s[at]) } else { END }
+    }
+
+    // Past the byte b.
+    pub fn past(self, s: &[u8], b: u8) -> Step
+        ensures { λ r. ⌜ r ≡ pastOf (now (s .entry)) self b ⌝ }
+    {
+        if self.byte(s) == wide(b) {
+            Step::Next(Cursor { at: self.at + 1 })
+        } else {
+            Step::Wrong
+        }
+    }
+
+    // A number of one to `most` digits, with no leading zero.
+    pub fn number(self, s: &[u8], most: usize) -> Number
+        requires { ⌜ (1 ≤ most) × (most ≤ 7) ⌝ }
+        ensures { λ r. ⌜ r ≡ numberAt most (now (s .entry)) self ⌝ }
+    {
+        let Digit::Worth(first) = digit_of(self.byte(s)) else {
+            return Number::Malformed;
+        };
+        let mut next = Cursor { at: self.at + 1 };
+        if first == 0 {
+            return Number::Value(0, next);
+        }
+        let mut value = first;
+        let mut left = most - 1;
+        while left > 0 {
+            let Digit::Worth(d) = digit_of(next.byte(s)) else {
+                break;
+            };
+            value = value * 10 + d;
+            next = Cursor { at: next.at + 1 };
+            left = left - 1;
+        }
+        Number::Value(value, next)
+    }
+
+    // A number of one to `most` digits and the byte b after it.
+    pub fn number_field(self, s: &[u8], most: usize, b: u8) -> NumberField
+        requires { ⌜ (1 ≤ most) × (most ≤ 7) ⌝ }
+        ensures { λ r. ⌜ r ≡ fieldAt most (now (s .entry)) self b ⌝ }
+    {
+        let Number::Value(n, after) = self.number(s, most) else {
+            return NumberField::Malformed;
+        };
+        let Step::Next(next) = after.past(s, b) else {
+            return NumberField::Malformed;
+        };
+        NumberField::Value(n, next)
+    }
+
+    // A number of one to four digits within its limits, with the byte b after it: form, byte after, then range.
+    pub fn ranged(self, s: &[u8], b: u8, limits: Limits, faults: Faults) -> Field
+        ensures { λ r. ⌜ toldField r ≡ rangedAt (faults .form) (faults .range) (limits .min) (limits .max) b (faults .line) (now (s .entry)) self ⌝ }
+    {
+        let NumberField::Value(n, next) = self.number_field(s, 4, b) else {
+            return Field::Refused(faults.form, faults.line);
+        };
+        let Bounded::Within(v) = limits.value(n) else {
+            return Field::Refused(faults.range, faults.line);
+        };
+        Field::Value(v, next)
+    }
+}
+
+// A field's refusal ends the part of the file that it stands in.
+pub fn stopped(field: Field) -> Ending
+    ensures { λ r. ⌜ r ≡ stoppedBy field ⌝ }
+{
+    match field {
+        Field::Value(_, next) => Ending::Done(next),
+        Field::Refused(number, place) => Ending::Refused(number, place),
+    }
+}
+
+// The byte b at position `at`; answers the position after it.
+pub fn put_byte(out: &mut [u8], at: usize, b: u8) -> usize
+    requires { ⌜ at < length (now out) ⌝ }
+    ensures { λ r. ⌜ Put (now (out .entry)) (now (out .exit)) at (b ∷ []) r ⌝ }
+{
+    out[at] = b;
+    at + 1
+}
+
+// The digits of n from position `at` on; answers the position after them.
+pub fn put_number(out: &mut [u8], at: usize, n: u32) -> usize
+    requires { ⌜ (at + length (digits n) ≤ length (now out)) × (n < 10000000) ⌝ }
+    ensures { λ r. ⌜ Put (now (out .entry)) (now (out .exit)) at (digits n) r ⌝ }
+{
+    if n < 10 {
+        return put_byte(out, at, (n % 10) as u8 + 48);
+    }
+    let next = put_number(out, at, n / 10);
+    put_byte(out, next, (n % 10) as u8 + 48)
+}
+
+// The digits of n and the byte b after them.
+pub fn put_field(out: &mut [u8], at: usize, n: u32, b: u8) -> usize
+    requires { ⌜ (at + length (fieldText n b) ≤ length (now out)) × (n < 10000000) ⌝ }
+    ensures { λ r. ⌜ Put (now (out .entry)) (now (out .exit)) at (fieldText n b) r ⌝ }
+{
+    let next = put_number(out, at, n);
+    put_byte(out, next, b)
+}
+
+// The first `count` bytes of a text, copied into the lent bytes if they fit; refused by 6, and nothing changed, if they do not.
+pub fn lend_text(text: &[u8], count: usize, out: &mut [u8]) -> Written
+    requires { ⌜ count ≤ length (now text) ⌝ }
+    ensures { λ r. ⌜ Lent (Spelling.text (take count (now (text .entry)))) (now (out .entry)) (now (out .exit)) r ⌝ }
+{
+    if out.len() < count {
+        return Written::Refused(6, 0);
+    }
+    let mut i: usize = 0;
+    while i < count {
+        out[i] = text[i];
+        i = i + 1;
+    }
+    Written::Length(count)
+}

@@ -1,0 +1,92 @@
+//! How long the proved library takes to read and to rewrite a full-size line file, beside the
+//! independent implementation: same file, same process, rounds in turn, so that both meet the same
+//! machine. It prints times and their ratio and judges nothing.
+
+use std::hint::black_box;
+use std::time::Instant;
+
+use inputs::{full_size, Fields, Random};
+
+const ROUNDS: usize = 400;
+const CALLS: u32 = 200;
+
+/// Nanoseconds per call, one entry for each round.
+#[derive(Default)]
+struct Times {
+    rounds: Vec<f64>,
+}
+
+impl Times {
+    fn round(&mut self, mut call: impl FnMut()) {
+        let start = Instant::now();
+        for _ in 0..CALLS {
+            call();
+        }
+        self.rounds
+            .push(start.elapsed().as_nanos() as f64 / f64::from(CALLS));
+    }
+
+    /// The best and the median round.
+    fn sum_up(mut self) -> (f64, f64) {
+        self.rounds.sort_by(f64::total_cmp);
+        (self.rounds[0], self.rounds[self.rounds.len() / 2])
+    }
+}
+
+fn report(job: &str, library: Times, independent: Times) {
+    let (library_best, library_median) = library.sum_up();
+    let (own_best, own_median) = independent.sum_up();
+    println!("{job:8} library      best {library_best:8.0} ns  median {library_median:8.0} ns");
+    println!("{job:8} independent  best {own_best:8.0} ns  median {own_median:8.0} ns");
+    println!(
+        "{job:8} ratio        best {:8.2}     median {:8.2}",
+        library_best / own_best,
+        library_median / own_median
+    );
+}
+
+fn reading(file: &[u8]) {
+    let (mut library, mut independent) = (Times::default(), Times::default());
+    for _ in 0..ROUNDS {
+        library.round(|| {
+            black_box(gaugeviolet::read(black_box(file))).expect("a line file");
+        });
+        independent.round(|| {
+            // The record is made in full, as the library makes its own: the reference to it escapes.
+            black_box(&independent::read(black_box(file)).expect("a line file"));
+        });
+    }
+    report("read", library, independent);
+}
+
+fn rewriting(file: &[u8]) {
+    let (mut library, mut independent) = (Times::default(), Times::default());
+    let mut lent = [0; gaugeviolet::FILE_BYTES];
+    for _ in 0..ROUNDS {
+        library.round(|| {
+            let length = gaugeviolet::rewrite(black_box(file), black_box(&mut lent));
+            assert_eq!(length, Ok(file.len()));
+        });
+        assert_eq!(&lent[..file.len()], file);
+        lent.fill(0);
+        independent.round(|| {
+            let length = independent::rewrite(black_box(file), black_box(&mut lent));
+            assert_eq!(length, Ok(file.len()));
+        });
+        assert_eq!(&lent[..file.len()], file);
+        lent.fill(0);
+    }
+    report("rewrite", library, independent);
+}
+
+fn main() {
+    let file = Fields::of(&full_size(&mut Random::new(1))).text();
+    println!(
+        "A file of {} bytes: 12 stations, 12 trains over the whole line. {ROUNDS} rounds of {CALLS} \
+         calls for each, in turn.",
+        file.len()
+    );
+    println!("The lent buffer is cleared between rounds, outside the time, and not between calls.");
+    reading(&file);
+    rewriting(&file);
+}

@@ -1,0 +1,26 @@
+//! The functions of the static library `screen`, and the only unsafe code: one call of each.
+//!
+//! Nothing checks these declarations against the Rattle source `crates/screen/src/lib.rt`: a change
+//! there is made here too. A Rattle `&[u8]` or `&mut [u8]` is passed as a pointer and a length.
+//!
+//! None of the functions has a `requires`, so each is proved to keep within the lent bytes and to
+//! return, for whatever bytes and lengths are lent.
+
+#![allow(unsafe_code)]
+
+extern "C" {
+    fn gaugeviolet_read(file: *const u8, file_len: usize) -> u64;
+    fn gaugeviolet_rewrite(file: *const u8, file_len: usize, out: *mut u8, out_len: usize) -> u64;
+}
+
+pub(crate) fn read(file: &[u8]) -> u64 {
+    // SAFETY: pointer and length are those of one slice, which is lent, unchanged, until the call
+    // returns; the function only reads it. An empty slice's pointer is not null, and no byte is read.
+    unsafe { gaugeviolet_read(file.as_ptr(), file.len()) }
+}
+
+pub(crate) fn rewrite(file: &[u8], out: &mut [u8]) -> u64 {
+    // SAFETY: as for `read`; and `out` is lent for writing to this call alone, so it does not overlap
+    // `file`, as Rattle asks of a `&mut` slice. All its bytes hold a value before and after.
+    unsafe { gaugeviolet_rewrite(file.as_ptr(), file.len(), out.as_mut_ptr(), out.len()) }
+}

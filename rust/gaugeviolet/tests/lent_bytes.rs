@@ -1,0 +1,65 @@
+//! Rewriting with every number of lent bytes: the text and nothing else is written, or no byte.
+
+mod common;
+
+use common::{Compared, Least};
+use inputs::{full_size, sizes, Density, Fields, Random};
+
+#[test]
+fn every_lent_length_for_an_accepted_file() {
+    let mut random = Random::new(20);
+    let mut compared = Compared::new();
+    let mut texts = vec![Fields::of(&full_size(&mut random)).text()];
+    for (stations, trains) in sizes() {
+        texts.push(Fields::of(&inputs::line(&mut random, stations, trains, Density::Dense)).text());
+    }
+    for text in &texts {
+        compared.file(text);
+        for lent in 0..text.len() {
+            compared.lent(text, lent, Err((6, 0)));
+        }
+        for lent in text.len()..text.len() + 100 {
+            compared.lent(text, lent, Ok(text));
+        }
+        for lent in [4095, 4096, 4097, 8192] {
+            compared.lent(text, lent, Ok(text));
+        }
+    }
+    let least = Least {
+        inputs: 144,
+        accepted: 144,
+        numbers: &[6],
+        places: 1,
+    };
+    compared.ends("lent to an accepted file", least);
+}
+
+#[test]
+fn every_lent_length_for_a_refused_file() {
+    let mut compared = Compared::new();
+    // Each is refused at its end or past it, when all of a text could have been written.
+    let good = "3\n2\n2\n2\n2\nS 5 4\nS 5 4\n2\n1 3 0 200 1 20 0 20\n";
+    let refusals = [
+        (format!("{good}3 1 0 200 2 15 0 15\n\n"), (2, 11)),
+        (format!("{good}3 1 0 200 2 15 0 15"), (2, 10)),
+        (format!("{good}3 1 0 200 2 15 0 241\n"), (3, 10)),
+        (format!("{good}3 3 0 200 2 15 0 15\n"), (4, 10)),
+        (
+            format!("{good}3 1 0 200 2 15 0 15\n{}", "x".repeat(4100)),
+            (1, 0),
+        ),
+    ];
+    for (file, refusal) in &refusals {
+        compared.file(file.as_bytes());
+        for lent in (0..300).chain([4095, 4096, 4097, 8192]) {
+            compared.lent(file.as_bytes(), lent, Err(*refusal));
+        }
+    }
+    let least = Least {
+        inputs: 5,
+        accepted: 0,
+        numbers: &[1, 2, 3, 4],
+        places: 3,
+    };
+    compared.ends("lent to a refused file", least);
+}

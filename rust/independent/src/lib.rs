@@ -1,0 +1,183 @@
+//! Line files read and written in plain Rust, from the scope document alone.
+//!
+//! Nothing here comes from the proved crates or calls them: the tests compare the two, so a mistake
+//! has to be made twice to pass. The reader and the writer allocate nothing (only [`write`] hands
+//! out a vector), so the benchmark can compare times as well.
+
+#![forbid(unsafe_code)]
+
+mod reader;
+mod writer;
+
+#[cfg(test)]
+mod readings;
+
+pub use reader::read;
+pub use writer::{rewrite, write, write_into};
+
+/// The most bytes a line file may have.
+pub const FILE_BYTES: usize = 4096;
+/// The most stations of a line.
+pub const STATIONS: usize = 12;
+/// The most segments of a line.
+pub const SEGMENTS: usize = STATIONS - 1;
+/// The most trains of a line.
+pub const TRAINS: usize = 12;
+
+/// A range of a field, both ends included.
+#[derive(Clone, Copy, Debug, PartialEq, Eq)]
+pub struct Limits {
+    /// The lowest number allowed.
+    pub least: u16,
+    /// The highest number allowed.
+    pub most: u16,
+}
+
+impl Limits {
+    /// How many stations.
+    pub const STATION_COUNT: Limits = Limits::new(2, STATIONS as u16);
+    /// How many tracks at a station.
+    pub const TRACKS: Limits = Limits::new(1, 12);
+    /// A following or an opposing gap.
+    pub const GAP: Limits = Limits::new(1, 60);
+    /// How many trains.
+    pub const TRAIN_COUNT: Limits = Limits::new(0, TRAINS as u16);
+    /// A minute of the timetable.
+    pub const MINUTE: Limits = Limits::new(0, 2879);
+    /// A train's weight.
+    pub const WEIGHT: Limits = Limits::new(0, 99);
+    /// Minutes of running on a segment.
+    pub const RUN: Limits = Limits::new(1, 240);
+    /// Minutes of stop at a middle station.
+    pub const STOP: Limits = Limits::new(0, 240);
+
+    /// The range from `least` to `most`.
+    pub const fn new(least: u16, most: u16) -> Limits {
+        Limits { least, most }
+    }
+
+    /// Whether `number` lies within the range.
+    #[inline]
+    pub const fn hold(self, number: u16) -> bool {
+        self.least <= number && number <= self.most
+    }
+}
+
+/// Why a line file or a record was turned down: the number of the scope document and its place.
+#[derive(Clone, Copy, Debug, PartialEq, Eq, PartialOrd, Ord)]
+pub struct Refusal {
+    /// 1 too long, 2 form, 3 range, 4 destination equals origin, 6 lent bytes too few.
+    pub number: u32,
+    /// The line of the fault, from 1; 0 for numbers 1 and 6.
+    pub place: u32,
+}
+
+impl Refusal {
+    pub(crate) const TOO_LONG: Refusal = Refusal {
+        number: 1,
+        place: 0,
+    };
+    pub(crate) const LENT_TOO_FEW: Refusal = Refusal {
+        number: 6,
+        place: 0,
+    };
+
+    pub(crate) const fn form(line: u32) -> Refusal {
+        Refusal {
+            number: 2,
+            place: line,
+        }
+    }
+
+    pub(crate) const fn range(line: u32) -> Refusal {
+        Refusal {
+            number: 3,
+            place: line,
+        }
+    }
+
+    pub(crate) const fn same_station(line: u32) -> Refusal {
+        Refusal {
+            number: 4,
+            place: line,
+        }
+    }
+}
+
+/// What kind of track a segment has.
+#[derive(Clone, Copy, Debug, Default, PartialEq, Eq)]
+pub enum Kind {
+    /// Single track with one train at a time.
+    #[default]
+    S,
+    /// Single track on which trains of one direction may follow each other.
+    F,
+    /// Double track.
+    D,
+}
+
+impl Kind {
+    /// The kind's letter in the file.
+    #[inline]
+    pub const fn letter(self) -> u8 {
+        match self {
+            Kind::S => b'S',
+            Kind::F => b'F',
+            Kind::D => b'D',
+        }
+    }
+}
+
+/// The track between two neighbouring stations.
+#[derive(Clone, Copy, Debug, Default, PartialEq, Eq)]
+pub struct Segment {
+    /// The kind of track.
+    pub kind: Kind,
+    /// Minutes between trains of one direction.
+    pub following: u16,
+    /// Minutes between trains of opposite directions; kept, and unused, on kind D.
+    pub opposing: u16,
+}
+
+/// A train with its path and times.
+#[derive(Clone, Copy, Debug, Default, PartialEq, Eq)]
+pub struct Train {
+    /// The station it starts from, from 1.
+    pub origin: u16,
+    /// The station it goes to, from 1.
+    pub destination: u16,
+    /// The earliest minute of its first departure.
+    pub earliest: u16,
+    /// The latest minute of its last arrival.
+    pub latest: u16,
+    /// What a minute of its delay costs.
+    pub weight: u16,
+    /// Minutes of running on each of its segments, in travel order.
+    pub runs: [u16; SEGMENTS],
+    /// Minutes of stop after each of its segments but the last, in travel order.
+    pub stops: [u16; SEGMENTS],
+}
+
+impl Train {
+    /// The number of segments on its path.
+    #[inline]
+    pub fn legs(&self) -> usize {
+        usize::from(self.origin.abs_diff(self.destination))
+    }
+}
+
+/// A line: what a line file says. Entries beyond a count are 0 (a kind is S) after reading and are
+/// ignored in writing.
+#[derive(Clone, Copy, Debug, Default, PartialEq, Eq)]
+pub struct Line {
+    /// How many stations there are.
+    pub station_count: u16,
+    /// The tracks of each station.
+    pub tracks: [u16; STATIONS],
+    /// The segments; segment p joins stations p and p + 1, counted from 1.
+    pub segments: [Segment; SEGMENTS],
+    /// How many trains there are.
+    pub train_count: u16,
+    /// The trains.
+    pub trains: [Train; TRAINS],
+}

@@ -1,0 +1,158 @@
+//! Writing a line: its fields in the reader's order, each held to its range.
+
+use crate::{Limits, Line, Refusal, Segment, Train, FILE_BYTES, SEGMENTS};
+
+/// The bytes of the longest line within the limits: 39 for the stations, 91 for the segments, 3 for
+/// the train count, and 102 for each of 12 trains.
+const LONGEST: usize = 1357;
+
+/// The text of `line`, or 3 or 4 with the line that the first bad field would have.
+pub fn write(line: &Line) -> Result<Vec<u8>, Refusal> {
+    let mut lent = [0; FILE_BYTES];
+    let length = write_into(line, &mut lent)?;
+    Ok(lent[..length].to_vec())
+}
+
+/// Writes `line` to the front of `lent` and returns the text's length; 3 or 4 as in [`write`], then
+/// 6 where `lent` has fewer bytes than the text. A refusal changes no lent byte.
+pub fn write_into(line: &Line, lent: &mut [u8]) -> Result<usize, Refusal> {
+    check(line)?;
+    let mut text = Text {
+        bytes: [0; LONGEST + 4],
+        length: 0,
+    };
+    text.line(line);
+    let written = &text.bytes[..text.length];
+    match lent.get_mut(..written.len()) {
+        Some(front) => front.copy_from_slice(written),
+        None => return Err(Refusal::LENT_TOO_FEW),
+    }
+    Ok(written.len())
+}
+
+/// Reads `file` and writes its line to the front of `lent`.
+pub fn rewrite(file: &[u8], lent: &mut [u8]) -> Result<usize, Refusal> {
+    write_into(&crate::read(file)?, lent)
+}
+
+/// The first field of `line` that is outside its range, or a destination that equals its origin.
+fn check(line: &Line) -> Result<(), Refusal> {
+    field(line.station_count, Limits::STATION_COUNT, 1)?;
+    let stations = usize::from(line.station_count);
+    let mut place = 1;
+    for &tracks in &line.tracks[..stations] {
+        place += 1;
+        field(tracks, Limits::TRACKS, place)?;
+    }
+    place += 1;
+    for segment in &line.segments[..stations - 1] {
+        place += 1;
+        field(segment.following, Limits::GAP, place)?;
+        field(segment.opposing, Limits::GAP, place)?;
+    }
+    place += 1;
+    field(line.train_count, Limits::TRAIN_COUNT, place)?;
+    for train in &line.trains[..usize::from(line.train_count)] {
+        place += 1;
+        check_train(train, Limits::new(1, line.station_count), place)?;
+    }
+    Ok(())
+}
+
+fn check_train(train: &Train, stations: Limits, place: u32) -> Result<(), Refusal> {
+    field(train.origin, stations, place)?;
+    field(train.destination, stations, place)?;
+    if train.destination == train.origin {
+        return Err(Refusal::same_station(place));
+    }
+    field(train.earliest, Limits::MINUTE, place)?;
+    field(train.latest, Limits::MINUTE, place)?;
+    field(train.weight, Limits::WEIGHT, place)?;
+    // The number of the fault is the same for a run and a stop, so their order does not show.
+    let last = train.legs() - 1;
+    let runs_hold = train.runs[..=last].iter().all(|&run| Limits::RUN.hold(run));
+    let stops_hold = train.stops[..last]
+        .iter()
+        .all(|&stop| Limits::STOP.hold(stop));
+    if runs_hold && stops_hold {
+        Ok(())
+    } else {
+        Err(Refusal::range(place))
+    }
+}
+
+#[inline]
+fn field(number: u16, limits: Limits, place: u32) -> Result<(), Refusal> {
+    if limits.hold(number) {
+        Ok(())
+    } else {
+        Err(Refusal::range(place))
+    }
+}
+
+/// The text as far as it is made: built apart, so that nothing lent is touched before all of it is
+/// known to fit. Four bytes more than the longest text leave room for the last number's piece.
+struct Text {
+    bytes: [u8; LONGEST + 4],
+    length: usize,
+}
+
+impl Text {
+    fn line(&mut self, line: &Line) {
+        let stations = usize::from(line.station_count);
+        self.number(line.station_count, b'\n');
+        for &tracks in &line.tracks[..stations] {
+            self.number(tracks, b'\n');
+        }
+        self.number(line.station_count - 1, b'\n');
+        for segment in &line.segments[..stations - 1] {
+            self.segment(segment);
+        }
+        self.number(line.train_count, b'\n');
+        for train in &line.trains[..usize::from(line.train_count)] {
+            self.train(train);
+        }
+    }
+
+    fn segment(&mut self, segment: &Segment) {
+        self.byte(segment.kind.letter());
+        self.byte(b' ');
+        self.number(segment.following, b' ');
+        self.number(segment.opposing, b'\n');
+    }
+
+    fn train(&mut self, train: &Train) {
+        self.number(train.origin, b' ');
+        self.number(train.destination, b' ');
+        self.number(train.earliest, b' ');
+        self.number(train.latest, b' ');
+        self.number(train.weight, b' ');
+        let last = (train.legs() - 1).min(SEGMENTS - 1);
+        for (&run, &stop) in train.runs[..last].iter().zip(&train.stops) {
+            self.number(run, b' ');
+            self.number(stop, b' ');
+        }
+        self.number(train.runs[last], b'\n');
+    }
+
+    #[inline]
+    fn byte(&mut self, byte: u8) {
+        self.bytes[self.length] = byte;
+        self.length += 1;
+    }
+
+    /// A number of at most four digits and the byte `after` it, stored as one piece of five bytes:
+    /// those past the field are written over by the next one.
+    #[inline]
+    fn number(&mut self, number: u16, after: u8) {
+        let digit = |unit: u16| b'0' + (number / unit % 10) as u8;
+        let (piece, length) = match number {
+            0..10 => ([digit(1), after, 0, 0, 0], 2),
+            10..100 => ([digit(10), digit(1), after, 0, 0], 3),
+            100..1000 => ([digit(100), digit(10), digit(1), after, 0], 4),
+            _ => ([digit(1000), digit(100), digit(10), digit(1), after], 5),
+        };
+        self.bytes[self.length..self.length + 5].copy_from_slice(&piece);
+        self.length += length;
+    }
+}

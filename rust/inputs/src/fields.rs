@@ -1,0 +1,72 @@
+//! The text of a line as lines of fields, so that a test can put something else in a field's place.
+
+use independent::Line;
+
+/// A line file, taken apart: its lines, and the fields of each.
+#[derive(Clone, Debug)]
+pub struct Fields {
+    lines: Vec<Vec<String>>,
+}
+
+impl Fields {
+    /// The fields of `line`, which is within the limits.
+    pub fn of(line: &Line) -> Fields {
+        let stations = usize::from(line.station_count);
+        let trains = usize::from(line.train_count);
+        let mut lines = vec![vec![stations.to_string()]];
+        lines.extend(
+            line.tracks[..stations]
+                .iter()
+                .map(|tracks| vec![tracks.to_string()]),
+        );
+        lines.push(vec![(stations - 1).to_string()]);
+        for segment in &line.segments[..stations - 1] {
+            let kind = char::from(segment.kind.letter()).to_string();
+            lines.push(vec![
+                kind,
+                segment.following.to_string(),
+                segment.opposing.to_string(),
+            ]);
+        }
+        lines.push(vec![trains.to_string()]);
+        for train in &line.trains[..trains] {
+            let mut numbers = vec![
+                train.origin,
+                train.destination,
+                train.earliest,
+                train.latest,
+                train.weight,
+            ];
+            for leg in 0..train.legs() {
+                numbers.push(train.runs[leg]);
+                numbers.push(train.stops[leg]);
+            }
+            // No stop follows the last run.
+            numbers.pop();
+            lines.push(numbers.iter().map(u16::to_string).collect());
+        }
+        Fields { lines }
+    }
+
+    /// The text of the file.
+    pub fn text(&self) -> Vec<u8> {
+        self.lines
+            .iter()
+            .flat_map(|fields| (fields.join(" ") + "\n").into_bytes())
+            .collect()
+    }
+
+    /// Where the fields are: line and field, both from 0.
+    pub fn places(&self) -> Vec<(usize, usize)> {
+        let each =
+            |(line, fields): (usize, &Vec<String>)| (0..fields.len()).map(move |at| (line, at));
+        self.lines.iter().enumerate().flat_map(each).collect()
+    }
+
+    /// The text with something else in the place of one field.
+    pub fn text_with(&self, (line, at): (usize, usize), replaced: &str) -> Vec<u8> {
+        let mut altered = self.clone();
+        altered.lines[line][at] = replaced.to_string();
+        altered.text()
+    }
+}

@@ -1,0 +1,156 @@
+//! Line files for tests and benchmarks: random lines within the limits, files with fields altered,
+//! files with bytes damaged. Everything comes from a seed, so a failure can be seen again.
+
+#![forbid(unsafe_code)]
+
+mod damage;
+mod fields;
+mod random;
+
+pub use damage::{damage_bytes, damage_lines};
+pub use fields::Fields;
+pub use random::Random;
+
+use independent::{Kind, Limits, Line, Segment, Train, SEGMENTS, STATIONS, TRAINS};
+
+/// How much a random line holds.
+#[derive(Clone, Copy, Debug, PartialEq, Eq)]
+pub enum Density {
+    /// Trains over a few segments, short numbers.
+    Sparse,
+    /// Trains over the whole line, numbers over the whole of their range and often at its ends.
+    Dense,
+}
+
+/// Every station count with every train count.
+pub fn sizes() -> impl Iterator<Item = (u16, u16)> {
+    (2..=STATIONS as u16)
+        .flat_map(|stations| (0..=TRAINS as u16).map(move |trains| (stations, trains)))
+}
+
+/// A random line within the limits.
+pub fn line(random: &mut Random, stations: u16, trains: u16, density: Density) -> Line {
+    let mut line = Line {
+        station_count: stations,
+        train_count: trains,
+        ..Line::default()
+    };
+    for tracks in &mut line.tracks[..usize::from(stations)] {
+        *tracks = number(random, Limits::TRACKS, density);
+    }
+    for segment in &mut line.segments[..usize::from(stations) - 1] {
+        *segment = Segment {
+            kind: [Kind::S, Kind::F, Kind::D][random.below(3)],
+            following: number(random, Limits::GAP, density),
+            opposing: number(random, Limits::GAP, density),
+        };
+    }
+    for train in &mut line.trains[..usize::from(trains)] {
+        *train = self::train(random, stations, density);
+    }
+    line
+}
+
+fn train(random: &mut Random, stations: u16, density: Density) -> Train {
+    let (origin, destination) = path(random, stations, density);
+    let mut train = Train {
+        origin,
+        destination,
+        earliest: number(random, Limits::MINUTE, density),
+        latest: number(random, Limits::MINUTE, density),
+        weight: number(random, Limits::WEIGHT, density),
+        ..Train::default()
+    };
+    let legs = train.legs();
+    for run in &mut train.runs[..legs] {
+        *run = number(random, Limits::RUN, density);
+    }
+    for stop in &mut train.stops[..legs - 1] {
+        *stop = number(random, Limits::STOP, density);
+    }
+    train
+}
+
+/// Origin and destination: far apart on a dense line, near each other on a sparse one.
+fn path(random: &mut Random, stations: u16, density: Density) -> (u16, u16) {
+    let legs = match density {
+        Density::Dense if random.below(4) > 0 => stations - 1,
+        Density::Dense => random.within(1, stations - 1),
+        Density::Sparse => random.within(1, 3.min(stations - 1)),
+    };
+    let low = random.within(1, stations - legs);
+    if random.below(2) == 0 {
+        (low, low + legs)
+    } else {
+        (low + legs, low)
+    }
+}
+
+fn number(random: &mut Random, limits: Limits, density: Density) -> u16 {
+    match (density, random.below(4)) {
+        (Density::Sparse, _) => random.within(limits.least, limits.most.min(limits.least + 12)),
+        (Density::Dense, 0) => limits.least,
+        (Density::Dense, 1) => limits.most,
+        (Density::Dense, _) => random.within(limits.least, limits.most),
+    }
+}
+
+/// The line with the longest text: 12 stations, 12 trains over the whole line, every number as long
+/// as its range allows. The numbers vary, and so do the kinds and directions.
+pub fn full_size(random: &mut Random) -> Line {
+    let mut line = Line {
+        station_count: STATIONS as u16,
+        train_count: TRAINS as u16,
+        ..Line::default()
+    };
+    line.tracks.fill_with(|| random.within(10, 12));
+    line.segments.fill_with(|| Segment {
+        kind: [Kind::S, Kind::F, Kind::D][random.below(3)],
+        following: random.within(10, 60),
+        opposing: random.within(10, 60),
+    });
+    line.trains.fill_with(|| full_size_train(random));
+    line
+}
+
+fn full_size_train(random: &mut Random) -> Train {
+    let ends = [(1, STATIONS as u16), (STATIONS as u16, 1)];
+    let (origin, destination) = ends[random.below(2)];
+    let mut train = Train {
+        origin,
+        destination,
+        earliest: random.within(1000, 2879),
+        latest: random.within(1000, 2879),
+        weight: random.within(10, 99),
+        ..Train::default()
+    };
+    train.runs.fill_with(|| random.within(100, 240));
+    train.stops[..SEGMENTS - 1].fill_with(|| random.within(100, 240));
+    train
+}
+
+#[cfg(test)]
+mod tests {
+    use super::*;
+
+    #[test]
+    fn every_random_line_is_within_the_limits_and_reads_back() {
+        let mut random = Random::new(1);
+        for (stations, trains) in sizes() {
+            for density in [Density::Sparse, Density::Dense] {
+                let line = line(&mut random, stations, trains, density);
+                let text = Fields::of(&line).text();
+                assert_eq!(independent::read(&text), Ok(line));
+                assert_eq!(independent::write(&line), Ok(text));
+            }
+        }
+    }
+
+    #[test]
+    fn the_full_size_line_has_the_longest_text() {
+        let line = full_size(&mut Random::new(2));
+        let text = Fields::of(&line).text();
+        assert_eq!(text.len(), 1357);
+        assert_eq!(independent::read(&text), Ok(line));
+    }
+}
