@@ -2,22 +2,20 @@
 use Prim.Native.Nat.{ℕ, zero, suc, _+_, _-_, _<_, _≤_}
 use mathlib.Core.Path.{_≡_, refl, sym, ap, _∙_}
 use mathlib.Core.Bool.{Bool, true, false}
-use mathlib.Core.List.{List, [], _∷_, _++_}
+use mathlib.Core.List.{List, [], _∷_}
 use native.Mathlib.Omega.{arith}
-use borrow.Author.Tests.{ltb-true, ltb-false, eqb-true, eqb-false}
+use borrow.Author.Tests.{ltb-false, eqb-false}
 use lib.Dec.{ltb, eqb}
-use lib.ListN.{length, take, drop, drop-of-length-le, length-replicate, replicate}
-use lib.Seq.{sets, length-sets}
+use lib.ListN.{length, take, drop-of-length-le}
 use Rattle.text.specs.declared.Cursor.{Cursor}
 use Rattle.text.specs.declared.Limits.{Limits}
 use Rattle.text.specs.declared.Step.{Step}
 use Rattle.text.specs.Choice.{pick, onStep}
 use Rattle.text.specs.Bytes.{byteAt, from, ahead, pastOf}
-use Rattle.text.specs.BytesLaws.{inside, from-cons, past-spelt}
-use Rattle.text.specs.Digits.{digits}
+use Rattle.text.specs.BytesLaws.{from-cons, past-spelt}
 use Rattle.text.specs.Lists.{padded, take-padded, padded-length}
 use Rattle.text.specs.Each.{eachThen, Each}
-use Rattle.text.specs.Parsed.{Parsed, thenRead, many}
+use Rattle.text.specs.Parsed.{Parsed, many}
 use Rattle.text.specs.ParsedLaws.{then-got, got-is, ranged-spelt, PartSpelt, many-spelt}
 use Rattle.line.specs.declared.Kind.{Kind}
 use Rattle.line.specs.declared.Segment.{Segment}
@@ -27,10 +25,12 @@ use Rattle.line.specs.declared.reading.Letter.{Letter}
 use Rattle.line.specs.declared.reading.Path.{Path}
 use Rattle.line.specs.declared.reading.Head.{Head}
 use Rattle.line.specs.Ranges.{In, stationCount, tracks, gap, trainCount, station, time, weight, run, stop}
-use Rattle.line.specs.Record.{noSegment, noTrain, legsBetween, legsOf, tidyTrain, tidyLine, runsOf, stopsOf, tracksOf, segmentsOf, trainsOf}
+use Rattle.line.specs.Record.{noSegment, noTrain, legsBetween, tidyTrain}
 use Rattle.line.specs.File.{number, stationLine, letterOf, onLetter, kindAt, segmentLine, pathAt, headAt, Journey, journeyAt, trainWith, trainLine, trainsPart, segmentsPart, stationsPart, lineFile}
-use Rattle.line.specs.Spell.{field, stationText, letterByte, segmentText, journeyText, headText, trainText, textOf}
-use Rattle.line.specs.Within.{SegmentWithin, TrainWithin, Within, TrainArrays, Arrays}
+use Rattle.line.specs.Spell.{field, stationText, letterByte, segmentText, journeyText, trainText}
+use Rattle.line.specs.RecordLaws.{path-legs}
+use Rattle.line.specs.FileLaws.{letter-byte, letter-inside}
+use Rattle.line.specs.Within.{SegmentWithin, TrainWithin, TrainArrays}
 
 -- a number that was read
 pub record NumberSpelt (r : Limits) (b : ℕ) (s : List ℕ) (c : Cursor) (n : ℕ) (next : Cursor) : Type 0 where
@@ -51,21 +51,6 @@ station-spelt s p c t next e =
 
 -- ---- segments
 
-letter-byte : (b : ℕ) (k : Kind) → letterOf b ≡ Letter.Found k → b ≡ letterByte k
-unfolding letterOf
-letter-byte b k e = go (eqb b 83) (eqb b 70) (eqb b 68) refl refl refl e
-  where
-    go : (p q r : Bool) → eqb b 83 ≡ p → eqb b 70 ≡ q → eqb b 68 ≡ r → pick p (Letter.Found Kind.S) (pick q (Letter.Found Kind.F) (pick r (Letter.Found Kind.D) Letter.Other)) ≡ Letter.Found k → b ≡ letterByte k
-    go true q r hp hq hr h = let z : Kind.S ≡ k = cc in eqb-true b 83 hp ∙ ap letterByte z
-    go false true r hp hq hr h = let z : Kind.F ≡ k = cc in eqb-true b 70 hq ∙ ap letterByte z
-    go false false true hp hq hr h = let z : Kind.D ≡ k = cc in eqb-true b 68 hr ∙ ap letterByte z
-    go false false false hp hq hr h = let z : _≡_ {A = ℕ} 0 1 = cc in absurd (omega arith)
-
-letter-small : (k : Kind) → letterByte k < 256
-letter-small Kind.S = omega arith
-letter-small Kind.F = omega arith
-letter-small Kind.D = omega arith
-
 kind-spelt : (p : ℕ) (s : List ℕ) (c : Cursor) (k : Kind) (next : Cursor) → kindAt p s c ≡ Parsed.got k next → from s c ≡ letterByte k ∷ (32 ∷ from s next)
 unfolding kindAt
 kind-spelt p s c k next e = go (letterOf (byteAt s c)) refl e
@@ -75,7 +60,7 @@ kind-spelt p s c k next e = go (letterOf (byteAt s c)) refl e
         let q : m ≡ k = cc in
         let z : x ≡ next = cc in
         let w = letter-byte (byteAt s c) m hx in
-        let t : from s c ≡ letterByte m ∷ from s (ahead c) = rw w at (from-cons s c (inside s (c .at) (omega (arith, w, letter-small m)))) in
+        let t : from s c ≡ letterByte m ∷ from s (ahead c) = rw w at (from-cons s c (letter-inside s c m hx)) in
         rw (← q, ← z) (t ∙ ap (λ (l : List ℕ). letterByte m ∷ l) (past-spelt s (ahead c) x 32 (omega arith) hy))
     step m hx Step.Wrong hy f = let z : _≡_ {A = ℕ} 0 1 = cc in absurd (omega arith)
 
@@ -132,16 +117,16 @@ path-spelt n p s c h next e =
           text = rw (so, sd, end) at t;
         }
 
-record HeadSpelt (n : ℕ) (s : List ℕ) (c : Cursor) (h : Head) (next : Cursor) : Type 0 where
-  origin : In (station n) (h .origin)
-  destination : In (station n) (h .destination)
-  apart : h .destination ≡ h .origin → ⊥
-  earliest : In time (h .earliest)
-  latest : In time (h .latest)
-  weight : In weight (h .weight)
-  text : from s c ≡ field (h .origin) 32 (field (h .destination) 32 (field (h .earliest) 32 (field (h .latest) 32 (field (h .weight) 32 (from s next)))))
+pub record HeadSpelt (n : ℕ) (s : List ℕ) (c : Cursor) (h : Head) (next : Cursor) : Type 0 where
+  pub origin : In (station n) (h .origin)
+  pub destination : In (station n) (h .destination)
+  pub apart : h .destination ≡ h .origin → ⊥
+  pub earliest : In time (h .earliest)
+  pub latest : In time (h .latest)
+  pub weight : In weight (h .weight)
+  pub text : from s c ≡ field (h .origin) 32 (field (h .destination) 32 (field (h .earliest) 32 (field (h .latest) 32 (field (h .weight) 32 (from s next)))))
 
-head-spelt : (n p : ℕ) (s : List ℕ) (c : Cursor) (h : Head) (next : Cursor) → headAt n p s c ≡ Parsed.got h next → HeadSpelt n s c h next
+pub head-spelt : (n p : ℕ) (s : List ℕ) (c : Cursor) (h : Head) (next : Cursor) → headAt n p s c ≡ Parsed.got h next → HeadSpelt n s c h next
 unfolding headAt
 head-spelt n p s c h next x =
     let path = then-got (pathAt n p s c) _ h next x in
@@ -204,15 +189,6 @@ pub record TrainRead (n : ℕ) (t : Train) : Type 0 where
   pub limits : TrainWithin n t
   pub arrays : TrainArrays t
   pub tidy : tidyTrain t ≡ t
-
--- its path has 1 to 11 segments
-pub path-legs : (n o d : ℕ) → n ≤ 12 → In (station n) o → In (station n) d → (d ≡ o → ⊥) → (1 ≤ legsBetween o d) × (legsBetween o d ≤ 11)
-path-legs n o d few io id apart = (go (ltb o d) (ltb d o) refl refl, omega (arith, io .0, io .1, id .0, id .1))
-  where
-    go : (b a : Bool) → ltb o d ≡ b → ltb d o ≡ a → 1 ≤ legsBetween o d
-    go true a e f = omega (arith, ltb-true o d e)
-    go false true e f = omega (arith, ltb-true d o f)
-    go false false e f = absurd (apart (omega (arith, ltb-false o d e, ltb-false d o f)))
 
 tidy-is : (h : Head) (rs ts : List ℕ) → take (legsBetween (h .origin) (h .destination)) (padded 11 0 rs) ≡ rs → take (legsBetween (h .origin) (h .destination) - 1) (padded 11 0 ts) ≡ ts → tidyTrain (trainWith h (padded 11 0 rs) (padded 11 0 ts)) ≡ trainWith h (padded 11 0 rs) (padded 11 0 ts)
 unfolding tidyTrain

@@ -1,23 +1,24 @@
 -- Laws of the check of a record: one check and then the next, the lines of a section one by one, and what it means that a check finds nothing.
-use Prim.Native.Nat.{ℕ, suc, _+_, _<_, _≤_}
+use Prim.Native.Nat.{ℕ, _+_, _<_, _≤_}
 use mathlib.Core.Path.{_≡_, refl, sym, ap, _∙_}
 use mathlib.Core.List.{List, [], _∷_}
 use mathlib.Core.Bool.{Bool, true, false}
 use native.Mathlib.Omega.{arith}
-use native.Mathlib.Numerals.{add-one}
 use borrow.Author.Tests.{eq-eqb, ne-eqb, eqb-false}
 use lib.Dec.{eqb}
 use lib.ListN.{length, getD, take, drop}
-use lib.Seq.{drop-cons, getD-take, length-take-le, drop-length}
+use lib.Seq.{length-take-le}
 use Rattle.text.specs.declared.Limits.{Limits}
 use Rattle.text.specs.declared.Bounded.{Bounded}
 use Rattle.text.specs.Choice.{pick, onBounded}
 use Rattle.text.specs.Limits.{boundedOf}
+use Rattle.text.specs.LeftLaws.{left-cons, left-none}
 use Rattle.text.specs.ParsedLaws.{bounded-within, bounded-fits}
 use Rattle.line.specs.declared.Train.{Train}
 use Rattle.line.specs.declared.writing.Fault.{Fault}
 use Rattle.line.specs.Ranges.{In, station, time, weight}
 use Rattle.line.specs.Record.{legsOf}
+use Rattle.line.specs.RecordLaws.{path-legs}
 use Rattle.line.specs.Writing.{thenFault, numberFault, linesFault, timesFault, pathFault, headFault}
 
 -- ---- one check and then the next
@@ -41,26 +42,17 @@ times-by xs l p e h = e ∙ ap (λ (m : ℕ). timesFault (take m xs) l p) h
 -- ---- the first lines of a section, of which those before i have no fault
 
 module _ {A : Type 0} (f : ℕ → A → Fault) (xs : List A) (count i p : ℕ) (room : count ≤ length xs) where
-  left-cons : (d : A) → i < count → drop i (take count xs) ≡ getD xs i d ∷ drop (i + 1) (take count xs)
-  left-cons d h =
-      rw (add-one i) (
-      drop-cons (take count xs) i d (omega (arith, length-take-le count xs room))
-      ∙ ap (λ (x : A). x ∷ drop (suc i) (take count xs)) (getD-take count xs i d h)
-      )
-
   pub lines-found : {r : Fault} {n m : ℕ} (d : A) → i < count → r ≡ f p (getD xs i d) → r ≡ Fault.At n m → r ≡ linesFault (drop i (take count xs)) f p
   unfolding linesFault
-  lines-found d h e g = rw (left-cons d h) (found-first _ e g)
+  lines-found d h e g = rw (left-cons count xs i (length-take-le count xs room) d h) (found-first _ e g)
 
-  pub lines-step : {r : Fault} (d : A) (q : ℕ) → q ≡ p + 1 → i < count → r ≡ f p (getD xs i d) → r ≡ Fault.None → linesFault (drop (i + 1) (take count xs)) f q ≡ linesFault (drop i (take count xs)) f p
+  pub lines-clean : {r : Fault} (d : A) (q : ℕ) → q ≡ p + 1 → i < count → r ≡ f p (getD xs i d) → r ≡ Fault.None → linesFault (drop (i + 1) (take count xs)) f q ≡ linesFault (drop i (take count xs)) f p
   unfolding linesFault
-  lines-step d q w h e g = rw (left-cons d h, w) (found-later e g refl)
+  lines-clean d q w h e g = rw (left-cons count xs i (length-take-le count xs room) d h, w) (found-later e g refl)
 
   pub lines-end : i ≡ count → Fault.None ≡ linesFault (drop i (take count xs)) f p
   unfolding linesFault
-  lines-end e =
-      let none : drop i (take count xs) ≡ [] = ap (λ (k : ℕ). drop k (take count xs)) (e ∙ sym (length-take-le count xs room)) ∙ drop-length (take count xs) in
-      rw none refl
+  lines-end e = rw (left-none count xs i (length-take-le count xs room) e) refl
 
 -- values that stand on one line are checked as those on lines of their own, whatever these lines are
 pub times-lines : (xs : List ℕ) (r : Limits) (p q : ℕ) → timesFault xs r p ≡ linesFault xs (λ _ n. numberFault r n p) q
@@ -135,4 +127,4 @@ tells-head n p t =
 pub legs-fit : {r : Fault} {k : ℕ} (n p : ℕ) (t : Train) → r ≡ headFault n p t → r ≡ Fault.None → n ≤ 12 → k ≡ legsOf t → (1 ≤ k) × (k ≤ 11)
 legs-fit n p t e g h l =
     let path = tells-head n p t .holds (sym e ∙ g) .0 in
-    (omega (arith, path .1 .1, l), omega (arith, path .0, path .1 .0, l))
+    rw l (path-legs n (t .origin) (t .destination) h (path .0) (path .1 .0) (path .1 .1))

@@ -21,6 +21,7 @@ use Rattle.line.specs.declared.Kind.{Kind}
 use Rattle.line.specs.declared.reading.Letter.{Letter}
 use Rattle.line.specs.declared.reading.Path.{Path}
 use Rattle.line.specs.Ranges.{gap, station, time, weight}
+use Rattle.line.specs.Spell.{letterByte}
 use Rattle.line.specs.File.{faultsOn, number, letterOf, kindAt, segmentLine, pathAt, headAt}
 
 -- ---- a field of the code
@@ -39,19 +40,25 @@ ended-told x is = ap (λ (k : Ending). toldEnding k x) is
 
 -- ---- a segment's line
 
--- a letter that names a kind stands inside the text
-pub letter-inside : (s : List ℕ) (c : Cursor) (k : Kind) → letterOf (byteAt s c) ≡ Letter.Found k → c .at < length s
+-- a byte that names a kind is its letter
+pub letter-byte : (b : ℕ) (k : Kind) → letterOf b ≡ Letter.Found k → b ≡ letterByte k
 unfolding letterOf
-letter-inside s c k e = inside s (c .at) (go (eqb b 83) (eqb b 70) (eqb b 68) refl refl refl e)
+letter-byte b k e = go (eqb b 83) (eqb b 70) (eqb b 68) refl refl refl e
   where
-    b : ℕ
-    b = byteAt s c
-
-    go : (p q r : Bool) → eqb b 83 ≡ p → eqb b 70 ≡ q → eqb b 68 ≡ r → pick p (Letter.Found Kind.S) (pick q (Letter.Found Kind.F) (pick r (Letter.Found Kind.D) Letter.Other)) ≡ Letter.Found k → b < 256
-    go true q r hp hq hr h = omega (arith, eqb-true b 83 hp)
-    go false true r hp hq hr h = omega (arith, eqb-true b 70 hq)
-    go false false true hp hq hr h = omega (arith, eqb-true b 68 hr)
+    go : (p q r : Bool) → eqb b 83 ≡ p → eqb b 70 ≡ q → eqb b 68 ≡ r → pick p (Letter.Found Kind.S) (pick q (Letter.Found Kind.F) (pick r (Letter.Found Kind.D) Letter.Other)) ≡ Letter.Found k → b ≡ letterByte k
+    go true q r hp hq hr h = let z : Kind.S ≡ k = cc in eqb-true b 83 hp ∙ ap letterByte z
+    go false true r hp hq hr h = let z : Kind.F ≡ k = cc in eqb-true b 70 hq ∙ ap letterByte z
+    go false false true hp hq hr h = let z : Kind.D ≡ k = cc in eqb-true b 68 hr ∙ ap letterByte z
     go false false false hp hq hr h = let z : _≡_ {A = ℕ} 0 1 = cc in absurd (omega arith)
+
+letter-small : (k : Kind) → letterByte k < 256
+letter-small Kind.S = omega arith
+letter-small Kind.F = omega arith
+letter-small Kind.D = omega arith
+
+-- it stands inside the text
+pub letter-inside : (s : List ℕ) (c : Cursor) (k : Kind) → letterOf (byteAt s c) ≡ Letter.Found k → c .at < length s
+letter-inside s c k e = inside s (c .at) (omega (arith, letter-byte (byteAt s c) k e, letter-small k))
 
 module _ (p : ℕ) (s : List ℕ) (c : Cursor) where
   pub segment-no-kind : {n q : ℕ} → kindAt p s c ≡ Parsed.bad n q → segmentLine p s c ≡ Parsed.bad n q

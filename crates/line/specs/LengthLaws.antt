@@ -13,7 +13,7 @@ use Rattle.line.specs.declared.Line.{Line}
 use Rattle.line.specs.Ranges.{In, tracks, run, stop}
 use Rattle.line.specs.Record.{runsOf, stopsOf, legsOf}
 use Rattle.line.specs.Spell.{field, stationText, segmentText, journeyText, trainText, textOf}
-use Rattle.line.specs.SpellLaws.{train-path}
+use Rattle.line.specs.RecordLaws.{train-path}
 use Rattle.line.specs.Within.{SegmentWithin, TrainWithin, Within}
 
 -- ---- each part, where at most m bytes follow it

@@ -1,36 +1,33 @@
 -- The text of a line within the limits is accepted, and gives that line: each part of the text is read as its value.
-use Prim.Native.Nat.{ℕ, zero, suc, _+_, _-_, _<_, _≤_}
-use mathlib.Core.Path.{_≡_, refl, sym, ap, _∙_}
-use mathlib.Core.List.{List, [], _∷_, _++_, map, map-id}
+use Prim.Native.Nat.{ℕ, suc, _+_, _-_, _<_, _≤_}
+use mathlib.Core.Path.{_≡_, refl, ap, _∙_}
+use mathlib.Core.List.{List, [], _∷_, map, map-id}
 use native.Mathlib.Omega.{arith}
-use borrow.Author.Tests.{le-ltb, ne-eqb, eq-eqb}
-use lib.ListN.{length, drop, length-drop}
+use borrow.Author.Tests.{le-ltb, ne-eqb}
+use lib.ListN.{length, length-drop}
 use lib.Seq.{length-take-le}
-use lib.Dec.{ltb, eqb}
 use Rattle.text.specs.declared.Cursor.{Cursor}
 use Rattle.text.specs.declared.Digit.{Digit}
 use Rattle.text.specs.declared.Limits.{Limits}
-use Rattle.text.specs.Bytes.{byteAt, from, ahead, digitOf, pastOf}
+use Rattle.text.specs.Bytes.{byteAt, from, ahead, digitOf}
 use Rattle.text.specs.BytesLaws.{from-byte, from-ahead, past-reads}
-use Rattle.text.specs.Digits.{digits}
 use Rattle.text.specs.Lists.{padded}
 use Rattle.text.specs.Each.{eachThen, Each}
 use Rattle.text.specs.EachLaws.{each-both, each-take}
-use Rattle.text.specs.Parsed.{Parsed, thenRead, many}
+use Rattle.text.specs.Parsed.{Parsed}
 use Rattle.text.specs.ParsedLaws.{Reads, ranged-reads, reads-then, many-reads}
 use Rattle.line.specs.declared.Kind.{Kind}
 use Rattle.line.specs.declared.Segment.{Segment}
 use Rattle.line.specs.declared.Train.{Train}
 use Rattle.line.specs.declared.Line.{Line}
 use Rattle.line.specs.declared.reading.Letter.{Letter}
-use Rattle.line.specs.declared.reading.Path.{Path}
 use Rattle.line.specs.declared.reading.Head.{Head}
 use Rattle.line.specs.Ranges.{In, stationCount, tracks, gap, trainCount, station, time, weight, run, stop}
-use Rattle.line.specs.Record.{noSegment, noTrain, legsBetween, legsOf, runsOf, stopsOf, tracksOf, segmentsOf, trainsOf, tidyTrain, tidyLine}
-use Rattle.line.specs.File.{number, stationLine, letterOf, kindAt, segmentLine, pathAt, headAt, Journey, journeyAt, trainWith, trainLine, trainsPart, segmentsPart, stationsPart, lineFile}
+use Rattle.line.specs.Record.{noSegment, noTrain, legsOf, runsOf, stopsOf, tracksOf, segmentsOf, trainsOf, tidyTrain, tidyLine}
+use Rattle.line.specs.File.{number, stationLine, letterOf, kindAt, segmentLine, pathAt, headAt, journeyAt, trainLine, trainsPart, segmentsPart, stationsPart, lineFile}
 use Rattle.line.specs.Spell.{field, stationText, letterByte, segmentText, journeyText, headText, trainText, textOf}
 use Rattle.line.specs.Within.{SegmentWithin, TrainWithin, Within, TrainArrays, Arrays}
-use Rattle.line.specs.Accepted.{path-legs}
+use Rattle.line.specs.RecordLaws.{train-path}
 
 -- ---- a number
 
@@ -128,7 +125,7 @@ train-reads : (n : ℕ) → n ≤ 12 → (s : List ℕ) (p : ℕ) (c : Cursor) (
 unfolding trainLine tidyTrain
 train-reads n few s p c t rest v e =
     let w = v .limits in
-    let legs = path-legs n (t .origin) (t .destination) few (w .origin) (w .destination) (w .apart) in
+    let legs = train-path n few t w in
     let many-stops : length (stopsOf t) ≡ legsOf t - 1 = length-take-le (legsOf t - 1) (t .stops) (omega (arith, legs .1, v .arrays .1)) in
     let many-runs : length (runsOf t) ≡ legsOf t = length-take-le (legsOf t) (t .runs) (omega (arith, legs .1, v .arrays .0)) in
     reads-then _ (head-reads n p s c t (journeyText (stopsOf t) (runsOf t) rest) few w e)

@@ -1,16 +1,12 @@
 -- The theorems of the line file (demand 2): an accepted file written out again has the same bytes; every line within the limits can be written and
 -- is read back as the same line; and so a file is accepted exactly when it is the text of a line within the limits.
-use Prim.Native.Nat.{ℕ, _+_, _-_, _<_, _≤_}
+use Prim.Native.Nat.{ℕ, _-_, _≤_}
 use mathlib.Core.Path.{_≡_, refl, sym, ap, _∙_}
-use mathlib.Core.Bool.{Bool, true, false}
 use mathlib.Core.List.{List, [], _∷_, map}
 use native.Mathlib.Omega.{arith}
-use borrow.Author.Tests.{ltb-false}
-use lib.Dec.{ltb}
-use lib.ListN.{length, take, replicate, length-replicate, length-map}
+use lib.ListN.{length, take, length-replicate, length-map}
 use lib.Seq.{length-take-le}
 use Rattle.text.specs.declared.Cursor.{Cursor}
-use Rattle.text.specs.Choice.{pick}
 use Rattle.text.specs.Lists.{padded, take-padded, padded-length, each-padded}
 use Rattle.text.specs.Each.{eachThen, Each}
 use Rattle.text.specs.EachLaws.{each-map, each-take}
@@ -23,13 +19,14 @@ use Rattle.line.specs.declared.Answer.{Answer}
 use Rattle.line.specs.declared.ReadLine.{ReadLine}
 use Rattle.line.specs.Ranges.{In, stationCount, tracks, trainCount}
 use Rattle.line.specs.Record.{noSegment, noTrain, legsOf, runsOf, stopsOf, tracksOf, segmentsOf, trainsOf, tidyTrain, tidyLine, SameTrain, SameTrains, SameLine}
-use Rattle.line.specs.File.{stationsPart, lineFile, answered}
-use Rattle.line.specs.Writing.{faultOf, onFault, spelling}
+use Rattle.line.specs.File.{lineFile, answered}
+use Rattle.line.specs.Writing.{spelling}
 use Rattle.line.specs.Spell.{field, stationText, segmentText, trainText, textOf}
 use Rattle.line.specs.Within.{SegmentWithin, TrainWithin, Within, TrainArrays, Arrays}
+use Rattle.line.specs.RecordLaws.{train-path}
 use Rattle.line.specs.WithinLaws.{fault-none}
 use Rattle.line.specs.LengthLaws.{text-fits}
-use Rattle.line.specs.Accepted.{TrainRead, LineRead, lineOf, path-legs, file-spelt}
+use Rattle.line.specs.Accepted.{TrainRead, LineRead, lineOf, file-spelt}
 use Rattle.line.specs.Readable.{text-reads}
 
 -- ---- a line that was read
@@ -54,7 +51,7 @@ tidy-trains n (t ∷ trs) v = λ i. v .0 .tidy i ∷ tidy-trains n trs (v .1) i
 same-train : (n : ℕ) → n ≤ 12 → (t : Train) → TrainWithin n t → TrainArrays t → SameTrain (tidyTrain t) t
 unfolding tidyTrain
 same-train n few t w a =
-    let legs = path-legs n (t .origin) (t .destination) few (w .origin) (w .destination) (w .apart) in
+    let legs = train-path n few t w in
     let runs = length-take-le (legsOf t) (t .runs) (omega (arith, legs .1, a .0)) in
     let stops = length-take-le (legsOf t - 1) (t .stops) (omega (arith, legs .1, a .1)) in
     record {

@@ -1,21 +1,20 @@
 -- The texts of a line in parts: each part is its own text and then what follows it, so that parts written one after the other are the whole.
-use Prim.Native.Nat.{ℕ, zero, suc, _+_, _-_, _≤_, _<_}
+use Prim.Native.Nat.{ℕ, suc, _+_, _-_, _≤_, _<_}
 use mathlib.Core.Path.{_≡_, refl, sym, ap, _∙_}
 use mathlib.Core.List.{List, [], _∷_, _++_, append-assoc, append-nil}
 use native.Mathlib.Omega.{arith}
-use native.Mathlib.Numerals.{add-one}
 use lib.ListN.{length, getD, take, drop, length-append}
-use lib.Seq.{drop-cons, drop-drop, drop-length, getD-take, getD-drop, length-take-le}
+use lib.Seq.{drop-drop, getD-take, getD-drop, length-take-le}
 use Rattle.text.specs.Digits.{digits, fieldText}
-use Rattle.text.specs.Each.{eachThen, Each}
+use Rattle.text.specs.Each.{eachThen}
+use Rattle.text.specs.LeftLaws.{left-cons, left-none}
 use Rattle.text.specs.Splice.{Put}
 use Rattle.text.specs.SpliceLaws.{Putting, putting-step, putting-room, putting-end}
 use Rattle.line.specs.declared.Segment.{Segment}
 use Rattle.line.specs.declared.Train.{Train}
 use Rattle.line.specs.declared.Line.{Line}
-use Rattle.line.specs.Record.{HasPath, tracksOf, segmentsOf, trainsOf, stopsOf, runsOf}
+use Rattle.line.specs.Record.{tracksOf, segmentsOf, trainsOf, stopsOf, runsOf}
 use Rattle.line.specs.Spell.{stationText, letterByte, segmentText, journeyText, headText, trainText, textOf}
-use Rattle.line.specs.Within.{TrainWithin}
 
 -- ---- each part, and then what follows it
 
@@ -52,10 +51,8 @@ module _ {A : Type 0} (text : A → List ℕ → List ℕ) (parts : (x : A) (res
     -- the lines yet to write: that of element i, and the others
     step : (d : A) → i < n → eachThen text (drop i (take n xs)) [] ≡ text (getD xs i d) [] ++ eachThen text (drop (i + 1) (take n xs)) []
     step d h =
-        let here : i < length (take n xs) = rw (length-take-le n xs full) h in
-        ap (λ (l : List A). eachThen text l []) (drop-cons (take n xs) i d here)
-        ∙ parts (getD (take n xs) i d) (eachThen text (drop (suc i) (take n xs)) [])
-        ∙ (rw (add-one, getD-take n xs i d h) refl)
+        ap (λ (l : List A). eachThen text l []) (left-cons n xs i (length-take-le n xs full) d h)
+        ∙ parts (getD xs i d) (eachThen text (drop (i + 1) (take n xs)) [])
 
     module _ {entry : List ℕ} {start : ℕ} {whole now : List ℕ} {at : ℕ} (putting : Putting entry start whole now at (eachThen text (drop i (take n xs)) [])) where
       pub each-room : (d : A) → i < n → start + length whole ≤ length entry → at + length (text (getD xs i d) []) ≤ length now
@@ -65,9 +62,7 @@ module _ {A : Type 0} (text : A → List ℕ → List ℕ) (parts : (x : A) (res
       each-put d h put = putting-step (eachThen text (drop (i + 1) (take n xs)) []) putting (step d h) put
 
       pub each-end : i ≡ n → Put entry now start whole at
-      each-end e =
-          let last : drop i (take n xs) ≡ [] = ap (λ (k : ℕ). drop k (take n xs)) (e ∙ sym (length-take-le n xs full)) ∙ drop-length (take n xs) in
-          putting-end putting (ap (λ (l : List A). eachThen text l []) last)
+      each-end e = putting-end putting (ap (λ (l : List A). eachThen text l []) (left-none n xs i (length-take-le n xs full) e))
 
 -- ---- the runs and stops of a path, of which k of each are written
 
@@ -86,16 +81,13 @@ module _ (runs stops : List ℕ) (legs k : ℕ) (full : legs - 1 ≤ length stop
   -- a run, a stop, and the others
   next-leg : k + 1 < legs → left k ≡ leg ++ left (k + 1)
   next-leg h =
-      let here : k < length (take (legs - 1) stops) = rw (length-take-le (legs - 1) stops full) (omega arith) in
-      let stop : getD (take (legs - 1) stops) k 0 ≡ getD stops k 0 = getD-take (legs - 1) stops k 0 (omega arith) in
-      ap (λ (l : List ℕ). journeyText l (drop k (take legs runs)) []) (drop-cons (take (legs - 1) stops) k 0 here)
-      ∙ (rw (run-at (omega arith), stop, drop-drop 1 k (take legs runs), add-one k) (simp append-assoc))
+      ap (λ (l : List ℕ). journeyText l (drop k (take legs runs)) []) (left-cons (legs - 1) stops k (length-take-le (legs - 1) stops full) 0 (omega arith))
+      ∙ (rw (run-at (omega arith), drop-drop 1 k (take legs runs)) (simp append-assoc))
 
   -- the last run
   last-leg : k + 1 ≡ legs → left k ≡ fieldText (getD runs k 0) 10
   last-leg e =
-      let last : k ≡ legs - 1 = omega arith in
-      let none : drop k (take (legs - 1) stops) ≡ [] = ap (λ (i : ℕ). drop i (take (legs - 1) stops)) (last ∙ sym (length-take-le (legs - 1) stops full)) ∙ drop-length (take (legs - 1) stops) in
+      let none : drop k (take (legs - 1) stops) ≡ [] = left-none (legs - 1) stops k (length-take-le (legs - 1) stops full) (omega arith) in
       rw (none, run-at (omega arith)) refl
 
   module _ {entry : List ℕ} {start : ℕ} {whole now : List ℕ} {at : ℕ} (putting : Putting entry start whole now at (left k)) where
@@ -105,8 +97,8 @@ module _ (runs stops : List ℕ) (legs k : ℕ) (full : legs - 1 ≤ length stop
     pub journey-put : {then : List ℕ} {next : ℕ} → k + 1 < legs → Put now then at leg next → Putting entry start whole then next (left (k + 1))
     journey-put h put = putting-step (left (k + 1)) putting (next-leg h) put
 
-    pub journey-last : k + 1 ≡ legs → start + length whole ≤ length entry → at + length (fieldText (getD runs k 0) 10) ≤ length now
-    journey-last e fits = omega (arith, putting .next, putting .size, ap length (last-leg e))
+    pub journey-last-room : k + 1 ≡ legs → start + length whole ≤ length entry → at + length (fieldText (getD runs k 0) 10) ≤ length now
+    journey-last-room e fits = omega (arith, putting .next, putting .size, ap length (last-leg e))
 
     pub journey-end : {then : List ℕ} {next : ℕ} → k + 1 ≡ legs → Put now then at (fieldText (getD runs k 0) 10) next → Put entry then start whole next
     journey-end e put = putting-end (putting-step [] putting (last-leg e ∙ sym (append-nil (fieldText (getD runs k 0) 10))) put) refl
@@ -159,21 +151,3 @@ module _ (l : Line) where
   line-size =
       ap length line-parts
       ∙ (rw (length-append (fieldText (l .«station_count») 10), length-append stations-part, length-append (fieldText (l .«station_count» - 1) 10), length-append segments-part, length-append (fieldText (l .«train_count») 10)) refl)
-
--- ---- what holds of each element
-
-pub each-at : {A : Type 0} (P : A → Type 0) (n : ℕ) (xs : List A) (i : ℕ) (d : A) → n ≤ length xs → i < n → Each P (take n xs) → P (getD xs i d)
-each-at P zero xs i d full h e = absurd (omega arith)
-each-at P (suc n) [] i d full h e = absurd (omega arith)
-each-at P (suc n) (x ∷ xs) zero d full h e = e .0
-each-at P (suc n) (x ∷ xs) (suc i) d full h e = each-at P n xs i d (omega arith) (omega arith) (e .1)
-
-pub each-so : {A : Type 0} {P Q : A → Type 0} → ((x : A) → P x → Q x) → (xs : List A) → Each P xs → Each Q xs
-each-so f [] e = tt
-each-so f (x ∷ xs) e = (f x (e .0), each-so f xs (e .1))
-
--- a train within the limits of a line of n stations has a path
-pub train-path : (n : ℕ) → n ≤ 12 → (t : Train) → TrainWithin n t → HasPath t
-train-path n few t w =
-    let apart = w .apart in
-    (omega (arith, w .origin, w .destination), omega (arith, w .origin, w .destination))

@@ -8,6 +8,9 @@ use text::Limits;
 pub mod reading;
 pub mod writing;
 
+// The longest line file.
+pub const MAX_BYTES: usize = 4096;
+
 pub enum Kind {
     S,
     F,

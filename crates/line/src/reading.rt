@@ -9,6 +9,7 @@ ghost use Rattle.line.specs.File.{faultsOn, toldKind, stationLine, lette
 use crate::Answer;
 use crate::Kind;
 use crate::Line;
+use crate::MAX_BYTES;
 use crate::ReadLine;
 use crate::Segment;
 use crate::Station;
@@ -24,8 +25,6 @@ use text::Limits;
 use text::SPACE;
 use text::Step;
 use text::stopped;
-
-const MAX_BYTES: usize = 4096;
 
 pub enum Letter {
     Found(Kind),

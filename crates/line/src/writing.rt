@@ -12,6 +12,7 @@ ghost use Rattle.line.specs.Spell.{stationText, letterByte, segmentText,
 ghost use Rattle.line.specs.Writing.{numberFault, linesFault, timesFault, trackFault, segmentFault, pathFault, headFault, trainFault, faultOf, refusedBy, spelling};
 use crate::Kind;
 use crate::Line;
+use crate::MAX_BYTES;
 use crate::Segment;
 use crate::Station;
 use crate::Time;
@@ -25,9 +26,6 @@ use text::Written;
 use text::lend_text;
 use text::put_byte;
 use text::put_field;
-
-// The longest text of a line file.
-const MAX_BYTES: usize = 4096;
 
 // A bad field of a record, with the number and the line that it would have.
 pub enum Fault {

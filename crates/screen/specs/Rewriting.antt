@@ -10,6 +10,7 @@ use Rattle.line.specs.declared.Answer.{Answer}
 use Rattle.line.specs.declared.ReadLine.{ReadLine}
 use Rattle.line.specs.File.{lineFile, answered}
 use Rattle.line.specs.Writing.{spelling}
+use Rattle.line.specs.RoundTrip.{Accepts, rewritten}
 use Rattle.screen.specs.Packing.{packed, packedWritten}
 
 -- what there is to write: the refusal of the file, or what there is to write for its line
@@ -45,3 +46,9 @@ module _ (file entry : List ℕ) (x : ReadLine) (r : ℕ) (read : x ≡ answered
   rewritten-refused n p e q =
       let what = respelt-as (Answer.Refused n p) e in
       record { answer = rw what q; bytes = rw what refl }
+
+-- ---- the theorem: an accepted file is written out again with the same bytes
+
+pub rewriting-same : (file : List ℕ) (l : Line) → Accepts file l → rewriting file ≡ Spelling.text file
+unfolding rewriting
+rewriting-same file l e = rw e (rewritten file l e)

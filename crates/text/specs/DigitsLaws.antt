@@ -4,7 +4,7 @@ use mathlib.Core.Path.{_≡_, refl, sym, ap, _∙_}
 use mathlib.Core.Bool.{Bool, true, false}
 use mathlib.Core.List.{List, [], _∷_, _++_, append-assoc}
 use native.Mathlib.Omega.{arith}
-use native.Mathlib.Nat.{pow-suc, not-suc-le-zero}
+use native.Mathlib.Nat.{pow-suc}
 use native.Mathlib.Numerals.{sub-one}
 use borrow.Author.Tests.{lt-ltb, le-ltb, ltb-true, ltb-false}
 use lib.Dec.{ltb}
@@ -19,7 +19,7 @@ use Rattle.text.specs.Bytes.{byteAt, from, ahead, digitOf, pastOf}
 use Rattle.text.specs.BytesLaws.{from-byte, from-ahead, from-skip, past-spelt, past-reads, digit-byte, digit-small, digit-spelt}
 use Rattle.text.specs.Numbers.{more, numberAt, fieldAt}
 use Rattle.text.specs.NumbersLaws.{number-none, number-zero, number-more, more-none, more-step, Room, room-first, room-step, room-below}
-use Rattle.text.specs.Digits.{digitsUpTo, digits, fieldText}
+use Rattle.text.specs.Digits.{digitsUpTo, digits}
 
 -- ---- the digits of a number, the last apart
 

@@ -1,7 +1,8 @@
 -- Laws of what holds of each element of a list.
-use Prim.Native.Nat.{ℕ, zero, suc}
+use Prim.Native.Nat.{ℕ, zero, suc, _<_, _≤_}
 use mathlib.Core.List.{List, [], _∷_}
-use lib.ListN.{take}
+use native.Mathlib.Omega.{arith}
+use lib.ListN.{length, getD, take}
 use Rattle.text.specs.Each.{Each}
 
 -- what holds of each holds of the first n
@@ -19,3 +20,10 @@ each-both P Q R f (x ∷ xs) v w = (f x (v .0) (w .0), each-both P Q R f xs (v .
 pub each-map : {A : Type 0} (P Q : A → Type 0) → ((x : A) → P x → Q x) → (xs : List A) → Each P xs → Each Q xs
 each-map P Q f [] v = tt
 each-map P Q f (x ∷ xs) v = (f x (v .0), each-map P Q f xs (v .1))
+
+-- what holds of each of the first n holds of element i
+pub each-at : {A : Type 0} (P : A → Type 0) (n : ℕ) (xs : List A) (i : ℕ) (d : A) → n ≤ length xs → i < n → Each P (take n xs) → P (getD xs i d)
+each-at P zero xs i d full h e = absurd (omega arith)
+each-at P (suc n) [] i d full h e = absurd (omega arith)
+each-at P (suc n) (x ∷ xs) zero d full h e = e .0
+each-at P (suc n) (x ∷ xs) (suc i) d full h e = each-at P n xs i d (omega arith) (omega arith) (e .1)

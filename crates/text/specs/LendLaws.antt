@@ -1,13 +1,14 @@
 -- Laws of writing into lent bytes: a copy byte by byte, and its two endings.
-use Prim.Native.Nat.{ℕ, suc, _+_, _<_, _≤_}
-use mathlib.Core.Path.{_≡_, refl, sym, ap, _∙_}
-use mathlib.Core.List.{List, [], _∷_, _++_}
+use Prim.Native.Nat.{ℕ, _+_, _<_, _≤_}
+use mathlib.Core.Path.{_≡_, refl, ap, _∙_}
+use mathlib.Core.List.{List, _++_}
 use native.Mathlib.Omega.{arith}
 use native.Mathlib.Numerals.{add-one}
 use borrow.Author.Tests.{le-leb, lt-leb}
 use lib.ListN.{length, set, getD, take, drop}
-use lib.Seq.{sets, sets-eq, drop-cons, getD-take, drop-length, take-append-seam}
+use lib.Seq.{sets, sets-eq, take-append-seam}
 use Rattle.text.specs.declared.Written.{Written}
+use Rattle.text.specs.LeftLaws.{left-cons, left-none}
 use Rattle.text.specs.Splice.{Put}
 use Rattle.text.specs.Lend.{Spelling, writtenOf, Lent}
 
@@ -15,12 +16,10 @@ use Rattle.text.specs.Lend.{Spelling, writtenOf, Lent}
 
 module _ (s out : List ℕ) (n i : ℕ) (full : length (take n s) ≡ n) where
   pub copy-step : i < n → sets out i (drop i (take n s)) ≡ sets (set out i (getD s i 0)) (i + 1) (drop (i + 1) (take n s))
-  copy-step h = rw (add-one, drop-cons (take n s) i 0 (omega arith), getD-take n s i 0 h) refl
+  copy-step h = rw (left-cons n s i full 0 h, add-one i) refl
 
   pub copy-end : i ≡ n → sets out i (drop i (take n s)) ≡ out
-  copy-end e =
-      let none : drop i (take n s) ≡ [] = ap (λ (k : ℕ). drop k (take n s)) (e ∙ sym full) ∙ drop-length (take n s) in
-      rw none refl
+  copy-end e = rw (left-none n s i full e) refl
 
 -- ---- the two endings
 

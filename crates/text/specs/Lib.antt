@@ -1,3 +1,4 @@
+-- The mathematics of reading and writing text: its modules, definitions before their laws.
 pub mod Choice
 pub mod Bytes
 pub mod Numbers
@@ -10,6 +11,7 @@ pub mod Told
 pub mod Lend
 pub mod Splice
 pub mod Lists
+pub mod LeftLaws
 pub mod BytesLaws
 pub mod NumbersLaws
 pub mod DigitsLaws
@@ -17,3 +19,6 @@ pub mod ParsedLaws
 pub mod LayLaws
 pub mod SpliceLaws
 pub mod LendLaws
+pub mod Decide
+pub mod Below
+pub mod BelowLaws

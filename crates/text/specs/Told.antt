@@ -1,6 +1,5 @@
 -- What the answers of a reader's code tell: for each case the value with the cursor after it, or document 01's number and place.
 use Prim.Native.Nat.{ℕ}
-use Rattle.text.specs.declared.Cursor.{Cursor}
 use Rattle.text.specs.declared.Field.{Field}
 use Rattle.text.specs.declared.Ending.{Ending}
 use Rattle.text.specs.Parsed.{Parsed}

@@ -7,7 +7,7 @@ use Rattle.text.specs.Told.{stoppedBy}
 use Rattle.line.specs.File.{answered}
 use Rattle.line.specs.FileLaws.{number-told, ended-told}
 use Rattle.line.specs.Ranges.{stationCount}
-use Rattle.line.specs.TrainLaws.{section-no-count, section-refused, section-read, refusal, file-long, stations-section}
+use Rattle.line.specs.SectionLaws.{section-no-count, section-refused, section-read, refusal, file-long, stations-section}
 use borrow.Author.Needs.{needs}
 use Rattle.line.proofs.reading.read.Statement.{statement}
 use Rattle.line.proofs.reading.read.Tie as tie

@@ -4,7 +4,7 @@ use mathlib.Core.Path.{_∙_, sym, ap, refl}
 use Rattle.text.specs.Told.{stoppedBy}
 use Rattle.line.specs.File.{answered}
 use Rattle.line.specs.FileLaws.{number-told, ended-told}
-use Rattle.line.specs.TrainLaws.{section-no-count, section-refused, section-read, refusal, segments-section}
+use Rattle.line.specs.SectionLaws.{section-no-count, section-refused, section-read, refusal, segments-section}
 use borrow.Author.Needs.{needs}
 use Rattle.line.proofs.reading.segment_part.Statement.{statement}
 use Rattle.line.proofs.reading.segment_part.Tie as tie

@@ -15,7 +15,7 @@ use Rattle.line.specs.Record.{noTrain}
 use Rattle.line.specs.File.{Journey, trainLine}
 use Rattle.line.specs.Ranges.{run, stop}
 use Rattle.line.specs.FileLaws.{number-told, ended-told}
-use Rattle.line.specs.TrainLaws.{layJourney, trainOf, journey-stop-run, journey-stop-stop, journey-step, journey-last, journey-last-stop, train-stop-head, train-from, lines-begin, lines-step, lines-stop, head-legs}
+use Rattle.line.specs.TrainLaws.{layJourney, trainOf, journey-stop-run, journey-stop-stop, journey-step, journey-last-read, journey-last-stop, train-stop-head, train-from, lines-begin, lines-read, lines-stop, head-legs}
 use borrow.Author.Needs.{needs}
 use Rattle.line.proofs.reading.train_lines.Statement.{statement}
 use Rattle.line.proofs.reading.train_lines.Tie as tie
@@ -79,7 +79,7 @@ loop-holds : tie.Need-loop-holds Inv-loop μ-loop Inv-lines μ-lines
 loop-holds c =
     let head = sym (c .before .before .before .before .before .train-head .ensures) ∙ ended-told _ (c .before .before .before .ended .given .1) in
     let legs = head-legs _ _ _ _ _ _ (c .before .before .before .before .before .before .before .before .before .before .pre .1) head in
-    (rw sub-zero refl, omega (arith, legs .some, c .legs-between .ensures), omega (arith, legs .few, c .legs-between .ensures))
+    (rw sub-zero refl, omega (arith, legs .0, c .legs-between .ensures), omega (arith, legs .1, c .legs-between .ensures))
 
 add-loop : tie.Need-add-loop Inv-loop μ-loop Inv-lines μ-lines
 add-loop c = search needs
@@ -181,8 +181,8 @@ lines-again c =
     let l = c .before .before .before .before .before .before .before in
     let m : l .before .legs-between .result - 1 - l .loop .k ≡ 0 = omega (arith, l .loop .inv .1, c .before .before .before .before .before .before .loop-test .left) in
     let r = number-told run 10 _ _ _ refl (c .before .before .before .before .before .faults-on3 .ensures) (c .before .before .before .before .ranged3 .ensures) (c .before .before .last .given .1) in
-    let train = line-yet l _ (journey-last _ _ _ _ _ _ _ m _ _ r) in
-    (lines-step _ _ _ _ _ _ _ _ (l .before .before .before .before .before .before .before .before .lines .inv .0) (left l) _ _ _ train (c .train-of .ensures), omega (arith, left l))
+    let train = line-yet l _ (journey-last-read _ _ _ _ _ _ _ m _ _ r) in
+    (lines-read _ _ _ _ _ _ _ _ (l .before .before .before .before .before .before .before .before .lines .inv .0) (left l) _ _ _ train (c .train-of .ensures), omega (arith, left l))
 
 returns : tie.Need-returns Inv-loop μ-loop Inv-lines μ-lines
 unfolding padded

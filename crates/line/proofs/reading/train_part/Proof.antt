@@ -7,7 +7,7 @@ use Rattle.text.specs.Told.{stoppedBy}
 use Rattle.line.specs.File.{answered}
 use Rattle.line.specs.FileLaws.{number-told, ended-told}
 use Rattle.line.specs.Ranges.{trainCount}
-use Rattle.line.specs.TrainLaws.{section-no-count, section-refused, section-read, refusal, trains-section, trains-more, trains-done}
+use Rattle.line.specs.SectionLaws.{section-no-count, section-refused, section-read, refusal, trains-section, trains-more, trains-done}
 use borrow.Author.Needs.{needs}
 use Rattle.line.proofs.reading.train_part.Statement.{statement}
 use Rattle.line.proofs.reading.train_part.Tie as tie

@@ -9,7 +9,7 @@ use mir.Val.{Fits}
 use lib.ListN.{take, drop, getD}
 use Rattle.text.specs.SpliceLaws.{Putting, putting-start, put-then}
 use Rattle.line.specs.Spell.{journeyText}
-use Rattle.line.specs.SpellLaws.{journey-room, journey-put, journey-last, journey-end}
+use Rattle.line.specs.SpellLaws.{journey-room, journey-put, journey-last-room, journey-end}
 use Rattle.line.proofs.writing.put_journey.Statement.{statement}
 use Rattle.line.proofs.writing.put_journey.Tie as tie
 
@@ -89,7 +89,7 @@ put-field-requires-3 c κs =
     let w = c .before .before .loop in
     let a = c .before .before .before .before in
     let short : Fits w16 (getD (a .args .t3) (w .k) 0) = search needs in
-    (journey-last (a .args .t3) (a .args .t4) (a .args .legs) (w .k) (omega arith) (w .inv .0) (omega arith) (a .pre .2), omega (arith, short .fits))
+    (journey-last-room (a .args .t3) (a .args .t4) (a .args .legs) (w .k) (omega arith) (w .inv .0) (omega arith) (a .pre .2), omega (arith, short .fits))
 
 same-length : tie.Need-same-length Inv-loop μ-loop
 same-length c = search needs

@@ -2,9 +2,12 @@
 -- the limits has a path. Assumes nothing.
 use native.Mathlib.Omega.{arith}
 use borrow.Author.Needs.{needs}
+use Rattle.text.specs.EachLaws.{each-map}
 use Rattle.text.specs.SpliceLaws.{put-then}
-use Rattle.line.specs.Record.{trainsOf}
-use Rattle.line.specs.SpellLaws.{line-parts, line-size, each-so, train-path}
+use Rattle.line.specs.Record.{trainsOf, HasPath}
+use Rattle.line.specs.Within.{TrainWithin}
+use Rattle.line.specs.RecordLaws.{train-path}
+use Rattle.line.specs.SpellLaws.{line-parts, line-size}
 use Rattle.line.proofs.writing.put_line.Statement.{statement}
 use Rattle.line.proofs.writing.put_line.Tie as tie
 
@@ -79,7 +82,7 @@ put-trains-requires c κs =
     let p1 = p2 .before .before .before .before in
     let a = p1 .before .before .before .before .before .before in (
       omega (arith, a .pre .0 .trains),
-      each-so (train-path (a .args .line .«station_count») (a .pre .0 .stations .1)) (trainsOf (a .args .line)) (a .pre .0 .each-train),
+      each-map (TrainWithin (a .args .line .«station_count»)) HasPath (train-path (a .args .line .«station_count») (a .pre .0 .stations .1)) (trainsOf (a .args .line)) (a .pre .0 .each-train),
       omega (arith, line-size (a .args .line), a .pre .1, p1 .put-field .ensures .next, p1 .put-field .kept .0, p2 .put-stations .ensures .next, p2 .put-stations .kept .0, p3 .put-field2 .ensures .next, p3 .put-field2 .kept .0, p4 .put-segments .ensures .next, p4 .put-segments .kept .0, p5 .put-field3 .ensures .next, p5 .put-field3 .kept .0),
     )
 

@@ -6,11 +6,12 @@ use native.Mathlib.Omega.{arith}
 use borrow.Author.Needs.{needs}
 use lib.ListN.{take, drop}
 use Rattle.text.specs.Each.{eachThen}
+use Rattle.text.specs.EachLaws.{each-at}
 use Rattle.text.specs.SpliceLaws.{Putting, putting-start}
 use Rattle.line.specs.declared.Train.{Train}
 use Rattle.line.specs.Record.{HasPath}
 use Rattle.line.specs.Spell.{trainText}
-use Rattle.line.specs.SpellLaws.{train-then, each-at, each-room, each-put, each-end}
+use Rattle.line.specs.SpellLaws.{train-then, each-room, each-put, each-end}
 use Rattle.line.proofs.writing.put_trains.Statement.{statement}
 use Rattle.line.proofs.writing.put_trains.Tie as tie
 

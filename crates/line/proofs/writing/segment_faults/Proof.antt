@@ -5,7 +5,7 @@ use mathlib.Core.Path.{_≡_, _∙_, ap}
 use native.Mathlib.Omega.{arith}
 use borrow.Author.Needs.{needs}
 use lib.ListN.{take, drop}
-use Rattle.line.specs.FaultLaws.{lines-found, lines-step, lines-end}
+use Rattle.line.specs.FaultLaws.{lines-found, lines-clean, lines-end}
 use Rattle.line.specs.Writing.{linesFault, segmentFault}
 use Rattle.line.proofs.writing.segment_faults.Statement.{statement}
 use Rattle.line.proofs.writing.segment_faults.Tie as tie
@@ -57,7 +57,7 @@ loop-again : tie.Need-loop-again Inv-loop μ-loop
 loop-again c =
     let a = c .before .before .before .before .before .before in
     let w = c .before .before .before .before .before .loop in (
-      lines-step segmentFault (a .args .t1) (a .args .count) (w .i) (a .args .first + w .i) (search needs)
+      lines-clean segmentFault (a .args .t1) (a .args .count) (w .i) (a .args .first + w .i) (search needs)
           _ _ (omega arith) (c .before .before .before .before .loop-test .taken) (c .before .before .segment-fault .ensures) (c .enum-told .given .1)
           ∙ w .inv .0,
       omega arith,

@@ -5,7 +5,7 @@ use mathlib.Core.Path.{_≡_, _∙_}
 use native.Mathlib.Omega.{arith}
 use borrow.Author.Needs.{needs}
 use lib.ListN.{take, drop}
-use Rattle.line.specs.FaultLaws.{lines-found, lines-step, lines-end}
+use Rattle.line.specs.FaultLaws.{lines-found, lines-clean, lines-end}
 use Rattle.line.specs.Writing.{linesFault, trackFault}
 use Rattle.line.proofs.writing.station_faults.Statement.{statement}
 use Rattle.line.proofs.writing.station_faults.Tie as tie
@@ -55,7 +55,7 @@ loop-again : tie.Need-loop-again Inv-loop μ-loop
 loop-again c =
     let a = c .before .before .before .before .before in
     let w = c .before .before .before .before .loop in (
-      lines-step trackFault (a .args .t1) (a .args .count) (w .i) (w .i + 2) (search needs)
+      lines-clean trackFault (a .args .t1) (a .args .count) (w .i) (w .i + 2) (search needs)
           0 _ (omega arith) (c .before .before .before .loop-test .taken) (c .before .before .number-fault .ensures) (c .enum-told .given .1)
           ∙ w .inv .0,
       omega arith,

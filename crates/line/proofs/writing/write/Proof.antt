@@ -1,7 +1,7 @@
 -- `line::writing::write` meets its contract. A fault of the record is its refusal, and the lent bytes are not touched. A record without one is
 -- within the limits, so its text fits the local buffer; the front of that buffer is the text that is lent. Assumes nothing.
 use Prim.Native.Nat.{ℕ, _≤_}
-use mathlib.Core.Path.{_≡_, _∙_, sym, ap, refl}
+use mathlib.Core.Path.{_≡_, _∙_, sym, ap}
 use native.Mathlib.Omega.{arith}
 use denote.Ref.{now}
 use mathlib.Core.List.{List}
