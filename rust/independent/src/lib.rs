@@ -1,21 +1,38 @@
-//! Line files read and written in plain Rust, from the scope document alone.
+//! Line files and timetables in plain Rust, from the scope document alone: reading and writing, the
+//! rules, the check, and a planner that tries every order.
 //!
 //! Nothing here comes from the proved crates or calls them: the tests compare the two, so a mistake
-//! has to be made twice to pass. The reader and the writer allocate nothing (only [`write`] hands
-//! out a vector), so the benchmark can compare times as well.
+//! has to be made twice to pass. The readers, the writers and the check allocate nothing (only
+//! [`write`] and [`timetable::write`] hand out a vector), so the benchmark can compare times as well.
+//! The planner of [`exhaustive`] is made to be believed, not to be fast.
 
 #![forbid(unsafe_code)]
 
+use std::fmt;
+use std::ops::Range;
+
+pub mod exhaustive;
+pub mod rules;
+pub mod timetable;
+
+mod checker;
+mod position;
 mod reader;
+mod text;
 mod writer;
 
 #[cfg(test)]
+mod examples;
+#[cfg(test)]
 mod readings;
+#[cfg(test)]
+mod timetable_readings;
 
+pub use checker::check;
 pub use reader::read;
 pub use writer::{rewrite, write, write_into};
 
-/// The most bytes a line file may have.
+/// The most bytes a line file or a timetable may have.
 pub const FILE_BYTES: usize = 4096;
 /// The most stations of a line.
 pub const STATIONS: usize = 12;
@@ -63,18 +80,32 @@ impl Limits {
     }
 }
 
-/// Why a line file or a record was turned down: the number of the scope document and its place.
+/// Why a line file, a record or a timetable was turned down: the number of the scope document and
+/// its place.
 #[derive(Clone, Copy, Debug, PartialEq, Eq, PartialOrd, Ord)]
 pub struct Refusal {
-    /// 1 too long, 2 form, 3 range, 4 destination equals origin, 6 lent bytes too few.
+    /// Of a line file: 1 too long, 2 form, 3 range, 4 destination equals origin. 5 no timetable, 6
+    /// lent bytes too few. Of a timetable: 7 too long, 8 form, 9 range, 10 to 15 the rule broken, 16
+    /// order lists, 17 total.
     pub number: u32,
-    /// The line of the fault, from 1; 0 for numbers 1 and 6.
+    /// The line of the fault for 2, 3, 4, 8 and 9; the lowest train for 10 to 13, segment for 14,
+    /// station for 15 and list for 16. All of them count from 1; any other number has 0.
     pub place: u32,
+}
+
+impl fmt::Display for Refusal {
+    fn fmt(&self, out: &mut fmt::Formatter<'_>) -> fmt::Result {
+        write!(out, "refused {} {}", self.number, self.place)
+    }
 }
 
 impl Refusal {
     pub(crate) const TOO_LONG: Refusal = Refusal {
         number: 1,
+        place: 0,
+    };
+    pub(crate) const NO_TIMETABLE: Refusal = Refusal {
+        number: 5,
         place: 0,
     };
     pub(crate) const LENT_TOO_FEW: Refusal = Refusal {
@@ -164,6 +195,31 @@ impl Train {
     pub fn legs(&self) -> usize {
         usize::from(self.origin.abs_diff(self.destination))
     }
+
+    /// Whether it runs towards the higher stations.
+    #[inline]
+    pub fn outbound(&self) -> bool {
+        self.origin < self.destination
+    }
+
+    /// The segment of a leg of its path, both from 0. An inbound train's first segment is the one
+    /// below its origin.
+    #[inline]
+    pub fn segment(&self, leg: usize) -> usize {
+        let origin = usize::from(self.origin) - 1;
+        if self.outbound() {
+            origin + leg
+        } else {
+            origin - 1 - leg
+        }
+    }
+
+    /// The segments of its path, from 0.
+    #[inline]
+    pub fn segments(&self) -> Range<usize> {
+        let low = usize::from(self.origin.min(self.destination)) - 1;
+        low..low + self.legs()
+    }
 }
 
 /// A line: what a line file says. Entries beyond a count are 0 (a kind is S) after reading and are
@@ -180,4 +236,18 @@ pub struct Line {
     pub train_count: u16,
     /// The trains.
     pub trains: [Train; TRAINS],
+}
+
+impl Line {
+    /// The segments that there are.
+    #[inline]
+    pub fn used_segments(&self) -> &[Segment] {
+        &self.segments[..usize::from(self.station_count) - 1]
+    }
+
+    /// The trains that there are.
+    #[inline]
+    pub fn used_trains(&self) -> &[Train] {
+        &self.trains[..usize::from(self.train_count)]
+    }
 }

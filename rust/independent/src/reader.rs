@@ -1,9 +1,7 @@
 //! Reading a line file: once through the bytes, field by field.
 
+use crate::position::{Position, LINE_FEED, SPACE};
 use crate::{Kind, Limits, Line, Refusal, Segment, Train, FILE_BYTES};
-
-const SPACE: u8 = b' ';
-const LINE_FEED: u8 = b'\n';
 
 /// Reads a line file. A field's form comes first, then the byte after it, then its range, then (at
 /// a destination) whether it equals the origin.
@@ -12,25 +10,12 @@ pub fn read(file: &[u8]) -> Result<Line, Refusal> {
         return Err(Refusal::TOO_LONG);
     }
     let mut line = Line::default();
-    let mut at = Position {
-        bytes: file,
-        line: 1,
-    };
+    let mut at = Position::first(file);
     at.stations(&mut line)?;
     at.segments(&mut line)?;
     at.trains(&mut line)?;
-    if at.bytes.is_empty() {
-        Ok(line)
-    } else {
-        Err(Refusal::form(at.line))
-    }
-}
-
-/// What is yet to read, and the number of the line that it begins on. The line's number moves only
-/// once its line feed is taken.
-struct Position<'a> {
-    bytes: &'a [u8],
-    line: u32,
+    at.at_the_end()?;
+    Ok(line)
 }
 
 impl Position<'_> {
@@ -95,45 +80,4 @@ impl Position<'_> {
         self.bytes = rest;
         Ok(kind)
     }
-
-    /// A number of one to four digits without a leading zero, the byte `after` it, then its range.
-    #[inline]
-    fn number(&mut self, after: u8, limits: Limits) -> Result<u16, Refusal> {
-        let line = self.line;
-        let Some((number, rest)) = number_then(self.bytes, after) else {
-            return Err(Refusal::form(line));
-        };
-        self.bytes = rest;
-        // A range fault stands on the field's own line, also where its line feed has been taken.
-        self.line += u32::from(after == LINE_FEED);
-        if limits.hold(number) {
-            Ok(number)
-        } else {
-            Err(Refusal::range(line))
-        }
-    }
-}
-
-/// The number at the front of `bytes` and what is left past the byte `after` it.
-#[inline]
-fn number_then(bytes: &[u8], after: u8) -> Option<(u16, &[u8])> {
-    let (&first, mut rest) = bytes.split_first()?;
-    let mut number = digit(first)?;
-    // A number that begins with 0 has no second digit, and none has a fifth.
-    let more = if number == 0 { 0 } else { 3 };
-    for _ in 0..more {
-        let (&next, past) = rest.split_first()?;
-        let Some(worth) = digit(next) else { break };
-        number = 10 * number + worth;
-        rest = past;
-    }
-    match rest.split_first() {
-        Some((&next, past)) if next == after => Some((number, past)),
-        _ => None,
-    }
-}
-
-#[inline]
-fn digit(byte: u8) -> Option<u16> {
-    byte.is_ascii_digit().then(|| u16::from(byte - b'0'))
 }

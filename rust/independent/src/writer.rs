@@ -1,5 +1,6 @@
 //! Writing a line: its fields in the reader's order, each held to its range.
 
+use crate::text::{Text, SPARE};
 use crate::{Limits, Line, Refusal, Segment, Train, FILE_BYTES, SEGMENTS};
 
 /// The bytes of the longest line within the limits: 39 for the stations, 91 for the segments, 3 for
@@ -17,17 +18,9 @@ pub fn write(line: &Line) -> Result<Vec<u8>, Refusal> {
 /// 6 where `lent` has fewer bytes than the text. A refusal changes no lent byte.
 pub fn write_into(line: &Line, lent: &mut [u8]) -> Result<usize, Refusal> {
     check(line)?;
-    let mut text = Text {
-        bytes: [0; LONGEST + 4],
-        length: 0,
-    };
+    let mut text = Text::<{ LONGEST + SPARE }>::new();
     text.line(line);
-    let written = &text.bytes[..text.length];
-    match lent.get_mut(..written.len()) {
-        Some(front) => front.copy_from_slice(written),
-        None => return Err(Refusal::LENT_TOO_FEW),
-    }
-    Ok(written.len())
+    text.copy_to(lent)
 }
 
 /// Reads `file` and writes its line to the front of `lent`.
@@ -90,14 +83,7 @@ fn field(number: u16, limits: Limits, place: u32) -> Result<(), Refusal> {
     }
 }
 
-/// The text as far as it is made: built apart, so that nothing lent is touched before all of it is
-/// known to fit. Four bytes more than the longest text leave room for the last number's piece.
-struct Text {
-    bytes: [u8; LONGEST + 4],
-    length: usize,
-}
-
-impl Text {
+impl Text<{ LONGEST + SPARE }> {
     fn line(&mut self, line: &Line) {
         let stations = usize::from(line.station_count);
         self.number(line.station_count, b'\n');
@@ -133,26 +119,5 @@ impl Text {
             self.number(stop, b' ');
         }
         self.number(train.runs[last], b'\n');
-    }
-
-    #[inline]
-    fn byte(&mut self, byte: u8) {
-        self.bytes[self.length] = byte;
-        self.length += 1;
-    }
-
-    /// A number of at most four digits and the byte `after` it, stored as one piece of five bytes:
-    /// those past the field are written over by the next one.
-    #[inline]
-    fn number(&mut self, number: u16, after: u8) {
-        let digit = |unit: u16| b'0' + (number / unit % 10) as u8;
-        let (piece, length) = match number {
-            0..10 => ([digit(1), after, 0, 0, 0], 2),
-            10..100 => ([digit(10), digit(1), after, 0, 0], 3),
-            100..1000 => ([digit(100), digit(10), digit(1), after, 0], 4),
-            _ => ([digit(1000), digit(100), digit(10), digit(1), after], 5),
-        };
-        self.bytes[self.length..self.length + 5].copy_from_slice(&piece);
-        self.length += length;
     }
 }

@@ -1,11 +1,11 @@
-//! The text of a line as lines of fields, so that a test can put something else in a field's place.
+//! A text as lines of fields, so that a test can put something else in a field's place.
 
 use independent::Line;
 
-/// A line file, taken apart: its lines, and the fields of each.
+/// A line file or a timetable, taken apart: its lines, and the fields of each.
 #[derive(Clone, Debug)]
 pub struct Fields {
-    lines: Vec<Vec<String>>,
+    pub(crate) lines: Vec<Vec<String>>,
 }
 
 impl Fields {
@@ -48,7 +48,16 @@ impl Fields {
         Fields { lines }
     }
 
-    /// The text of the file.
+    /// The fields of a text that is in order.
+    pub fn of_text(text: &[u8]) -> Fields {
+        let text = std::str::from_utf8(text).expect("a text of ASCII bytes");
+        let fields = |line: &str| line.split(' ').map(str::to_string).collect();
+        Fields {
+            lines: text.lines().map(fields).collect(),
+        }
+    }
+
+    /// The text of all of them.
     pub fn text(&self) -> Vec<u8> {
         self.lines
             .iter()

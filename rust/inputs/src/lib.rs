@@ -1,15 +1,20 @@
-//! Line files for tests and benchmarks: random lines within the limits, files with fields altered,
-//! files with bytes damaged. Everything comes from a seed, so a failure can be seen again.
+//! Line files and timetables for tests and benchmarks: random lines within the limits, lawful
+//! timetables, texts with fields altered, texts with bytes damaged. Everything comes from a seed, so
+//! a failure can be seen again.
 
 #![forbid(unsafe_code)]
 
 mod damage;
 mod fields;
+mod planned;
 mod random;
+mod timetable_damage;
 
 pub use damage::{damage_bytes, damage_lines};
 pub use fields::Fields;
+pub use planned::{full_size_planned, planned, small_line, small_planned, Pair, Planned, Traffic};
 pub use random::Random;
+pub use timetable_damage::{damaged, Damage};
 
 use independent::{Kind, Limits, Line, Segment, Train, SEGMENTS, STATIONS, TRAINS};
 

@@ -1,0 +1,133 @@
+-- `rules::delay::weighted_delay` meets its contract. The invariant: the total is the sum of the terms of the trains before i; each is at most 99 times 65,535,
+-- so it fits. Assumes nothing.
+use Prim.Native.Nat.{_-_, _*_, _≤_}
+use mathlib.Core.Path.{_≡_, sym, _∙_}
+use mathlib.Core.Logic.{⊎-elim}
+use native.Mathlib.Nat.{mul-le-mul}
+use native.Mathlib.Omega.{arith}
+use denote.Ref.{now}
+use borrow.Author.Needs.{needs}
+use lib.ListN.{length, length-map}
+use Rattle.text.specs.Below.{sum}
+use Rattle.line.specs.Within.{TrainWithin}
+use Rattle.rules.specs.Paths.{train, Routed}
+use Rattle.rules.specs.RulesLaws.{train-within, routed-within, legs-few, sum-next, cost, cost-start, cost-late, cost-none, cost-end}
+use Rattle.rules.proofs.delay.weighted_delay.Statement.{statement}
+use Rattle.rules.proofs.delay.weighted_delay.Tie as tie
+
+abbrev Inv-loop : tie.InvT-loop
+Inv-loop m line n total₀ i₀ total i = (i ≤ n) × (total ≡ sum (cost line m) i) × (total ≤ 6487965 * i)
+
+abbrev μ-loop : tie.MeasureT-loop
+μ-loop m line n total₀ i₀ total i = n - i
+
+-- the train of this turn, which is within the limits
+within : (c : tie.After-train Inv-loop μ-loop) → TrainWithin (c .before .before .before .before .args .t1 .«station_count») (train (c .before .before .before .before .args .t1) (c .before .before .loop .i))
+within c =
+    let a = c .before .before .before .before in
+    let size : length (a .args .t1 .trains) ≡ 12 = sym (length-map (a .args .t1 .trains) _) ∙ a .good .0 .1 .1 .1 .1 .1 .1 .0 .1 .0 .1 in
+    train-within (a .args .t1) (c .before .before .loop .i) (a .pre .0) size (c .before .loop-test .taken)
+
+path : (c : tie.After-train Inv-loop μ-loop) → Routed (train (c .before .before .before .before .args .t1) (c .before .before .loop .i))
+path c = routed-within _ _ (within c) (c .before .before .before .before .pre .0 .stations .1)
+
+-- a weight of at most 99 times a delay below 65,536
+most : (c : tie.After-wide2 Inv-loop μ-loop) → c .wide2 .result * (c .before .before .before .wide .result - c .before .before .free-arrival .result) ≤ 99 * 65535
+most c = mul-le-mul {n₂ = 99} {m₂ = 65535} (omega (arith, c .wide2 .ensures .0, within (c .before .before .before .before .before .before) .weight)) (omega (arith, c .before .before .before .wide .ensures .1))
+
+cast-n : tie.Need-cast-n Inv-loop μ-loop
+cast-n c = search needs
+
+loop-holds : tie.Need-loop-holds Inv-loop μ-loop
+loop-holds c =
+    let a = c .before in
+    (omega arith, cost-start (a .args .t1) (now (a .args .m)), omega arith)
+
+mul-train : tie.Need-mul-train Inv-loop μ-loop
+mul-train c = search needs
+
+element-copy-out-train : tie.Need-element-copy-out-train Inv-loop μ-loop
+element-copy-out-train c = search needs
+
+legs-between-requires : tie.Need-legs-between-requires Inv-loop μ-loop
+legs-between-requires c κs = search needs
+
+sub-last : tie.Need-sub-last Inv-loop μ-loop
+sub-last c = omega (arith, c .legs-between .ensures, legs-few _ (path (c .before)))
+
+arrival-of-requires : tie.Need-arrival-of-requires Inv-loop μ-loop
+arrival-of-requires c κs =
+    let a = c .before .before .before .before .before in
+    (path (c .before), a .pre .1, omega (arith, c .before .before .loop-test .taken, a .pre .0 .trains), omega (arith, c .legs-between .ensures, legs-few _ (path (c .before))))
+
+wide-requires : tie.Need-wide-requires Inv-loop μ-loop
+wide-requires c κs = search needs
+
+free-arrival-requires : tie.Need-free-arrival-requires Inv-loop μ-loop
+free-arrival-requires c κs = path (c .before .before .before)
+
+wide-requires-2 : tie.Need-wide-requires-2 Inv-loop μ-loop
+wide-requires-2 c κs = search needs
+
+sub-total : tie.Need-sub-total Inv-loop μ-loop
+sub-total c = search needs
+
+mul-total : tie.Need-mul-total Inv-loop μ-loop
+mul-total c = omega (arith, most c)
+
+add-total : tie.Need-add-total Inv-loop μ-loop
+add-total c =
+    let a = c .before .before .before .before .before .before .before .before .before .before in
+    omega (arith, most c, c .before .before .before .before .before .before .before .before .loop .inv .2, c .before .before .before .before .before .before .before .loop-test .taken, a .pre .0 .trains)
+
+add-i : tie.Need-add-i Inv-loop μ-loop
+add-i c = search needs
+
+loop-less : tie.Need-loop-less Inv-loop μ-loop
+loop-less c = search needs
+
+loop-again : tie.Need-loop-again Inv-loop μ-loop
+loop-again c =
+    let a = c .before .before .before .before .before .before .before .before .before in
+    let i = c .before .before .before .before .before .before .before .loop in
+    let here = c .before .before .before .before .before .before .loop-test .taken in
+    let last = c .before .before .wide .ensures .0 ∙ c .before .before .before .arrival-of .ensures in
+    let legs = c .before .before .before .before .legs-between .ensures in
+    ⊎-elim
+    (λ w.
+    let late = cost-late (a .args .t1) (now (a .args .m)) (i .i) legs last (c .before .free-arrival .ensures) (w .1 .ensures .0) in
+    (omega (arith, here), w .2 ∙ sum-next (cost (a .args .t1) (now (a .args .m))) (i .i) (i .inv .1) late, omega (arith, w .2, i .inv .2, most (record { before = record { before = c .before; if1 = w .0 }; wide2 = w .1 }))))
+    (λ w.
+    let none = cost-none (a .args .t1) (now (a .args .m)) (i .i) legs last (c .before .free-arrival .ensures) (w .0 .left) in
+    let next = sum-next (cost (a .args .t1) (now (a .args .m))) (i .i) (i .inv .1) none in
+    (omega (arith, here), omega (arith, w .1, next), omega (arith, w .1, i .inv .2)))
+    (c .if1 .came)
+
+returns : tie.Need-returns Inv-loop μ-loop
+returns c =
+    let a = c .before .before .before in
+    cost-end (a .args .t1) (now (a .args .m)) (c .before .loop .inv .1) (omega arith)
+
+pub weighted-delay-spec : {M : Type 1} → statement M
+weighted-delay-spec =
+    tie.close
+    (tie.spec
+    Inv-loop
+    μ-loop
+    cast-n
+    loop-holds
+    mul-train
+    element-copy-out-train
+    legs-between-requires
+    sub-last
+    arrival-of-requires
+    wide-requires
+    free-arrival-requires
+    wide-requires-2
+    sub-total
+    mul-total
+    add-total
+    add-i
+    loop-less
+    loop-again
+    returns)

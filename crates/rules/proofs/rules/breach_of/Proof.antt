@@ -1,0 +1,121 @@
+-- `rules::rules::breach_of` meets its contract: each `return` is the first breach of the checks made so far, and the place of a conflict is a segment or
+-- station of the line (`place-fits`). Assumes nothing.
+use mathlib.Core.Path.{_∙_, ap}
+use denote.Ref.{now}
+use borrow.Author.Needs.{needs}
+use Rattle.rules.specs.Breaches.{conflictBreach, breachOf}
+use Rattle.rules.specs.BreachesLaws.{breach-first, breach-later, place-fits}
+use Rattle.rules.proofs.rules.breach_of.Statement.{statement}
+use Rattle.rules.proofs.rules.breach_of.Tie as tie
+
+train-breach-requires : tie.Need-train-breach-requires
+train-breach-requires c κs = search needs
+
+enum-told : tie.Need-enum-told
+enum-told c = search needs
+
+enum-told-2 : tie.Need-enum-told-2
+enum-told-2 c = search needs
+
+returns : tie.Need-returns
+unfolding breachOf
+returns c = breach-first _ (c .before .before .train-breach .ensures) (c .enum-told2 .given .1)
+
+train-breach-requires-2 : tie.Need-train-breach-requires-2
+train-breach-requires-2 c κs = search needs
+
+enum-told-3 : tie.Need-enum-told-3
+enum-told-3 c = search needs
+
+enum-told-4 : tie.Need-enum-told-4
+enum-told-4 c = search needs
+
+returns-2 : tie.Need-returns-2
+unfolding breachOf
+returns-2 c =
+    breach-later (c .before .before .before .before .before .train-breach .ensures) (c .before .before .before .enum-told .given .1)
+    (breach-first _ (c .before .before .train-breach2 .ensures) (c .enum-told4 .given .1))
+
+train-breach-requires-3 : tie.Need-train-breach-requires-3
+train-breach-requires-3 c κs = search needs
+
+enum-told-5 : tie.Need-enum-told-5
+enum-told-5 c = search needs
+
+enum-told-6 : tie.Need-enum-told-6
+enum-told-6 c = search needs
+
+returns-3 : tie.Need-returns-3
+unfolding breachOf
+returns-3 c =
+    breach-later (c .before .before .before .before .before .before .before .before .train-breach .ensures) (c .before .before .before .before .before .before .enum-told .given .1)
+    (breach-later (c .before .before .before .before .before .train-breach2 .ensures) (c .before .before .before .enum-told3 .given .1)
+    (breach-first _ (c .before .before .train-breach3 .ensures) (c .enum-told6 .given .1)))
+
+train-breach-requires-4 : tie.Need-train-breach-requires-4
+train-breach-requires-4 c κs = search needs
+
+enum-told-7 : tie.Need-enum-told-7
+enum-told-7 c = search needs
+
+enum-told-8 : tie.Need-enum-told-8
+enum-told-8 c = search needs
+
+returns-4 : tie.Need-returns-4
+unfolding breachOf
+returns-4 c =
+    breach-later (c .before .before .before .before .before .before .before .before .before .before .before .train-breach .ensures) (c .before .before .before .before .before .before .before .before .before .enum-told .given .1)
+    (breach-later (c .before .before .before .before .before .before .before .before .train-breach2 .ensures) (c .before .before .before .before .before .before .enum-told3 .given .1)
+    (breach-later (c .before .before .before .before .before .train-breach3 .ensures) (c .before .before .before .enum-told5 .given .1)
+    (breach-first _ (c .before .before .train-breach4 .ensures) (c .enum-told8 .given .1))))
+
+directions-of-requires : tie.Need-directions-of-requires
+directions-of-requires c κs = c .before .before .before .before .before .before .before .before .before .before .before .before .before .pre .0 .trains .1
+
+slice-aggregate-lowest-conflict : tie.Need-slice-aggregate-lowest-conflict
+slice-aggregate-lowest-conflict c = search needs
+
+lowest-conflict-requires : tie.Need-lowest-conflict-requires
+lowest-conflict-requires c κs =
+    let a = c .before .before .before .before .before .before .before .before .before .before .before .before .before .before .before in
+    (c .before .directions-of .ensures, a .pre .1, a .pre .0 .stations .0, a .pre .0 .stations .1, a .pre .0 .trains .1)
+
+conflict-breach-requires : tie.Need-conflict-breach-requires
+conflict-breach-requires c κs =
+    let a = c .before .before .before .before .before .before .before .before .before .before .before .before .before .before .before .before in
+    rw (c .lowest-conflict .ensures) (place-fits (a .args .line) (now (a .args .m)) (a .pre .0))
+
+returns-5 : tie.Need-returns-5
+unfolding breachOf
+returns-5 c =
+    breach-later (c .before .before .before .before .before .before .before .before .before .before .before .before .before .before .before .train-breach .ensures) (c .before .before .before .before .before .before .before .before .before .before .before .before .before .enum-told .given .1)
+    (breach-later (c .before .before .before .before .before .before .before .before .before .before .before .before .train-breach2 .ensures) (c .before .before .before .before .before .before .before .before .before .before .enum-told3 .given .1)
+    (breach-later (c .before .before .before .before .before .before .before .before .before .train-breach3 .ensures) (c .before .before .before .before .before .before .before .enum-told5 .given .1)
+    (breach-later (c .before .before .before .before .before .before .train-breach4 .ensures) (c .before .before .before .before .enum-told7 .given .1)
+    (c .conflict-breach .ensures ∙ ap conflictBreach (c .before .lowest-conflict .ensures)))))
+
+pub breach-of-spec : {M : Type 1} → statement M
+breach-of-spec =
+    tie.close
+    (tie.spec
+    train-breach-requires
+    enum-told
+    enum-told-2
+    returns
+    train-breach-requires-2
+    enum-told-3
+    enum-told-4
+    returns-2
+    train-breach-requires-3
+    enum-told-5
+    enum-told-6
+    returns-3
+    train-breach-requires-4
+    enum-told-7
+    enum-told-8
+    returns-4
+    directions-of-requires
+    slice-aggregate-lowest-conflict
+    lowest-conflict-requires
+    conflict-breach-requires
+    returns-5)

@@ -1,0 +1,151 @@
+-- What the scan for conflicts needs of the definitions: searches that stop at the first conflict, and each test of rule 14 by the arms of its code.
+use Prim.Native.Nat.{ℕ, zero, suc, _+_, _≤_, _<_}
+use mathlib.Core.Path.{_≡_, refl, sym, _∙_, ap, ap₂}
+use mathlib.Core.Logic.{_⊎_, inl, inr}
+use mathlib.Core.Bool.{Bool, true, false, _&&_, true≢false}
+use mathlib.Core.List.{List}
+use native.Mathlib.Decide.{decLt}
+use native.Mathlib.Numerals.{add-one}
+use native.Mathlib.Omega.{arith}
+use lib.ListN.{getD}
+use lib.Dec.{eqb}
+use Rattle.text.specs.Decide.{Decides, is-true, is-false, decides-and, decides-not, decides-lt, decides-eq}
+use Rattle.text.specs.Below.{EachBelow, first-found, first-none}
+use Rattle.line.specs.declared.Kind.{Kind}
+use Rattle.line.specs.declared.Segment.{Segment}
+use Rattle.line.specs.Record.{noSegment}
+use Rattle.rules.specs.declared.conflicts.Conflict.{Conflict}
+use Rattle.rules.specs.declared.conflicts.Passage.{Passage}
+use Rattle.rules.specs.declared.conflicts.TrainFound.{TrainFound}
+use Rattle.rules.specs.Directions.{way}
+use Rattle.rules.specs.Conflicts.{orConflict, firstConflict, gapBy, passage, keepsAfter, neitherFirst, clash, trainFound, partnerOf, pairWith, pairOn, segmentConflict}
+
+-- ---- a search: nothing among the first i, and then at i nothing, or the conflict x
+
+module _ (f : ℕ → Conflict) where
+  pub conflict-start : firstConflict f 0 ≡ Conflict.Nothing
+  unfolding firstConflict
+  conflict-start = refl
+
+  pub conflict-on : (i : ℕ) → firstConflict f i ≡ Conflict.Nothing → f i ≡ Conflict.Nothing → firstConflict f (i + 1) ≡ Conflict.Nothing
+  unfolding firstConflict
+  conflict-on i e h = rw (add-one, e, h)
+
+  pub conflict-hit : (n i : ℕ) (x : Conflict) → i < n → firstConflict f i ≡ Conflict.Nothing → f i ≡ x → ((c : Conflict) → orConflict x c ≡ x) → firstConflict f n ≡ x
+  unfolding firstConflict
+  conflict-hit zero i x l e h s = absurd (omega arith)
+  conflict-hit (suc n) i x l e h s = elim (decLt i n) [
+    | yes k ↦ rw (conflict-hit n i x k e h s) (s (f n))
+    | no k ↦ (let q : i ≡ n = omega arith in rw (← q, e) h)
+  ]
+
+-- for the code that tells by the variant's tag that there is a conflict, and returns it
+pub conflict-stays : (tag : Conflict → ℕ) → tag Conflict.Nothing ≡ 0 → (x : Conflict) → (tag x ≡ 1) ⊎ (tag x ≡ 2) → (c : Conflict) → orConflict x c ≡ x
+conflict-stays tag z Conflict.Nothing (inl h) c = absurd (omega arith)
+conflict-stays tag z Conflict.Nothing (inr h) c = absurd (omega arith)
+conflict-stays tag z (Conflict.OnSegment s) h c = refl
+conflict-stays tag z (Conflict.AtStation s) h c = refl
+
+-- ---- the gap of rule 14
+
+-- for the code's arms: what the test is, by the kind and the ways
+pub keeps-by : (k : Kind) (w : Bool) (g : Segment) (x y : Passage) (r : Bool) → g .kind ≡ k → eqb (x .way) (y .way) ≡ w →
+    r ≡ gapBy k w g (x .departs) (x .arrives) (y .departs) (y .arrives) → r ≡ keepsAfter g x y
+unfolding keepsAfter
+keeps-by k w g x y r e f h = h ∙ sym (ap₂ (λ (k : Kind) (w : Bool). gapBy k w g (x .departs) (x .arrives) (y .departs) (y .arrives)) e f)
+
+-- for the code's `&&`: the way through both tests, and the way out at the first
+pub both-second : (a b r : Bool) → a ≡ true → r ≡ b → r ≡ a && b
+both-second a b r e h = rw e h
+
+pub both-first : (a b r : Bool) → a ≡ false → r ≡ false → r ≡ a && b
+both-first a b r e h = rw e h
+
+module _ (g : Segment) (x y : Passage) where
+  pub neither-one : keepsAfter g x y ≡ true → false ≡ neitherFirst g x y
+  unfolding neitherFirst
+  neither-one e = rw e
+
+  pub neither-other : keepsAfter g x y ≡ false → keepsAfter g y x ≡ true → false ≡ neitherFirst g x y
+  unfolding neitherFirst
+  neither-other e f = rw (e, f)
+
+  pub neither-both : keepsAfter g x y ≡ false → keepsAfter g y x ≡ false → true ≡ neitherFirst g x y
+  unfolding neitherFirst
+  neither-both e f = rw (e, f)
+
+-- ---- a train's partner, a segment's pair, the lowest segment
+
+module _ (g : Segment) (ds m : List ℕ) (p : ℕ) where
+  pub decides-clash : (i j : ℕ) →
+      Decides ((i < j) × ((way ds p i ≡ 0 → ⊥) × ((way ds p j ≡ 0 → ⊥) × (neitherFirst g (passage ds m p i) (passage ds m p j) ≡ true)))) (clash g ds m p i j)
+  unfolding clash
+  decides-clash i j =
+      decides-and (decides-lt i j) (decides-and (decides-not (decides-eq _ _)) (decides-and (decides-not (decides-eq _ _))
+      record { yea = λ e. e; nay = λ e h. true≢false (sym h ∙ e) }))
+
+  -- for the code: what it compares, with both passages
+  pub clash-below : (i j : ℕ) → j ≤ i → clash g ds m p i j ≡ false
+  clash-below i j l = is-false (decides-clash i j) (λ h. omega (arith, h .0))
+
+  pub clash-off : (i j : ℕ) (x : Passage) → x ≡ passage ds m p i → x .way ≡ 0 → clash g ds m p i j ≡ false
+  clash-off i j x e o = is-false (decides-clash i j) (λ h. h .1 .0 (sym (ap (λ (z : Passage). z .way) e) ∙ o))
+
+  pub clash-other-off : (i j : ℕ) (y : Passage) → y ≡ passage ds m p j → y .way ≡ 0 → clash g ds m p i j ≡ false
+  clash-other-off i j y e o = is-false (decides-clash i j) (λ h. h .1 .1 .0 (sym (ap (λ (z : Passage). z .way) e) ∙ o))
+
+  module _ (i j : ℕ) (x y : Passage) (b : Bool) (one : x ≡ passage ds m p i) (other : y ≡ passage ds m p j) (tested : b ≡ neitherFirst g x y) where
+    pub clash-here : b ≡ true → i < j → (x .way ≡ 0 → ⊥) → (y .way ≡ 0 → ⊥) → clash g ds m p i j ≡ true
+    clash-here t l u v =
+        is-true (decides-clash i j) (
+          l,
+          (
+            (λ z. u (ap (λ (q : Passage). q .way) one ∙ z)),
+            (
+              (λ z. v (ap (λ (q : Passage). q .way) other ∙ z)),
+              sym (ap₂ (neitherFirst g) one other) ∙ sym tested ∙ t,
+            ),
+          ),
+        )
+
+    pub clash-not : b ≡ false → clash g ds m p i j ≡ false
+    clash-not t = is-false (decides-clash i j) (λ h. true≢false (sym (h .1 .1 .1) ∙ sym (ap₂ (neitherFirst g) one other) ∙ sym tested ∙ t))
+
+  pub partner-found : (i j n : ℕ) → j < n → clash g ds m p i j ≡ true → EachBelow j (λ k. clash g ds m p i k ≡ false) → TrainFound.Train j ≡ partnerOf g ds m p n i
+  unfolding partnerOf
+  partner-found i j n l t h = sym (ap trainFound (first-found (clash g ds m p i) n j l t h))
+
+  pub partner-none : (i n : ℕ) → EachBelow n (λ k. clash g ds m p i k ≡ false) → TrainFound.Nobody ≡ partnerOf g ds m p n i
+  unfolding partnerOf
+  partner-none i n h = sym (ap trainFound (first-none (clash g ds m p i) n h))
+
+  -- no train below i has a partner
+  abbrev pub NoPair : ℕ → ℕ → Type 0
+  NoPair n i = firstConflict (λ k. pairWith p k (partnerOf g ds m p n k)) i ≡ Conflict.Nothing
+
+  pub pair-on : (n i : ℕ) → NoPair n i → partnerOf g ds m p n i ≡ TrainFound.Nobody → NoPair n (i + 1)
+  pair-on n i e h = conflict-on (λ k. pairWith p k (partnerOf g ds m p n k)) i e (ap (pairWith p i) h)
+
+  pub pair-found : (n i j : ℕ) → i < n → NoPair n i → partnerOf g ds m p n i ≡ TrainFound.Train j → Conflict.OnSegment (record { segment = p; lower = i; higher = j }) ≡ pairOn g ds m n p
+  unfolding pairOn
+  pair-found n i j l e h = sym (conflict-hit (λ k. pairWith p k (partnerOf g ds m p n k)) n i _ l e (ap (pairWith p i) h) (λ c. refl))
+
+  pub pair-none : (n i : ℕ) → i ≡ n → NoPair n i → Conflict.Nothing ≡ pairOn g ds m n p
+  unfolding pairOn
+  pair-none n i q e = sym e ∙ ap (firstConflict (λ k. pairWith p k (partnerOf g ds m p n k))) q
+
+module _ (gs : List Segment) (ds m : List ℕ) (n : ℕ) where
+  -- no segment below p has a pair
+  abbrev pub NoSegment : ℕ → Type 0
+  NoSegment p = firstConflict (λ k. pairOn (getD gs k noSegment) ds m n k) p ≡ Conflict.Nothing
+
+  pub segment-on : (p : ℕ) → NoSegment p → pairOn (getD gs p noSegment) ds m n p ≡ Conflict.Nothing → NoSegment (p + 1)
+  segment-on p e h = conflict-on (λ k. pairOn (getD gs k noSegment) ds m n k) p e h
+
+  pub segment-found : (segments p : ℕ) (x : Conflict) → p < segments → NoSegment p → pairOn (getD gs p noSegment) ds m n p ≡ x → ((c : Conflict) → orConflict x c ≡ x) → x ≡ segmentConflict gs ds m segments n
+  unfolding segmentConflict
+  segment-found segments p x l e h s = sym (conflict-hit (λ k. pairOn (getD gs k noSegment) ds m n k) segments p x l e h s)
+
+  pub segment-none : (segments p : ℕ) → p ≡ segments → NoSegment p → Conflict.Nothing ≡ segmentConflict gs ds m segments n
+  unfolding segmentConflict
+  segment-none segments p q e = sym e ∙ ap (firstConflict (λ k. pairOn (getD gs k noSegment) ds m n k)) q

@@ -1,0 +1,250 @@
+-- The first breach is none exactly when every rule from 10 to 15 is kept: each test of the scan decides its rule.
+use Prim.Native.Nat.{ℕ, zero, suc, _+_, _-_, _≤_, _<_, min, max}
+use mathlib.Core.Path.{_≡_, refl, sym, ap, _∙_}
+use mathlib.Core.Logic.{_⊎_, inl, inr, ⊎-elim}
+use mathlib.Core.Bool.{Bool, true, false, cond, not, _&&_, _||_, true≢false, false≢true}
+use mathlib.Core.Option.{Option, some, none}
+use mathlib.Core.List.{List}
+use native.Mathlib.Decide.{decLt}
+use native.Mathlib.Omega.{arith}
+use lib.Dec.{leb, ltb, eqb}
+use Rattle.text.specs.Decide.{Decides, by-test, is-true, is-false, decides-lt, decides-le, decides-and, decides-or, decides-not, decides-as}
+use Rattle.text.specs.Below.{EachBelow, first, count, first-none, none-first}
+use Rattle.line.specs.declared.Kind.{Kind}
+use Rattle.line.specs.declared.Segment.{Segment}
+use Rattle.line.specs.declared.Line.{Line}
+use Rattle.line.specs.Within.{Within, Arrays}
+use Rattle.rules.specs.declared.conflicts.Conflict.{Conflict}
+use Rattle.rules.specs.declared.conflicts.MinuteFound.{MinuteFound}
+use Rattle.rules.specs.declared.conflicts.Passage.{Passage}
+use Rattle.rules.specs.declared.rules.Breach.{Breach}
+use Rattle.rules.specs.Paths.{train, segmentCount, segment, tracksAt, outbound, sameWay, Uses, Middle, EachTrain}
+use Rattle.rules.specs.Minutes.{departsOn, arrivesOn}
+use Rattle.rules.specs.Rules.{NotEarly, Runs, Stops, NotLate, GapBy, Before, Apart, middle, stands, standing, Room}
+use Rattle.rules.specs.Directions.{directionsOf, way, on}
+use Rattle.rules.specs.DirectionsLaws.{decides-on, same-way, outbound-way}
+use Rattle.rules.specs.Conflicts.{gapBy, passage, keepsAfter, neitherFirst, clash, trainFound, partnerOf, pairWith, pairOn, segmentConflict, standsIn, standsAt, standingAt, crowdAt, crowdOn, stationConflict, orConflict, conflictOf}
+use Rattle.rules.specs.StationLaws.{conflict-none, none-conflict, never-crowded, crowded-never, crowd-middle, crowd-first, crowd-last}
+use Rattle.rules.specs.RulesLaws.{train-within, decides-10, decides-11, decides-12, decides-13}
+use Rattle.rules.specs.Breaches.{orBreach, trainBreach, conflictBreach, breachOf}
+use Rattle.rules.specs.BreachesLaws.{breach-none, none-breach}
+
+-- ---- rule 14
+
+-- the second statement is decided only where the first holds
+decides-then : {P Q : Type 0} {a b : Bool} → Decides P a → (P → Decides Q b) → Decides (P × Q) (a && b)
+decides-then {P} {Q} {a} {b} p q = go a p q
+  where
+    go : (a : Bool) → Decides P a → (P → Decides Q b) → Decides (P × Q) (a && b)
+    go true p q = let d = q (p .yea refl) in record { yea = λ e. (p .yea refl, d .yea e); nay = λ e h. d .nay e (h .1) }
+    go false p q = record { yea = λ e. absurd (false≢true e); nay = λ e h. p .nay refl (h .0) }
+
+decides-gap : (k : Kind) (b : Bool) (g : Segment) (d a d′ a′ : ℕ) → Decides (GapBy k b g d a d′ a′) (gapBy k b g d a d′ a′)
+decides-gap Kind.S true g d a d′ a′ = decides-le _ _
+decides-gap Kind.F true g d a d′ a′ = decides-and (decides-le _ _) (decides-le _ _)
+decides-gap Kind.D true g d a d′ a′ = decides-and (decides-le _ _) (decides-le _ _)
+decides-gap Kind.S false g d a d′ a′ = decides-le _ _
+decides-gap Kind.F false g d a d′ a′ = decides-le _ _
+decides-gap Kind.D false g d a d′ a′ = record { yea = λ e. tt; nay = λ e h. true≢false e }
+
+module _ (l : Line) (few : l .«train_count» ≤ 12) (m : List ℕ) (p : ℕ) (short : p < 11) where
+  abbrev passing : ℕ → Passage
+  passing i = passage (directionsOf l) m p i
+
+  decides-before : (i j : ℕ) → i < l .«train_count» → j < l .«train_count» → Uses (train l i) p → Uses (train l j) p → Decides (Before l m p i j) (keepsAfter (segment l p) (passing i) (passing j))
+  unfolding keepsAfter
+  decides-before i j a b u v = rw (same-way l few p short i j a b u v) (decides-gap (segment l p .kind) (sameWay l i j) (segment l p) _ _ _ _)
+
+  -- two trains that share the segment and of which neither goes first
+  abbrev Clash : ℕ → ℕ → Type 0
+  Clash i j = (i < j) × (Uses (train l i) p × (Uses (train l j) p × (Before l m p i j ⊎ Before l m p j i → ⊥)))
+
+  decides-clash : (i j : ℕ) → i < l .«train_count» → j < l .«train_count» → Decides (Clash i j) (clash (segment l p) (directionsOf l) m p i j)
+  unfolding clash neitherFirst
+  decides-clash i j a b =
+      decides-and (decides-lt i j)
+      (decides-then (decides-on l few p short i a) (λ u.
+      decides-then (decides-on l few p short j b) (λ v.
+      decides-not (decides-or (decides-before i j a b u v) (decides-before j i b a v u)))))
+
+  apart-of : EachTrain l (λ i. EachTrain l (λ j. clash (segment l p) (directionsOf l) m p i j ≡ false)) → Apart l m p
+  apart-of h i a j b o u v =
+      by-test (decides-before i j a b u v) inl
+      (λ x. by-test (decides-before j i b a v u) inr
+      (λ y. absurd (decides-clash i j a b .nay (h i a j b) (o, (u, (v, λ q. ⊎-elim x y q))))))
+
+  of-apart : Apart l m p → EachTrain l (λ i. EachTrain l (λ j. clash (segment l p) (directionsOf l) m p i j ≡ false))
+  of-apart h i a j b = is-false (decides-clash i j a b) (λ c. c .1 .1 .1 (h i a j b (c .0) (c .1 .0) (c .1 .1 .0)))
+
+  -- no pair is found exactly when the rule is kept
+  pair-clear : pairOn (segment l p) (directionsOf l) m (l .«train_count») p ≡ Conflict.Nothing → Apart l m p
+  unfolding pairOn partnerOf
+  pair-clear e = apart-of (λ i a. none-first (clash (segment l p) (directionsOf l) m p i) (l .«train_count») (nobody i _ (none-conflict _ (l .«train_count») e i a)))
+    where
+      nobody : (i : ℕ) (o : Option ℕ) → pairWith p i (trainFound o) ≡ Conflict.Nothing → o ≡ none
+      nobody i none q = refl
+      nobody i (some j) q = let z : _≡_ {A = ℕ} 0 1 = cc in absurd (omega arith)
+
+  clear-pair : Apart l m p → pairOn (segment l p) (directionsOf l) m (l .«train_count») p ≡ Conflict.Nothing
+  unfolding pairOn partnerOf
+  clear-pair h = conflict-none _ (l .«train_count») (λ i a. ap (λ (o : Option ℕ). pairWith p i (trainFound o)) (first-none (clash (segment l p) (directionsOf l) m p i) (l .«train_count») (of-apart h i a)))
+
+-- ---- rule 15
+
+count-same : (f g : ℕ → Bool) (n : ℕ) → EachBelow n (λ i. f i ≡ g i) → count f n ≡ count g n
+unfolding count
+count-same f g zero h = refl
+count-same f g (suc n) h = rw (count-same f g n (λ i a. h i (omega arith)), h n (omega arith)) refl
+
+module _ (l : Line) (few : l .«train_count» ≤ 12) (m : List ℕ) (s : ℕ) (low : 0 < s) (short : s < 11) where
+  -- a train goes over the segments on both sides of its middle stations
+  decides-passes : (i : ℕ) → i < l .«train_count» → Decides (Middle (train l i) s) (on (directionsOf l) s i && on (directionsOf l) (s - 1) i)
+  decides-passes i a =
+      decides-as (λ h. (omega (arith, h .0, h .1), omega (arith, h .0, h .1))) (λ h. ((omega (arith, h .0, h .1), omega (arith, h .0, h .1)), (omega (arith, h .0, h .1), omega (arith, h .0, h .1))))
+      (decides-and (decides-on l few s short i a) (decides-on l few (s - 1) (omega arith) i a))
+
+  decides-middle : (i : ℕ) → Decides (Middle (train l i) s) (middle (train l i) s)
+  unfolding middle
+  decides-middle i = decides-and (decides-lt _ _) (decides-lt _ _)
+
+  stands-same : (t i : ℕ) → i < l .«train_count» → standsAt (directionsOf l) m s t i ≡ stands l m s t i
+  unfolding standsIn stands
+  stands-same t i a =
+      by-test (decides-passes i a)
+      (λ h.
+      let over : Uses (train l i) s = (omega (arith, h .0, h .1), h .1) in
+      let out = outbound-way l few s short i a over in
+      rw (is-true (decides-passes i a) h, is-true (decides-middle i) h, out) (turned (outbound (train l i))))
+      (λ h. rw (is-false (decides-passes i a) h, is-false (decides-middle i) h) refl)
+    where
+      turned : (w : Bool) → leb (cond w (arrivesOn m (s - 1) i) (arrivesOn m s i)) t && leb t (cond w (departsOn m s i) (departsOn m (s - 1) i)) ≡ leb (arrivesOn m (cond w (s - 1) s) i) t && leb t (departsOn m (cond w s (s - 1)) i)
+      turned true = refl
+      turned false = refl
+
+  standing-same : (t : ℕ) → standingAt (directionsOf l) m (l .«train_count») s t ≡ standing l m s t
+  unfolding standingAt standing
+  standing-same t = count-same _ _ (l .«train_count») (λ i a. stands-same t i a)
+
+  -- no crowd is found exactly when the rule is kept
+  room-clear : (tracks : ℕ) → tracks ≡ tracksAt l s → EachBelow 2880 (λ t. standingAt (directionsOf l) m (l .«train_count») s t ≤ tracks) → Room l m s
+  room-clear tracks e h t b = omega (arith, h t b, standing-same t)
+
+  clear-room : (tracks : ℕ) → tracks ≡ tracksAt l s → Room l m s → EachBelow 2880 (λ t. standingAt (directionsOf l) m (l .«train_count») s t ≤ tracks)
+  clear-room tracks e h t b = omega (arith, h t b, standing-same t)
+
+count-never : (n : ℕ) → count (λ i. false) n ≡ 0
+unfolding count
+count-never zero = refl
+count-never (suc n) = rw (count-never n) refl
+
+-- at a station that is nobody's middle one nobody stands
+nobody-stands : (l : Line) (m : List ℕ) (s : ℕ) → EachTrain l (λ i. Middle (train l i) s → ⊥) → Room l m s
+unfolding standing stands middle
+nobody-stands l m s h t b =
+    let none = count-same (stands l m s t) (λ i. false) (l .«train_count») (λ i a. rw (is-false (decides-and (decides-lt _ _) (decides-lt _ _)) (h i a)) refl) in
+    omega (arith, none, count-never (l .«train_count»))
+
+-- ---- the whole
+
+-- every rule from 10 to 15 is kept
+pub record Kept (l : Line) (m : List ℕ) : Type 0 where
+  pub rule10 : EachTrain l (NotEarly l m)
+  pub rule11 : EachTrain l (Runs l m)
+  pub rule12 : EachTrain l (Stops l m)
+  pub rule13 : EachTrain l (NotLate l m)
+  pub rule14 : EachBelow (segmentCount l) (Apart l m)
+  pub rule15 : EachBelow (l .«station_count») (Room l m)
+
+or-nothing : (a b : Conflict) → orConflict a b ≡ Conflict.Nothing → (a ≡ Conflict.Nothing) × (b ≡ Conflict.Nothing)
+or-nothing Conflict.Nothing b e = (refl, e)
+or-nothing (Conflict.OnSegment x) b e = let z : _≡_ {A = ℕ} 0 1 = cc in absurd (omega arith)
+or-nothing (Conflict.AtStation x) b e = let z : _≡_ {A = ℕ} 0 1 = cc in absurd (omega arith)
+
+or-none : (a b : Breach) → orBreach a b ≡ Breach.None → (a ≡ Breach.None) × (b ≡ Breach.None)
+or-none Breach.None b e = (refl, e)
+or-none (Breach.Rule n p) b e = let z : _≡_ {A = ℕ} 0 1 = cc in absurd (omega arith)
+
+no-conflict : (c : Conflict) → conflictBreach c ≡ Breach.None → c ≡ Conflict.Nothing
+no-conflict Conflict.Nothing e = refl
+no-conflict (Conflict.OnSegment x) e = let z : _≡_ {A = ℕ} 0 1 = cc in absurd (omega arith)
+no-conflict (Conflict.AtStation x) e = let z : _≡_ {A = ℕ} 0 1 = cc in absurd (omega arith)
+
+module _ (l : Line) (w : Within l) (a : Arrays l) (m : List ℕ) where
+  few-trains : l .«train_count» ≤ 12
+  few-trains = w .trains .1
+
+  -- ---- rule 14 on every segment
+
+  segments-clear : segmentConflict (l .segments) (directionsOf l) m (segmentCount l) (l .«train_count») ≡ Conflict.Nothing → EachBelow (segmentCount l) (Apart l m)
+  unfolding segmentConflict
+  segments-clear e p b = pair-clear l few-trains m p (omega (arith, w .stations .1)) (none-conflict _ (segmentCount l) e p b)
+
+  clear-segments : EachBelow (segmentCount l) (Apart l m) → segmentConflict (l .segments) (directionsOf l) m (segmentCount l) (l .«train_count») ≡ Conflict.Nothing
+  unfolding segmentConflict
+  clear-segments h = conflict-none _ (segmentCount l) (λ p b. clear-pair l few-trains m p (omega (arith, w .stations .1)) (h p b))
+
+  -- ---- rule 15 at every station
+
+  -- the first and the last station are nobody's middle ones
+  ends-free : (s : ℕ) → (s ≡ 0) ⊎ (l .«station_count» ≤ s + 1) → Room l m s
+  ends-free s (inl e) = nobody-stands l m s (λ i b h. omega (arith, h .0))
+  ends-free s (inr e) = nobody-stands l m s (λ i b h. let t = train-within l i w (a .trains) b in omega (arith, h .1, t .origin .1, t .destination .1))
+
+  crowd-clear : (s : ℕ) → 0 < s → s + 1 < l .«station_count» → crowdOn (l .tracks) (directionsOf l) m (l .«station_count») (l .«train_count») s ≡ Conflict.Nothing → Room l m s
+  crowd-clear s o b e =
+      room-clear l few-trains m s o (omega (arith, w .stations .1)) (tracksAt l s) refl
+      (never-crowded (directionsOf l) m (l .«train_count») (tracksAt l s) s (never _ (sym (crowd-middle (l .tracks) (directionsOf l) m (l .«station_count») (l .«train_count») s o b) ∙ e)))
+    where
+      never : (f : MinuteFound) → crowdAt (directionsOf l) m (l .«train_count») (tracksAt l s) s f ≡ Conflict.Nothing → f ≡ MinuteFound.Never
+      never MinuteFound.Never q = refl
+      never (MinuteFound.Minute t) q = let z : _≡_ {A = ℕ} 0 1 = cc in absurd (omega arith)
+
+  clear-crowd : (s : ℕ) → 0 < s → s + 1 < l .«station_count» → Room l m s → crowdOn (l .tracks) (directionsOf l) m (l .«station_count») (l .«train_count») s ≡ Conflict.Nothing
+  clear-crowd s o b h =
+      crowd-middle (l .tracks) (directionsOf l) m (l .«station_count») (l .«train_count») s o b
+      ∙ ap (λ (f : MinuteFound). crowdAt (directionsOf l) m (l .«train_count») (tracksAt l s) s f) (crowded-never (directionsOf l) m (l .«train_count») (tracksAt l s) s (clear-room l few-trains m s o (omega (arith, w .stations .1)) (tracksAt l s) refl h))
+
+  -- each station is the first, the last, or between
+  by-place : {Q : Type 0} (s : ℕ) → (s ≡ 0 → Q) → (l .«station_count» ≤ s + 1 → Q) → (0 < s → s + 1 < l .«station_count» → Q) → Q
+  by-place s f g h = elim (decLt 0 s) [
+    | yes o ↦ elim (decLt (s + 1) (l .«station_count»)) [ yes b ↦ h o b | no b ↦ g (omega arith) ]
+    | no o ↦ f (omega arith)
+  ]
+
+  stations-clear : stationConflict (l .tracks) (directionsOf l) m (l .«station_count») (l .«train_count») ≡ Conflict.Nothing → EachBelow (l .«station_count») (Room l m)
+  unfolding stationConflict
+  stations-clear e s b = by-place s (λ z. ends-free s (inl z)) (λ z. ends-free s (inr z)) (λ o k. crowd-clear s o k (none-conflict _ (l .«station_count») e s b))
+
+  clear-stations : EachBelow (l .«station_count») (Room l m) → stationConflict (l .tracks) (directionsOf l) m (l .«station_count») (l .«train_count») ≡ Conflict.Nothing
+  unfolding stationConflict
+  clear-stations h = conflict-none _ (l .«station_count») (λ s b. by-place s (crowd-first (l .tracks) (directionsOf l) m (l .«station_count») (l .«train_count») s) (crowd-last (l .tracks) (directionsOf l) m (l .«station_count») (l .«train_count») s) (λ o k. clear-crowd s o k (h s b)))
+
+  -- ---- the theorem
+
+  -- where no breach is found every rule is kept
+  pub kept-of : breachOf l m ≡ Breach.None → Kept l m
+  unfolding breachOf conflictOf
+  kept-of e =
+      let r10 = or-none (trainBreach 10 l m) _ e in
+      let r11 = or-none (trainBreach 11 l m) _ (r10 .1) in
+      let r12 = or-none (trainBreach 12 l m) _ (r11 .1) in
+      let r13 = or-none (trainBreach 13 l m) _ (r12 .1) in
+      let c = or-nothing _ _ (no-conflict _ (r13 .1)) in
+      record {
+        rule10 = λ i b. decides-10 l m i .yea (none-breach 10 l m (r10 .0) i b);
+        rule11 = λ i b. decides-11 l m i .yea (none-breach 11 l m (r11 .0) i b);
+        rule12 = λ i b. decides-12 l m i .yea (none-breach 12 l m (r12 .0) i b);
+        rule13 = λ i b. decides-13 l m i .yea (none-breach 13 l m (r13 .0) i b);
+        rule14 = segments-clear (c .0);
+        rule15 = stations-clear (c .1);
+      }
+
+  -- where every rule is kept no breach is found
+  pub of-kept : Kept l m → breachOf l m ≡ Breach.None
+  unfolding breachOf conflictOf
+  of-kept k =
+      let b10 = sym (breach-none 10 l m (λ i b. is-true (decides-10 l m i) (k .rule10 i b))) in
+      let b11 = sym (breach-none 11 l m (λ i b. is-true (decides-11 l m i) (k .rule11 i b))) in
+      let b12 = sym (breach-none 12 l m (λ i b. is-true (decides-12 l m i) (k .rule12 i b))) in
+      let b13 = sym (breach-none 13 l m (λ i b. is-true (decides-13 l m i) (k .rule13 i b))) in
+      rw (b10, b11, b12, b13, clear-segments (k .rule14), clear-stations (k .rule15)) refl

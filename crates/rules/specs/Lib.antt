@@ -1,0 +1,20 @@
+-- The mathematics of the rules: its modules, definitions before their laws.
+pub mod Paths
+pub mod Minutes
+pub mod Rules
+pub mod Delay
+pub mod Tests
+pub mod Directions
+pub mod Conflicts
+pub mod Orders
+pub mod Breaches
+pub mod BestLaws
+pub mod DirectionsLaws
+pub mod ConflictsLaws
+pub mod Standing
+pub mod StationLaws
+pub mod RulesLaws
+pub mod BreachesLaws
+pub mod OrdersCarry
+pub mod OrdersLaws
+pub mod ExactLaws

@@ -1,0 +1,143 @@
+-- Laws of paths, of free arrival and weighted delay, and of the tests of rules 10 to 13: each test decides its rule.
+use Prim.Native.Nat.{ℕ, suc, _+_, _*_, _-_, _≤_, _<_}
+use mathlib.Core.Path.{_≡_, refl, sym, _∙_, ap}
+use mathlib.Core.Bool.{Bool}
+use mathlib.Core.List.{List}
+use native.Mathlib.Nat.{mul-zero}
+use native.Mathlib.Omega.{arith}
+use borrow.Author.Tests.{lt-ltb, le-ltb, eq-eqb, ne-eqb}
+use lib.ListN.{length, getD}
+use lib.Dec.{leb}
+use Rattle.text.specs.Decide.{Decides, decides-le, decides-eq}
+use Rattle.text.specs.Below.{EachBelow, sum, sum-more, decides-all}
+use Rattle.line.specs.declared.Train.{Train}
+use Rattle.line.specs.declared.Line.{Line}
+use Rattle.line.specs.Record.{legsOf}
+use Rattle.line.specs.Within.{TrainWithin, Within}
+use Rattle.text.specs.EachLaws.{each-at}
+use Rattle.rules.specs.Paths.{pastTrain, train, segmentBetween, Routed}
+use Rattle.rules.specs.Delay.{freeAfter, freeArrival, delay, weightedDelay}
+use Rattle.rules.specs.Rules.{NotEarly, Runs, Stops, NotLate}
+use Rattle.rules.specs.Tests.{departureOf, arrivalOf, startsRight, runsRight, stopsRight, endsRight, keepsRule}
+
+-- ---- paths
+
+pub train-within : (l : Line) (i : ℕ) → Within l → length (l .trains) ≡ 12 → i < l .«train_count» → TrainWithin (l .«station_count») (train l i)
+train-within l i w size h =
+    each-at (TrainWithin (l .«station_count»)) (l .«train_count») (l .trains) i pastTrain (omega (arith, w .trains)) h (w .each-train)
+
+pub routed-within : (n : ℕ) (t : Train) → TrainWithin n t → n ≤ 12 → Routed t
+routed-within n t w h =
+    record { origin = (omega (arith, w .origin), omega (arith, w .origin)); destination = (omega (arith, w .destination), omega (arith, w .destination)); apart = w .apart }
+
+pub routed : (l : Line) (i : ℕ) → Within l → length (l .trains) ≡ 12 → i < l .«train_count» → Routed (train l i)
+routed l i w size h = routed-within _ _ (train-within l i w size h) (w .stations .1)
+
+pub legs-few : (t : Train) → Routed t → (1 ≤ legsOf t) × (legsOf t ≤ 11)
+legs-few t r = (omega (arith, r .apart), omega (arith, r .origin, r .destination))
+
+module _ (o d k : ℕ) where
+  pub segment-out : o < d → o - 1 + k ≡ segmentBetween o d k
+  unfolding segmentBetween
+  segment-out h = rw (lt-ltb o d h) refl
+
+  pub segment-in : d ≤ o → o - 2 - k ≡ segmentBetween o d k
+  unfolding segmentBetween
+  segment-in h = rw (le-ltb o d h) (omega arith)
+
+-- ---- free arrival
+
+pub free-start : (t : Train) {x y : ℕ} → x ≡ t .earliest → y ≡ getD (t .runs) 0 0 → x + y ≡ freeAfter t 0
+unfolding freeAfter
+free-start t e r = omega (arith, e, r)
+
+-- the stop after leg k - 1 and the run over leg k
+pub free-step : (t : Train) (k : ℕ) {a x y : ℕ} {runs stops : List ℕ} → 1 ≤ k → runs ≡ t .runs → stops ≡ t .stops → a ≡ freeAfter t (k - 1) → x ≡ getD stops (k - 1) 0 → y ≡ getD runs k 0 → a + x + y ≡ freeAfter t (k + 1 - 1)
+unfolding freeAfter
+free-step t k l r s ea ex ey =
+    let next : k + 1 - 1 ≡ suc (k - 1) = omega arith in
+    let here : k ≡ suc (k - 1) = omega arith in
+    let stop = ex ∙ ap (λ (xs : List ℕ). getD xs (k - 1) 0) s in
+    let run = ey ∙ ap (λ (xs : List ℕ). getD xs k 0) r ∙ ap (λ (j : ℕ). getD (t .runs) j 0) here in
+    rw next (omega (arith, ea, stop, run))
+
+-- ---- weighted delay
+
+pub sum-next : (f : ℕ → ℕ) (i : ℕ) {s x : ℕ} → s ≡ sum f i → x ≡ f i → s + x ≡ sum f (i + 1)
+sum-next f i e h = rw (sum-more f i) (omega (arith, e, h))
+
+module _ (l : Line) (m : List ℕ) where
+  -- the term of train i
+  abbrev pub cost : ℕ → ℕ
+  cost i = train l i .weight * delay l m i
+
+  pub cost-start : 0 ≡ sum cost 0
+  unfolding sum
+  cost-start = refl
+
+  -- a is its last arrival and f its free arrival
+  module _ (i : ℕ) {a f k : ℕ} (legs : k ≡ legsOf (train l i)) (last : a ≡ arrivalOf (train l i) m i (k - 1)) (free : f ≡ freeArrival (train l i)) where
+    pub cost-late : {w : ℕ} → w ≡ train l i .weight → w * (a - f) ≡ cost i
+    cost-late e = rw (e, last, free, legs) refl
+
+    pub cost-none : a ≤ f → 0 ≡ cost i
+    cost-none h =
+        let none : a - f ≡ 0 = omega arith in
+        sym (ap (λ (d : ℕ). train l i .weight * d) none ∙ mul-zero _) ∙ cost-late refl
+
+  pub cost-end : {s n : ℕ} → s ≡ sum cost n → n ≡ l .«train_count» → s ≡ weightedDelay l m
+  unfolding weightedDelay
+  cost-end e h = e ∙ ap (sum cost) h
+
+-- ---- each test decides its rule
+
+module _ (t : Train) (m : List ℕ) (i : ℕ) where
+  -- the train runs right over leg k, and stops long enough after it
+  abbrev pub RunAt : ℕ → Type 0
+  RunAt k = arrivalOf t m i k ≡ departureOf t m i k + getD (t .runs) k 0
+
+  abbrev pub StopAt : ℕ → Type 0
+  StopAt k = arrivalOf t m i k + getD (t .stops) k 0 ≤ departureOf t m i (k + 1)
+
+  pub decides-runs : Decides (EachBelow (legsOf t) RunAt) (runsRight t m i)
+  unfolding runsRight
+  decides-runs = decides-all RunAt _ (legsOf t) (λ k _. decides-eq _ _)
+
+  pub decides-stops : Decides (EachBelow (legsOf t - 1) StopAt) (stopsRight t m i)
+  unfolding stopsRight
+  decides-stops = decides-all StopAt _ (legsOf t - 1) (λ k _. decides-le _ _)
+
+  -- rule n, as the code tells one number from the other
+  module _ (n : ℕ) where
+    pub keeps-start : {d : ℕ} → n ≡ 10 → d ≡ departureOf t m i 0 → leb (t .earliest) d ≡ keepsRule n t m i
+    unfolding keepsRule startsRight
+    keeps-start e h = rw (eq-eqb n 10 e, h) refl
+
+    pub keeps-runs : {r : Bool} → n ≡ 11 → r ≡ runsRight t m i → r ≡ keepsRule n t m i
+    unfolding keepsRule
+    keeps-runs e h = rw (ne-eqb n 10 (omega arith), eq-eqb n 11 e) h
+
+    pub keeps-stops : {r : Bool} → n ≡ 12 → r ≡ stopsRight t m i → r ≡ keepsRule n t m i
+    unfolding keepsRule
+    keeps-stops e h = rw (ne-eqb n 10 (omega arith), ne-eqb n 11 (omega arith), eq-eqb n 12 e) h
+
+    pub keeps-end : {a k : ℕ} → (n ≡ 10 → ⊥) → (n ≡ 11 → ⊥) → (n ≡ 12 → ⊥) → k ≡ legsOf t → a ≡ arrivalOf t m i (k - 1) → leb a (t .latest) ≡ keepsRule n t m i
+    unfolding keepsRule endsRight
+    keeps-end x y z e h = rw (ne-eqb n 10 x, ne-eqb n 11 y, ne-eqb n 12 z, h, e) refl
+
+module _ (l : Line) (m : List ℕ) (i : ℕ) where
+  pub decides-10 : Decides (NotEarly l m i) (keepsRule 10 (train l i) m i)
+  unfolding keepsRule startsRight
+  decides-10 = decides-le _ _
+
+  pub decides-11 : Decides (Runs l m i) (keepsRule 11 (train l i) m i)
+  unfolding keepsRule
+  decides-11 = decides-runs (train l i) m i
+
+  pub decides-12 : Decides (Stops l m i) (keepsRule 12 (train l i) m i)
+  unfolding keepsRule
+  decides-12 = decides-stops (train l i) m i
+
+  pub decides-13 : Decides (NotLate l m i) (keepsRule 13 (train l i) m i)
+  unfolding keepsRule endsRight
+  decides-13 = decides-le _ _

@@ -1,0 +1,353 @@
+// The lowest conflict of some minutes: rule 14 segment by segment and pair by pair, then rule 15 station by station.
+ghost use mathlib.Core.Path.{_≡_};
+ghost use Prim.Native.Nat.{ℕ, _+_, _*_, _≤_, _<_};
+ghost use lib.ListN.{length};
+ghost use lib.Dec.{leb};
+ghost use Rattle.rules.specs.Minutes.{departsOn, arrivesOn};
+ghost use Rattle.rules.specs.Directions.{directionsOf};
+ghost use Rattle.rules.specs.Conflicts.{keepsAfter, neitherFirst, passage, partnerOf, pairOn, segmentConflict, stay, standsIn, standingAt, earliestCrowd, crowdMask, crowdAt, stationConflict, conflictOf};
+use crate::directions::way_on;
+use line::Kind;
+use line::Line;
+use line::Segment;
+
+// Two trains on a segment of which neither goes first. Numbers less 1.
+pub struct SegmentConflict {
+    pub segment: usize,
+    pub lower: usize,
+    pub higher: usize,
+}
+
+// One train more than tracks, all standing at one minute: bit i of the mask for train i. Numbers less 1.
+pub struct StationConflict {
+    pub station: usize,
+    pub minute: u16,
+    pub trains: u16,
+}
+
+pub enum Conflict {
+    Nothing,
+    OnSegment(SegmentConflict),
+    AtStation(StationConflict),
+}
+
+pub enum TrainFound {
+    Train(usize),
+    Nobody,
+}
+
+pub enum MinuteFound {
+    Minute(u16),
+    Never,
+}
+
+pub fn wide(x: u16) -> u32
+    ensures { λ r. ⌜ (r ≡ x) × (r < 65536) ⌝ }
+{
+    x as u32
+}
+
+// Whether y is at least gap after x.
+fn after(x: u16, gap: u16, y: u16) -> bool
+    ensures { λ r. ⌜ r ≡ leb (x + gap) y ⌝ }
+{
+    wide(x) + wide(gap) <= wide(y)
+}
+
+pub fn departs_on(m: &[u16], p: usize, i: usize) -> u16
+    requires { ⌜ (length (now m) ≡ 352) × (p < 11) × (i < 16) ⌝ }
+    ensures { λ r. ⌜ r ≡ departsOn (now (m .entry)) p i ⌝ }
+{
+    m[16 * p + i]
+}
+
+pub fn arrives_on(m: &[u16], p: usize, i: usize) -> u16
+    requires { ⌜ (length (now m) ≡ 352) × (p < 11) × (i < 16) ⌝ }
+    ensures { λ r. ⌜ r ≡ arrivesOn (now (m .entry)) p i ⌝ }
+{
+    m[176 + (16 * p + i)]
+}
+
+// How a train goes over a segment.
+pub struct Passage {
+    pub way: u16,
+    pub departs: u16,
+    pub arrives: u16,
+}
+
+// Whether y goes after x on the segment and keeps its gap.
+fn keeps(g: Segment, x: Passage, y: Passage) -> bool
+    ensures { λ r. ⌜ r ≡ keepsAfter g x y ⌝ }
+{
+    let kind = g.kind;
+    let same = x.way == y.way;
+    match kind {
+        Kind::S => {
+            if same {
+                after(x.arrives, g.following, y.departs)
+            } else {
+                after(x.arrives, g.opposing, y.departs)
+            }
+        }
+        Kind::F => {
+            if same {
+                after(x.departs, g.following, y.departs) && after(x.arrives, g.following, y.arrives)
+            } else {
+                after(x.arrives, g.opposing, y.departs)
+            }
+        }
+        Kind::D => {
+            if same {
+                after(x.departs, g.following, y.departs) && after(x.arrives, g.following, y.arrives)
+            } else {
+                true
+            }
+        }
+    }
+}
+
+// How train i goes over segment p.
+fn passage_of(ds: &[u16], m: &[u16], p: usize, i: usize) -> Passage
+    requires { ⌜ (length (now ds) ≡ 176) × (length (now m) ≡ 352) × (p < 11) × (i < 12) ⌝ }
+    ensures { λ r. ⌜ r ≡ passage (now (ds .entry)) (now (m .entry)) p i ⌝ }
+{
+    Passage {
+        way: way_on(ds, p, i),
+        departs: departs_on(m, p, i),
+        arrives: arrives_on(m, p, i),
+    }
+}
+
+// Whether neither of x and y goes first on the segment.
+fn neither(g: Segment, x: Passage, y: Passage) -> bool
+    ensures { λ r. ⌜ r ≡ neitherFirst g x y ⌝ }
+{
+    if keeps(g, x, y) {
+        return false;
+    }
+    if keeps(g, y, x) {
+        return false;
+    }
+    true
+}
+
+// The lowest train above i that is in conflict with it on segment p.
+fn partner(g: Segment, ds: &[u16], m: &[u16], p: usize, i: usize, n: usize) -> TrainFound
+    requires { ⌜ (length (now ds) ≡ 176) × (length (now m) ≡ 352) × (p < 11) × (i < n) × (n ≤ 12) ⌝ }
+    ensures { λ r. ⌜ r ≡ partnerOf g (now (ds .entry)) (now (m .entry)) p n i ⌝ }
+{
+    let x = passage_of(ds, m, p, i);
+    if x.way == 0 {
+        return TrainFound::Nobody;
+    }
+    let mut j = i + 1;
+    while j < n {
+        let y = passage_of(ds, m, p, j);
+        if y.way != 0 {
+            if neither(g, x, y) {
+                return TrainFound::Train(j);
+            }
+        }
+        j = j + 1;
+    }
+    TrainFound::Nobody
+}
+
+// The lowest pair in conflict on segment p.
+fn pair_on(g: Segment, ds: &[u16], m: &[u16], p: usize, n: usize) -> Conflict
+    requires { ⌜ (length (now ds) ≡ 176) × (length (now m) ≡ 352) × (p < 11) × (n ≤ 12) ⌝ }
+    ensures { λ r. ⌜ r ≡ pairOn g (now (ds .entry)) (now (m .entry)) n p ⌝ }
+{
+    let mut i: usize = 0;
+    while i < n {
+        let found = partner(g, ds, m, p, i, n);
+        if let TrainFound::Train(j) = found {
+            return Conflict::OnSegment(SegmentConflict {
+                segment: p,
+                lower: i,
+                higher: j,
+            });
+        }
+        i = i + 1;
+    }
+    Conflict::Nothing
+}
+
+// The lowest segment with a conflict, and its lowest pair.
+pub fn segment_conflict(
+    segments: [Segment; 11],
+    ds: &[u16],
+    m: &[u16],
+    count: usize,
+    n: usize,
+) -> Conflict
+    requires { ⌜ (length (now ds) ≡ 176) × (length (now m) ≡ 352) × (count ≤ 11) × (n ≤ 12) ⌝ }
+    ensures { λ r. ⌜ r ≡ segmentConflict segments (now (ds .entry)) (now (m .entry)) count n ⌝ }
+{
+    let mut p: usize = 0;
+    while p < count {
+        let g = segments[p];
+        let found = pair_on(g, ds, m, p, n);
+        let Conflict::Nothing = found else {
+            return found;
+        };
+        p = p + 1;
+    }
+    Conflict::Nothing
+}
+
+// When a train stands at a station: from its arrival to its departure, both included.
+pub struct Stay {
+    pub passes: bool,
+    pub came: u16,
+    pub leaves: u16,
+}
+
+// When train i stands at station s, which is neither the first nor the last of the line.
+fn stay_at(ds: &[u16], m: &[u16], s: usize, i: usize) -> Stay
+    requires { ⌜ (length (now ds) ≡ 176) × (length (now m) ≡ 352) × (1 ≤ s) × (s < 11) × (i < 12) ⌝ }
+    ensures { λ r. ⌜ r ≡ stay (now (ds .entry)) (now (m .entry)) s i ⌝ }
+{
+    let before = s - 1;
+    let way = way_on(ds, s, i);
+    let passes = way != 0 && way_on(ds, before, i) != 0;
+    if way == 1 {
+        return Stay {
+            passes,
+            came: arrives_on(m, before, i),
+            leaves: departs_on(m, s, i),
+        };
+    }
+    Stay {
+        passes,
+        came: arrives_on(m, s, i),
+        leaves: departs_on(m, before, i),
+    }
+}
+
+fn stands(stay: Stay, t: u16) -> bool
+    ensures { λ r. ⌜ r ≡ standsIn stay t ⌝ }
+{
+    if stay.passes {
+        if stay.came <= t {
+            return t <= stay.leaves;
+        }
+    }
+    false
+}
+
+// How many of n trains stand at station s at minute t.
+fn standing(ds: &[u16], m: &[u16], s: usize, t: u16, n: usize) -> usize
+    requires { ⌜ (length (now ds) ≡ 176) × (length (now m) ≡ 352) × (1 ≤ s) × (s < 11) × (n ≤ 12) ⌝ }
+    ensures { λ r. ⌜ r ≡ standingAt (now (ds .entry)) (now (m .entry)) n s t ⌝ }
+{
+    let mut count: usize = 0;
+    let mut i: usize = 0;
+    while i < n {
+        if stands(stay_at(ds, m, s, i), t) {
+            count = count + 1;
+        }
+        i = i + 1;
+    }
+    count
+}
+
+// The earliest minute at which more stand at station s than it has tracks. Only arrivals need a look.
+fn earliest_crowd(ds: &[u16], m: &[u16], s: usize, tracks: u16, n: usize) -> MinuteFound
+    requires { ⌜ (length (now ds) ≡ 176) × (length (now m) ≡ 352) × (1 ≤ s) × (s < 11) × (n ≤ 12) ⌝ }
+    ensures { λ r. ⌜ r ≡ earliestCrowd (now (ds .entry)) (now (m .entry)) n tracks s ⌝ }
+{
+    let mut earliest: u16 = 2880;
+    let mut i: usize = 0;
+    while i < n {
+        let stay = stay_at(ds, m, s, i);
+        if stay.passes {
+            if stay.came < earliest {
+                if standing(ds, m, s, stay.came, n) > tracks as usize {
+                    earliest = stay.came;
+                }
+            }
+        }
+        i = i + 1;
+    }
+    if earliest < 2880 {
+        return MinuteFound::Minute(earliest);
+    }
+    MinuteFound::Never
+}
+
+// The lowest trains that stand at station s at minute t, one more than its tracks.
+fn crowd_mask(ds: &[u16], m: &[u16], s: usize, t: u16, tracks: u16, n: usize) -> u16
+    requires { ⌜ (length (now ds) ≡ 176) × (length (now m) ≡ 352) × (1 ≤ s) × (s < 11) × (n ≤ 12) ⌝ }
+    ensures { λ r. ⌜ r ≡ crowdMask (now (ds .entry)) (now (m .entry)) n tracks s t ⌝ }
+{
+    let mut mask: u16 = 0;
+    let mut bit: u16 = 1;
+    let mut count: usize = 0;
+    let mut i: usize = 0;
+    while i < n {
+        if stands(stay_at(ds, m, s, i), t) {
+            if tracks as usize >= count {
+                mask = mask + bit;
+            }
+            count = count + 1;
+        }
+        bit = bit * 2;
+        i = i + 1;
+    }
+    mask
+}
+
+// The conflict at station s, if there is one.
+fn crowd_on(ds: &[u16], m: &[u16], s: usize, tracks: u16, n: usize) -> Conflict
+    requires { ⌜ (length (now ds) ≡ 176) × (length (now m) ≡ 352) × (1 ≤ s) × (s < 11) × (n ≤ 12) ⌝ }
+    ensures { λ r. ⌜ r ≡ crowdAt (now (ds .entry)) (now (m .entry)) n tracks s (earliestCrowd (now (ds .entry)) (now (m .entry)) n tracks s) ⌝ }
+{
+    let MinuteFound::Minute(t) = earliest_crowd(ds, m, s, tracks, n) else {
+        return Conflict::Nothing;
+    };
+    let trains = crowd_mask(ds, m, s, t, tracks, n);
+    Conflict::AtStation(StationConflict {
+        station: s,
+        minute: t,
+        trains,
+    })
+}
+
+// The lowest station with a conflict, its earliest minute and the lowest trains there.
+pub fn station_conflict(
+    tracks: [u16; 12],
+    ds: &[u16],
+    m: &[u16],
+    stations: usize,
+    n: usize,
+) -> Conflict
+    requires { ⌜ (length (now ds) ≡ 176) × (length (now m) ≡ 352) × (2 ≤ stations) × (stations ≤ 12) × (n ≤ 12) ⌝ }
+    ensures { λ r. ⌜ r ≡ stationConflict tracks (now (ds .entry)) (now (m .entry)) stations n ⌝ }
+{
+    let mut s: usize = 1;
+    while s + 1 < stations {
+        let found = crowd_on(ds, m, s, tracks[s], n);
+        let Conflict::Nothing = found else {
+            return found;
+        };
+        s = s + 1;
+    }
+    Conflict::Nothing
+}
+
+// The lowest conflict of the minutes of a line within the limits, by its table of directions.
+pub fn lowest_conflict(line: Line, ds: &[u16], m: &[u16]) -> Conflict
+    requires { ⌜ (now ds ≡ directionsOf line) × (length (now m) ≡ 352) × (2 ≤ line .«station_count») × (line .«station_count» ≤ 12) × (line .«train_count» ≤ 12) ⌝ }
+    ensures { λ r. ⌜ r ≡ conflictOf line (now (m .entry)) ⌝ }
+{
+    let stations = line.station_count as usize;
+    let n = line.train_count as usize;
+    let segments = line.segments;
+    let found = segment_conflict(segments, ds, m, stations - 1, n);
+    let Conflict::Nothing = found else {
+        return found;
+    };
+    let tracks = line.tracks;
+    station_conflict(tracks, ds, m, stations, n)
+}

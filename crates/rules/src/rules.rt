@@ -1,0 +1,161 @@
+// The first rule that some minutes break, in number order, with its lowest train, segment or station.
+ghost use mathlib.Core.Path.{_≡_};
+ghost use Prim.Native.Nat.{ℕ, _+_, _*_, _≤_, _<_};
+ghost use lib.ListN.{length};
+ghost use Rattle.line.specs.Record.{legsBetween, legsOf};
+ghost use Rattle.line.specs.Within.{Within};
+ghost use Rattle.rules.specs.Paths.{Routed, segmentBetween};
+ghost use Rattle.rules.specs.Tests.{departureOf, arrivalOf, startsRight, runsRight, stopsRight, endsRight, keepsRule};
+ghost use Rattle.rules.specs.Breaches.{trainBreach, placeOf, conflictBreach, breachOf};
+use crate::conflicts::Conflict;
+use crate::conflicts::arrives_on;
+use crate::conflicts::departs_on;
+use crate::conflicts::lowest_conflict;
+use crate::conflicts::wide;
+use crate::directions::directions_of;
+use line::Line;
+use line::Train;
+use line::legs_between;
+
+// A rule that is broken, with its place, or none.
+pub enum Breach {
+    None,
+    Rule(u8, usize),
+}
+
+// The segment of leg k of a train between these stations.
+pub fn segment_between(origin: u16, destination: u16, k: usize) -> usize
+    requires { ⌜ (1 ≤ origin) × (origin ≤ 12) × (1 ≤ destination) × (destination ≤ 12) × (k < legsBetween origin destination) ⌝ }
+    ensures { λ r. ⌜ (r ≡ segmentBetween origin destination k) × (r < 11) ⌝ }
+{
+    let o = origin as usize;
+    if origin < destination {
+        o - 1 + k
+    } else {
+        o - 2 - k
+    }
+}
+
+// The minutes of leg k of a train, which is train i.
+pub fn departure_of(train: Train, m: &[u16], i: usize, k: usize) -> u16
+    requires { ⌜ Routed train × (length (now m) ≡ 352) × (i < 12) × (k < legsOf train) ⌝ }
+    ensures { λ r. ⌜ r ≡ departureOf train (now (m .entry)) i k ⌝ }
+{
+    departs_on(m, segment_between(train.origin, train.destination, k), i)
+}
+
+pub fn arrival_of(train: Train, m: &[u16], i: usize, k: usize) -> u16
+    requires { ⌜ Routed train × (length (now m) ≡ 352) × (i < 12) × (k < legsOf train) ⌝ }
+    ensures { λ r. ⌜ r ≡ arrivalOf train (now (m .entry)) i k ⌝ }
+{
+    arrives_on(m, segment_between(train.origin, train.destination, k), i)
+}
+
+// Rule 11 of every leg.
+fn runs_right(train: Train, m: &[u16], i: usize) -> bool
+    requires { ⌜ Routed train × (length (now m) ≡ 352) × (i < 12) ⌝ }
+    ensures { λ r. ⌜ r ≡ runsRight train (now (m .entry)) i ⌝ }
+{
+    let legs = legs_between(train.origin, train.destination);
+    let runs = train.runs;
+    let mut k: usize = 0;
+    while k < legs {
+        let arrival = wide(arrival_of(train, m, i, k));
+        let departure = wide(departure_of(train, m, i, k));
+        if arrival != departure + wide(runs[k]) {
+            return false;
+        }
+        k = k + 1;
+    }
+    true
+}
+
+// Rule 12 at every middle station.
+fn stops_right(train: Train, m: &[u16], i: usize) -> bool
+    requires { ⌜ Routed train × (length (now m) ≡ 352) × (i < 12) ⌝ }
+    ensures { λ r. ⌜ r ≡ stopsRight train (now (m .entry)) i ⌝ }
+{
+    let legs = legs_between(train.origin, train.destination);
+    let stops = train.stops;
+    let mut k: usize = 0;
+    while k + 1 < legs {
+        let arrival = wide(arrival_of(train, m, i, k));
+        let departure = wide(departure_of(train, m, i, k + 1));
+        if departure < arrival + wide(stops[k]) {
+            return false;
+        }
+        k = k + 1;
+    }
+    true
+}
+
+// Rules 10 to 13 by their number.
+fn keeps_rule(rule: u8, train: Train, m: &[u16], i: usize) -> bool
+    requires { ⌜ Routed train × (length (now m) ≡ 352) × (i < 12) ⌝ }
+    ensures { λ r. ⌜ r ≡ keepsRule rule train (now (m .entry)) i ⌝ }
+{
+    if rule == 10 {
+        return train.earliest <= departure_of(train, m, i, 0);
+    }
+    if rule == 11 {
+        return runs_right(train, m, i);
+    }
+    if rule == 12 {
+        return stops_right(train, m, i);
+    }
+    let last = legs_between(train.origin, train.destination) - 1;
+    arrival_of(train, m, i, last) <= train.latest
+}
+
+// The lowest train that breaks the rule.
+fn train_breach(rule: u8, line: Line, m: &[u16]) -> Breach
+    requires { ⌜ Within line × (length (now m) ≡ 352) ⌝ }
+    ensures { λ r. ⌜ r ≡ trainBreach rule line (now (m .entry)) ⌝ }
+{
+    let n = line.train_count as usize;
+    let mut i: usize = 0;
+    while i < n {
+        let train = line.trains[i];
+        if !keeps_rule(rule, train, m, i) {
+            return Breach::Rule(rule, i + 1);
+        }
+        i = i + 1;
+    }
+    Breach::None
+}
+
+fn conflict_breach(conflict: Conflict) -> Breach
+    requires { ⌜ placeOf conflict < 12 ⌝ }
+    ensures { λ r. ⌜ r ≡ conflictBreach conflict ⌝ }
+{
+    match conflict {
+        Conflict::Nothing => Breach::None,
+        Conflict::OnSegment(x) => Breach::Rule(14, x.segment + 1),
+        Conflict::AtStation(x) => Breach::Rule(15, x.station + 1),
+    }
+}
+
+// The first rule that the minutes break.
+pub fn breach_of(line: Line, m: &[u16]) -> Breach
+    requires { ⌜ Within line × (length (now m) ≡ 352) ⌝ }
+    ensures { λ r. ⌜ r ≡ breachOf line (now (m .entry)) ⌝ }
+{
+    let early = train_breach(10, line, m);
+    let Breach::None = early else {
+        return early;
+    };
+    let run = train_breach(11, line, m);
+    let Breach::None = run else {
+        return run;
+    };
+    let stop = train_breach(12, line, m);
+    let Breach::None = stop else {
+        return stop;
+    };
+    let late = train_breach(13, line, m);
+    let Breach::None = late else {
+        return late;
+    };
+    let directions = directions_of(line);
+    conflict_breach(lowest_conflict(line, &directions, m))
+}

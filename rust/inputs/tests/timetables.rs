@@ -1,0 +1,158 @@
+//! What the independent check says of planned lines after every kind of damage: each number with
+//! many places. A comparison of two checks over these inputs has then seen them all.
+
+use std::collections::{BTreeMap, BTreeSet};
+
+use inputs::{damaged, planned, sizes, small_planned, Damage, Planned, Random, Traffic};
+
+/// How often each number came, and with which places. Passing is number 0.
+#[derive(Default)]
+struct Seen {
+    pairs: usize,
+    numbers: BTreeMap<u32, (usize, BTreeSet<u32>)>,
+}
+
+impl Seen {
+    fn note(&mut self, answer: Result<(), independent::Refusal>) {
+        let (number, place) =
+            answer.map_or_else(|refusal| (refusal.number, refusal.place), |()| (0, 0));
+        let (times, places) = self.numbers.entry(number).or_default();
+        *times += 1;
+        places.insert(place);
+        self.pairs += 1;
+    }
+
+    fn damage(&mut self, random: &mut Random, planned: &Planned, damage: Damage) {
+        let pair = damaged(random, planned, damage);
+        self.note(independent::check(&pair.file, &pair.timetable));
+    }
+
+    fn places(&self, number: u32) -> usize {
+        self.numbers
+            .get(&number)
+            .map_or(0, |(_, places)| places.len())
+    }
+
+    fn times(&self, number: u32) -> usize {
+        self.numbers.get(&number).map_or(0, |&(times, _)| times)
+    }
+
+    fn print(&self, name: &str) {
+        println!("{name}: {} pairs", self.pairs);
+        for (number, (times, places)) in &self.numbers {
+            println!("  {number:2}: {times:6} times, {:2} places", places.len());
+        }
+    }
+}
+
+#[test]
+fn every_number_is_seen_with_many_places() {
+    let mut random = Random::new(30);
+    let mut seen = Seen::default();
+    // Every size, and the greatest one often enough to meet its last lists and lines.
+    for (stations, trains) in sizes().chain([(12, 12); 60]) {
+        let traffic = random.one_of(&[Traffic::Mixed, Traffic::Full]);
+        let planned = planned(&mut random, stations, trains, traffic);
+        for _ in 0..50 {
+            for damage in Damage::ALL {
+                seen.damage(&mut random, &planned, damage);
+            }
+        }
+    }
+    seen.print("planned lines");
+    // All trains, segments, middle stations, lists and lines that there can be. Line 38 is past the
+    // last one; line 37 is the total, which has no range.
+    let all_places = [
+        (7, 1),
+        (8, 38),
+        (9, 36),
+        (10, 12),
+        (11, 12),
+        (12, 12),
+        (13, 12),
+        (14, 11),
+        (15, 10),
+        (16, 22),
+        (17, 1),
+    ];
+    for (number, places) in all_places {
+        assert_eq!(seen.places(number), places, "places of number {number}");
+        assert!(seen.times(number) >= 1000, "number {number}");
+    }
+    for number in [0, 2, 3] {
+        assert!(seen.times(number) >= 1000, "number {number}");
+    }
+    assert!(seen.times(4) > 0);
+}
+
+#[test]
+fn tight_small_lines() {
+    let mut random = Random::new(31);
+    let mut seen = Seen::default();
+    for _ in 0..1000 {
+        let planned = small_planned(&mut random);
+        for damage in Damage::ALL {
+            for _ in 0..3 {
+                seen.damage(&mut random, &planned, damage);
+            }
+        }
+    }
+    seen.print("small lines");
+    for number in 7..=17 {
+        assert!(seen.times(number) >= 20, "number {number}");
+    }
+}
+
+/// Each kind of damage gives the numbers that it is there for.
+#[test]
+fn each_damage_does_its_part() {
+    let mut random = Random::new(32);
+    let lines: Vec<Planned> = (0..60)
+        .map(|at| planned(&mut random, 2 + at % 11, 3 + at % 10, Traffic::Mixed))
+        .collect();
+    let parts: [(Damage, &[u32]); 14] = [
+        (Damage::Nothing, &[0]),
+        (Damage::Minute, &[9, 11]),
+        (Damage::Leg, &[0, 10, 11, 12, 13, 14, 15]),
+        (Damage::Train, &[0, 10, 12, 13, 14, 15]),
+        (Damage::List, &[9, 16]),
+        (Damage::Count, &[8, 9]),
+        (Damage::Total, &[8, 17]),
+        (Damage::Field, &[8, 9, 11]),
+        (Damage::LineField, &[0, 2, 3, 9, 10, 11, 12, 13, 14, 15, 17]),
+        (Damage::Demand, &[0, 10, 12, 13, 14, 15]),
+        (Damage::Bytes, &[2, 8, 9, 11, 17]),
+        (Damage::Lines, &[8, 9]),
+        (Damage::CutShort, &[8]),
+        (Damage::Length, &[7, 8]),
+    ];
+    for (damage, numbers) in parts {
+        let mut seen = Seen::default();
+        for planned in &lines {
+            for _ in 0..40 {
+                seen.damage(&mut random, planned, damage);
+            }
+        }
+        seen.print(&format!("{damage:?}"));
+        for &number in numbers {
+            assert!(seen.times(number) >= 5, "{damage:?} and number {number}");
+        }
+    }
+}
+
+/// The timetable of every length cut at every byte, also as part of the whole.
+#[test]
+fn cut_short_at_every_byte() {
+    let mut random = Random::new(33);
+    let mut seen = Seen::default();
+    for (stations, trains) in [(2, 0), (2, 1), (3, 2), (12, 12)] {
+        let pair = planned(&mut random, stations, trains, Traffic::Mixed).pair();
+        for end in 0..pair.timetable.len() {
+            let answer = independent::check(&pair.file, &pair.timetable[..end]);
+            assert_eq!(answer.map_err(|refusal| refusal.number), Err(8));
+            seen.note(answer);
+        }
+    }
+    seen.print("cut short");
+    assert!(seen.places(8) >= 25);
+}
