@@ -1,8 +1,8 @@
 -- A line has at most one best timetable: of two that are not the same each would be preferred to the other.
-use Prim.Native.Nat.{ℕ, zero, suc, _+_, _*_, _-_, _≤_, _<_}
-use mathlib.Core.Path.{_≡_, refl, sym, _∙_}
-use mathlib.Core.Logic.{_⊎_, inl, inr, ⊎-elim}
-use mathlib.Core.Bool.{Bool, true, false, _&&_}
+use Prim.Native.Nat.{ℕ, _<_}
+use mathlib.Core.Path.{_≡_, sym}
+use mathlib.Core.Logic.{inl, inr}
+use mathlib.Core.Bool.{Bool, _&&_}
 use mathlib.Core.List.{List}
 use native.Mathlib.Decide.{decLt}
 use native.Mathlib.Omega.{arith}
@@ -12,7 +12,7 @@ use Rattle.text.specs.Below.{all, decides-all}
 use Rattle.line.specs.declared.Line.{Line}
 use Rattle.rules.specs.Paths.{legs}
 use Rattle.rules.specs.Minutes.{departure, arrival}
-use Rattle.rules.specs.Delay.{weightedDelay, Same, Earlier, Preferred, Best}
+use Rattle.rules.specs.Delay.{Same, Earlier, Preferred, Best}
 
 -- ---- the same minutes, as a test
 

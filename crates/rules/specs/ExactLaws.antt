@@ -1,13 +1,13 @@
 -- The first breach is none exactly when every rule from 10 to 15 is kept: each test of the scan decides its rule.
-use Prim.Native.Nat.{ℕ, zero, suc, _+_, _-_, _≤_, _<_, min, max}
+use Prim.Native.Nat.{ℕ, zero, suc, _+_, _-_, _≤_, _<_}
 use mathlib.Core.Path.{_≡_, refl, sym, ap, _∙_}
 use mathlib.Core.Logic.{_⊎_, inl, inr, ⊎-elim}
-use mathlib.Core.Bool.{Bool, true, false, cond, not, _&&_, _||_, true≢false, false≢true}
+use mathlib.Core.Bool.{Bool, true, false, cond, _&&_, true≢false, false≢true}
 use mathlib.Core.Option.{Option, some, none}
 use mathlib.Core.List.{List}
 use native.Mathlib.Decide.{decLt}
 use native.Mathlib.Omega.{arith}
-use lib.Dec.{leb, ltb, eqb}
+use lib.Dec.{leb}
 use Rattle.text.specs.Decide.{Decides, by-test, is-true, is-false, decides-lt, decides-le, decides-and, decides-or, decides-not, decides-as}
 use Rattle.text.specs.Below.{EachBelow, first, count, first-none, none-first}
 use Rattle.line.specs.declared.Kind.{Kind}
@@ -21,7 +21,7 @@ use Rattle.rules.specs.declared.rules.Breach.{Breach}
 use Rattle.rules.specs.Paths.{train, segmentCount, segment, tracksAt, outbound, sameWay, Uses, Middle, EachTrain}
 use Rattle.rules.specs.Minutes.{departsOn, arrivesOn}
 use Rattle.rules.specs.Rules.{NotEarly, Runs, Stops, NotLate, GapBy, Before, Apart, middle, stands, standing, Room}
-use Rattle.rules.specs.Directions.{directionsOf, way, on}
+use Rattle.rules.specs.Directions.{directionsOf, on}
 use Rattle.rules.specs.DirectionsLaws.{decides-on, same-way, outbound-way}
 use Rattle.rules.specs.Conflicts.{gapBy, passage, keepsAfter, neitherFirst, clash, trainFound, partnerOf, pairWith, pairOn, segmentConflict, standsIn, standsAt, standingAt, crowdAt, crowdOn, stationConflict, orConflict, conflictOf}
 use Rattle.rules.specs.StationLaws.{conflict-none, none-conflict, never-crowded, crowded-never, crowd-middle, crowd-first, crowd-last}

@@ -1,17 +1,16 @@
 -- Rules 10 to 15 of a timetable, in the words and the order of document 01.
-use Prim.Native.Nat.{ℕ, _+_, _-_, _≤_, _<_}
+use Prim.Native.Nat.{ℕ, _+_, _-_, _≤_, _<_, min, max}
 use mathlib.Core.Path.{_≡_}
 use mathlib.Core.Logic.{_⊎_}
 use mathlib.Core.Bool.{Bool, true, false, _&&_}
 use mathlib.Core.List.{List}
 use lib.Dec.{leb, ltb}
-use Prim.Native.Nat.{min, max}
 use Rattle.text.specs.Below.{EachBelow, count}
 use Rattle.line.specs.declared.Kind.{Kind}
 use Rattle.line.specs.declared.Segment.{Segment}
 use Rattle.line.specs.declared.Train.{Train}
 use Rattle.line.specs.declared.Line.{Line}
-use Rattle.rules.specs.Paths.{train, segmentCount, segment, tracksAt, runOf, stopOf, legs, originAt, destinationAt, sameWay, Uses, Middle, into, outOf, EachTrain, EachLeg}
+use Rattle.rules.specs.Paths.{train, segmentCount, segment, tracksAt, runOf, stopOf, legs, originAt, destinationAt, sameWay, Uses, into, outOf, EachTrain, EachLeg}
 use Rattle.rules.specs.Minutes.{departsOn, arrivesOn, departure, arrival, lastArrival}
 
 -- "a departure and an arrival, each 0 to 2,879, for each of its segments"

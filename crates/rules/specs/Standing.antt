@@ -1,4 +1,4 @@
--- Trains that stand from a minute to a minute, both included: the crowd at a minute stands together at an arrival. Assumes nothing.
+-- Trains that stand from a minute to a minute, both included: the crowd at a minute stands together at an arrival.
 use Prim.Native.Nat.{ℕ, zero, suc, _≤_, _<_}
 use mathlib.Core.Path.{_≡_, refl, sym, _∙_}
 use mathlib.Core.Logic.{_⊎_, inl, inr, ⊎-elim}
