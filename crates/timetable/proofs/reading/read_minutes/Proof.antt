@@ -1,0 +1,50 @@
+-- `timetable::reading::read_minutes` meets its contract: refused at the count, or the lines of as many trains as the line has. Assumes nothing.
+use mathlib.Core.Path.{_∙_, sym, ap, refl}
+use Rattle.text.specs.Told.{stoppedBy}
+use Rattle.line.specs.FileLaws.{ended-told}
+use Rattle.timetable.specs.ReadingLaws.{field-told, minutes-no-count, minutes-counted}
+use borrow.Author.Needs.{needs}
+use Rattle.timetable.proofs.reading.read_minutes.Statement.{statement}
+use Rattle.timetable.proofs.reading.read_minutes.Tie as tie
+
+faults-on-requires : tie.Need-faults-on-requires
+faults-on-requires c κs = search needs
+
+ranged-requires : tie.Need-ranged-requires
+ranged-requires c κs = search needs
+
+enum-known-count : tie.Need-enum-known-count
+enum-known-count c = search needs
+
+enum-told : tie.Need-enum-told
+enum-told c = search needs
+
+stopped-requires : tie.Need-stopped-requires
+stopped-requires c κs = search needs
+
+returns : tie.Need-returns
+returns c =
+    let refused = c .before .enum-told .given .1 in
+    let count = field-told _ _ 10 1 _ _ refl (c .before .before .before .before .faults-on .ensures) (c .before .before .before .ranged .ensures) refused in
+    ended-told _ (c .stopped .ensures ∙ ap stoppedBy refused) ∙ sym (minutes-no-count _ _ _ count)
+
+train-lines-requires : tie.Need-train-lines-requires
+train-lines-requires c κs = search needs
+
+returns-2 : tie.Need-returns-2
+returns-2 c =
+    let count = field-told _ _ 10 1 _ _ refl (c .before .before .before .before .before .faults-on .ensures) (c .before .before .before .before .ranged .ensures) (c .before .before .count .given .1) in
+    c .train-lines .ensures ∙ sym (minutes-counted _ _ _ count)
+
+pub read-minutes-spec : {M : Type 1} → statement M
+read-minutes-spec =
+    tie.close
+    (tie.spec
+    faults-on-requires
+    ranged-requires
+    enum-known-count
+    enum-told
+    stopped-requires
+    returns
+    train-lines-requires
+    returns-2)

@@ -1,0 +1,82 @@
+-- Laws of reading the minutes of a timetable's text: what a field of the code tells, and the legs of a train and the lines of the trains a step at a
+-- time.
+use Prim.Native.Nat.{ℕ, suc, _+_, _*_}
+use mathlib.Core.Path.{_≡_, refl, sym, ap, _∙_}
+use mathlib.Core.List.{List}
+use native.Mathlib.Omega.{arith}
+use lib.ListN.{set, replicate}
+use Rattle.text.specs.declared.Cursor.{Cursor}
+use Rattle.text.specs.declared.Faults.{Faults}
+use Rattle.text.specs.declared.Field.{Field}
+use Rattle.text.specs.Parsed.{Parsed, rangedAt}
+use Rattle.text.specs.ParsedLaws.{ranged-spelt}
+use Rattle.text.specs.Told.{toldField}
+use Rattle.line.specs.declared.Train.{Train}
+use Rattle.line.specs.declared.Line.{Line}
+use Rattle.rules.specs.Paths.{train, legs, segmentOf}
+use Rattle.timetable.specs.Reading.{afterField, faultsOn, timeAt, countAt, legsAt, trainsAt, minutesAt}
+
+-- ---- a field of the code
+
+-- with the faults x and the byte y after it that the code was given, a field f, which is g, tells what the number of the text is
+pub field-told : (lo hi b p : ℕ) (s : List ℕ) (c : Cursor) {y : ℕ} {x : Faults} {f g : Field} → y ≡ b → x ≡ faultsOn p → toldField f ≡ rangedAt (x .form) (x .range) lo hi y (x .line) s c → f ≡ g → rangedAt 8 9 lo hi b p s c ≡ toldField g
+field-told lo hi b p s c {y} {x} {f} {g} byte faults told is =
+    ap (λ (k : ℕ). rangedAt 8 9 lo hi k p s c) (sym byte)
+    ∙ ap (λ (k : Faults). rangedAt (k .form) (k .range) lo hi y (k .line) s c) (sym faults)
+    ∙ sym told
+    ∙ ap toldField is
+
+-- a count that was read is the line's
+count-is : (n p : ℕ) (s : List ℕ) (c : Cursor) (v : ℕ) (next : Cursor) → countAt n p s c ≡ Parsed.got v next → v ≡ n
+count-is n p s c v next e =
+    let w = ranged-spelt 8 9 n n 10 p s c v next (omega arith) e in
+    omega (arith, w .low, w .high)
+
+-- ---- the legs of a train
+
+module _ (n : ℕ) (t : Train) (i j p : ℕ) (m s : List ℕ) (c : Cursor) where
+  pub legs-done : n ≡ 0 → legsAt n t i j p m s c ≡ Parsed.got m c
+  unfolding legsAt
+  legs-done e = rw e refl
+
+  module _ (k : ℕ) (e : n ≡ suc k) where
+    pub legs-no-departure : {x q : ℕ} → timeAt 32 p s c ≡ Parsed.bad x q → legsAt n t i j p m s c ≡ Parsed.bad x q
+    unfolding legsAt
+    legs-no-departure f = rw (e, f) refl
+
+    module _ {d : ℕ} {c₁ : Cursor} (departure : timeAt 32 p s c ≡ Parsed.got d c₁) where
+      pub legs-no-arrival : {x q : ℕ} → timeAt (afterField k) p s c₁ ≡ Parsed.bad x q → legsAt n t i j p m s c ≡ Parsed.bad x q
+      unfolding legsAt
+      legs-no-arrival f = rw (e, departure, f) refl
+
+      -- g is the segment of leg j
+      pub legs-step : {a : ℕ} {c₂ : Cursor} (g : ℕ) → timeAt (afterField k) p s c₁ ≡ Parsed.got a c₂ → g ≡ segmentOf t j → legsAt n t i j p m s c ≡ legsAt k t i (j + 1) p (set (set m (16 * g + i) d) (176 + (16 * g + i)) a) s c₂
+      unfolding legsAt
+      legs-step g f h = rw (e, departure, f, h) refl
+
+-- ---- the lines of the trains
+
+module _ (n : ℕ) (l : Line) (i : ℕ) (m s : List ℕ) (c : Cursor) where
+  pub trains-done : n ≡ 0 → trainsAt n l i m s c ≡ Parsed.got m c
+  unfolding trainsAt
+  trains-done e = rw e refl
+
+  module _ (k : ℕ) (e : n ≡ suc k) where
+    pub trains-refused : {x q : ℕ} → legsAt (legs l i) (train l i) i 0 (i + 2) m s c ≡ Parsed.bad x q → trainsAt n l i m s c ≡ Parsed.bad x q
+    unfolding trainsAt
+    trains-refused f = rw (e, f) refl
+
+    pub trains-step : {m′ : List ℕ} {next : Cursor} → legsAt (legs l i) (train l i) i 0 (i + 2) m s c ≡ Parsed.got m′ next → trainsAt n l i m s c ≡ trainsAt k l (i + 1) m′ s next
+    unfolding trainsAt
+    trains-step f = rw (e, f) refl
+
+-- ---- the first part of the text
+
+module _ (l : Line) (s : List ℕ) (c : Cursor) where
+  pub minutes-no-count : {x q : ℕ} → countAt (l .«train_count») 1 s c ≡ Parsed.bad x q → minutesAt l s c ≡ Parsed.bad x q
+  unfolding minutesAt
+  minutes-no-count e = rw e refl
+
+  pub minutes-counted : {v : ℕ} {next : Cursor} → countAt (l .«train_count») 1 s c ≡ Parsed.got v next → minutesAt l s c ≡ trainsAt (l .«train_count») l 0 (replicate 352 0) s next
+  unfolding minutesAt
+  minutes-counted {v} {next} e = rw e (ap (λ (k : ℕ). trainsAt k l 0 (replicate 352 0) s next) (count-is (l .«train_count») 1 s c v next e))

@@ -1,0 +1,2 @@
+// The timetable's text, read and written, and the check of a text against a line file.
+pub mod reading;
