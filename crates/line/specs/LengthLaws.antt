@@ -18,7 +18,7 @@ use Rattle.line.specs.Within.{SegmentWithin, TrainWithin, Within}
 
 -- ---- each part, where at most m bytes follow it
 
-field-length : (n b m : ℕ) (rest : List ℕ) → n < 10000 → length rest ≤ m → length (field n b rest) ≤ m + 5
+pub field-length : (n b m : ℕ) (rest : List ℕ) → n < 10000 → length rest ≤ m → length (field n b rest) ≤ m + 5
 field-length n b m rest small h = omega (arith, length-append (digits n) (b ∷ rest), digits-length 3 n (omega arith))
 
 station-length : (t : ℕ) → In tracks t → (m : ℕ) (rest : List ℕ) → length rest ≤ m → length (stationText t rest) ≤ m + 5
@@ -66,7 +66,7 @@ train-length n few t w m rest h =
 -- ---- a part of at most k bytes for each of the first n elements
 
 module _ {A : Type 0} (P : A → Type 0) (text : A → List ℕ → List ℕ) (k : ℕ) (short : (x : A) → P x → (m : ℕ) (rest : List ℕ) → length rest ≤ m → length (text x rest) ≤ m + k) where
-  each-length : (n : ℕ) (xs : List A) → Each P (take n xs) → (m : ℕ) (rest : List ℕ) → length rest ≤ m → length (eachThen text (take n xs) rest) ≤ m + n * k
+  pub each-length : (n : ℕ) (xs : List A) → Each P (take n xs) → (m : ℕ) (rest : List ℕ) → length rest ≤ m → length (eachThen text (take n xs) rest) ≤ m + n * k
   each-length zero xs e m rest h = omega arith
   each-length (suc n) [] e m rest h = omega arith
   each-length (suc n) (x ∷ xs) e m rest h =

@@ -4,18 +4,16 @@ use mathlib.Core.Path.{_≡_, refl, ap, _∙_}
 use mathlib.Core.List.{List, [], _∷_, map, map-id}
 use native.Mathlib.Omega.{arith}
 use borrow.Author.Tests.{le-ltb, ne-eqb}
-use lib.ListN.{length, length-drop}
+use lib.ListN.{length}
 use lib.Seq.{length-take-le}
 use Rattle.text.specs.declared.Cursor.{Cursor}
-use Rattle.text.specs.declared.Digit.{Digit}
 use Rattle.text.specs.declared.Limits.{Limits}
-use Rattle.text.specs.Bytes.{byteAt, from, ahead, digitOf}
-use Rattle.text.specs.BytesLaws.{from-byte, from-ahead, past-reads}
+use Rattle.text.specs.Bytes.{byteAt, from, ahead}
+use Rattle.text.specs.BytesLaws.{from-byte, from-ahead, at-length, past-reads, space-ends, feed-ends}
 use Rattle.text.specs.Lists.{padded}
 use Rattle.text.specs.Each.{eachThen, Each}
 use Rattle.text.specs.EachLaws.{each-both, each-take}
-use Rattle.text.specs.Parsed.{Parsed}
-use Rattle.text.specs.ParsedLaws.{Reads, ranged-reads, reads-then, many-reads}
+use Rattle.text.specs.ParsedLaws.{Reads, ranged-reads, at-end, reads-then, many-reads}
 use Rattle.line.specs.declared.Kind.{Kind}
 use Rattle.line.specs.declared.Segment.{Segment}
 use Rattle.line.specs.declared.Train.{Train}
@@ -31,24 +29,12 @@ use Rattle.line.specs.RecordLaws.{train-path}
 
 -- ---- a number
 
-space-ends : digitOf 32 ≡ Digit.Other
-unfolding digitOf
-space-ends = refl
-
-feed-ends : digitOf 10 ≡ Digit.Other
-unfolding digitOf
-feed-ends = refl
-
 module _ (r : Limits) (p : ℕ) (s : List ℕ) (c : Cursor) (n : ℕ) (rest : List ℕ) (i : In r n) (small : r .max < 10000) where
   before-space : from s c ≡ field n 32 rest → Reads (number r 32 p s c) n s rest
   before-space e = ranged-reads 2 3 (r .min) (r .max) 32 p s c n rest space-ends (i .0) (i .1) small e
 
   before-feed : from s c ≡ field n 10 rest → Reads (number r 10 p s c) n s rest
   before-feed e = ranged-reads 2 3 (r .min) (r .max) 10 p s c n rest feed-ends (i .0) (i .1) small e
-
--- nothing more is read
-at-end : {A : Type 0} {s rest : List ℕ} (x : A) (c : Cursor) → from s c ≡ rest → Reads (Parsed.got x c) x s rest
-at-end x c e = record { next = c; reads = refl; leaves = e }
 
 -- ---- stations and segments
 
@@ -133,10 +119,6 @@ train-reads n few s p c t rest v e =
     (λ c₂ e₂. at-end _ c₂ e₂))
 
 -- ---- the sections
-
--- where nothing is left, the cursor is at the end
-at-length : (s : List ℕ) (c : Cursor) → from s c ≡ [] → length s ≤ c .at
-at-length s c e = omega (arith, length-drop (c .at) s, ap length e)
 
 -- a line of the record, section by section
 module _ (l : Line) (w : Within l) (a : Arrays l) (s : List ℕ) where

@@ -148,7 +148,7 @@ accepted-got l (Parsed.bad n p) e =
     let z : _≡_ {A = ℕ} 0 1 = cc in
     absurd (omega arith)
 
-accepts-read : (s : List ℕ) (l : Line) → Accepts s l → ReadFrom s l
+pub accepts-read : (s : List ℕ) (l : Line) → Accepts s l → ReadFrom s l
 accepts-read s l e =
     let g = accepted-got l (lineFile s) e in
     line-read s l (file-spelt s l (g .end) (g .got))

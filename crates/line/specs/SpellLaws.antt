@@ -37,7 +37,7 @@ train-then t rest =
     ∙ (simp append-assoc)
 
 module _ {A : Type 0} (text : A → List ℕ → List ℕ) (parts : (x : A) (rest : List ℕ) → text x rest ≡ text x [] ++ rest) where
-  each-then : (xs : List A) (rest : List ℕ) → eachThen text xs rest ≡ eachThen text xs [] ++ rest
+  pub each-then : (xs : List A) (rest : List ℕ) → eachThen text xs rest ≡ eachThen text xs [] ++ rest
   each-then [] rest = refl
   each-then (x ∷ xs) rest =
       parts x (eachThen text xs rest)

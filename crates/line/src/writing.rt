@@ -171,7 +171,7 @@ fn train_faults(trains: [Train; 12], count: usize, stations: u16, first: usize) 
 }
 
 // The first bad field of a record, in the order of the file's bytes.
-fn fault_of(line: Line) -> Fault
+pub fn fault_of(line: Line) -> Fault
     ensures { λ r. ⌜ r ≡ faultOf line ⌝ }
 {
     let stations = line.station_count;
@@ -321,7 +321,7 @@ fn put_line(out: &mut [u8], line: Line) -> usize
     put_trains(out, after_number, trains, line.train_count as usize)
 }
 
-fn refused_by(fault: Fault) -> Written
+pub fn refused_by(fault: Fault) -> Written
     ensures { λ r. ⌜ r ≡ refusedBy fault ⌝ }
 {
     match fault {

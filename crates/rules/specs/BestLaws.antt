@@ -13,6 +13,7 @@ use Rattle.line.specs.declared.Line.{Line}
 use Rattle.rules.specs.Paths.{legs}
 use Rattle.rules.specs.Minutes.{departure, arrival}
 use Rattle.rules.specs.Delay.{Same, Earlier, Preferred, Best}
+use Rattle.rules.specs.SameLaws.{same-sym}
 
 -- ---- the same minutes, as a test
 
@@ -55,11 +56,8 @@ preferred-once l m m′ (inl a) (inr b) = omega (arith, b .0)
 preferred-once l m m′ (inr a) (inl b) = omega (arith, a .0)
 preferred-once l m m′ (inr a) (inr b) = earlier-once l m m′ (a .1) (b .1)
 
-same-back : (l : Line) (m m′ : List ℕ) → Same l m m′ → Same l m′ m
-same-back l m m′ h i n k r = (sym (h i n k r .0), sym (h i n k r .1))
-
 -- at most one
 pub best-only : (l : Line) (m m′ : List ℕ) → Best l m → Best l m′ → Same l m m′
 best-only l m m′ a b =
     by-test (decides-same l m m′) (λ s. s)
-    (λ d. absurd (preferred-once l m m′ (a .preferred m′ (b .lawful) d) (b .preferred m (a .lawful) (λ s. d (same-back l m′ m s)))))
+    (λ d. absurd (preferred-once l m m′ (a .preferred m′ (b .lawful) d) (b .preferred m (a .lawful) (λ s. d (same-sym l m′ m s)))))

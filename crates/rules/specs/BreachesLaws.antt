@@ -33,6 +33,11 @@ breach-first b e h = h ∙ ap (λ (x : Breach). orBreach x b) (sym h ∙ e)
 pub breach-later : {r a b x : Breach} → r ≡ a → r ≡ Breach.None → x ≡ b → x ≡ orBreach a b
 breach-later {r} {a} {b} e h g = g ∙ ap (λ (x : Breach). orBreach x b) (sym h ∙ e)
 
+-- there is no first breach: neither is one
+pub or-none : (a b : Breach) → orBreach a b ≡ Breach.None → (a ≡ Breach.None) × (b ≡ Breach.None)
+or-none Breach.None b e = (refl, e)
+or-none (Breach.Rule n p) b e = let z : _≡_ {A = ℕ} 0 1 = cc in absurd (omega arith)
+
 -- ---- the lowest train that breaks rule n
 
 module _ (n : ℕ) (l : Line) (m : List ℕ) where

@@ -10,8 +10,10 @@ use native.Mathlib.Omega.{arith}
 use lib.Dec.{leb}
 use Rattle.text.specs.Decide.{Decides, by-test, is-true, is-false, decides-lt, decides-le, decides-and, decides-or, decides-not, decides-as}
 use Rattle.text.specs.Below.{EachBelow, first, count, first-none, none-first}
+use Rattle.text.specs.BelowLaws.{count-same}
 use Rattle.line.specs.declared.Kind.{Kind}
 use Rattle.line.specs.declared.Segment.{Segment}
+use Rattle.line.specs.declared.Train.{Train}
 use Rattle.line.specs.declared.Line.{Line}
 use Rattle.line.specs.Within.{Within, Arrays}
 use Rattle.rules.specs.declared.conflicts.Conflict.{Conflict}
@@ -20,14 +22,14 @@ use Rattle.rules.specs.declared.conflicts.Passage.{Passage}
 use Rattle.rules.specs.declared.rules.Breach.{Breach}
 use Rattle.rules.specs.Paths.{train, segmentCount, segment, tracksAt, outbound, sameWay, Uses, Middle, EachTrain}
 use Rattle.rules.specs.Minutes.{departsOn, arrivesOn}
-use Rattle.rules.specs.Rules.{NotEarly, Runs, Stops, NotLate, GapBy, Before, Apart, middle, stands, standing, Room}
+use Rattle.rules.specs.Rules.{InDays, NotEarly, Runs, Stops, NotLate, GapBy, Before, Apart, middle, stands, standing, Room, Lawful}
 use Rattle.rules.specs.Directions.{directionsOf, on}
 use Rattle.rules.specs.DirectionsLaws.{decides-on, same-way, outbound-way}
 use Rattle.rules.specs.Conflicts.{gapBy, passage, keepsAfter, neitherFirst, clash, trainFound, partnerOf, pairWith, pairOn, segmentConflict, standsIn, standsAt, standingAt, crowdAt, crowdOn, stationConflict, orConflict, conflictOf}
 use Rattle.rules.specs.StationLaws.{conflict-none, none-conflict, never-crowded, crowded-never, crowd-middle, crowd-first, crowd-last}
 use Rattle.rules.specs.RulesLaws.{train-within, decides-10, decides-11, decides-12, decides-13}
-use Rattle.rules.specs.Breaches.{orBreach, trainBreach, conflictBreach, breachOf}
-use Rattle.rules.specs.BreachesLaws.{breach-none, none-breach}
+use Rattle.rules.specs.Breaches.{trainBreach, conflictBreach, breachOf}
+use Rattle.rules.specs.BreachesLaws.{or-none, breach-none, none-breach}
 
 -- ---- rule 14
 
@@ -91,10 +93,9 @@ module _ (l : Line) (few : l .«train_count» ≤ 12) (m : List ℕ) (p : ℕ) (
 
 -- ---- rule 15
 
-count-same : (f g : ℕ → Bool) (n : ℕ) → EachBelow n (λ i. f i ≡ g i) → count f n ≡ count g n
-unfolding count
-count-same f g zero h = refl
-count-same f g (suc n) h = rw (count-same f g n (λ i a. h i (omega arith)), h n (omega arith)) refl
+pub decides-middle : (t : Train) (s : ℕ) → Decides (Middle t s) (middle t s)
+unfolding middle
+decides-middle t s = decides-and (decides-lt _ _) (decides-lt _ _)
 
 module _ (l : Line) (few : l .«train_count» ≤ 12) (m : List ℕ) (s : ℕ) (low : 0 < s) (short : s < 11) where
   -- a train goes over the segments on both sides of its middle stations
@@ -103,10 +104,6 @@ module _ (l : Line) (few : l .«train_count» ≤ 12) (m : List ℕ) (s : ℕ) (
       decides-as (λ h. (omega (arith, h .0, h .1), omega (arith, h .0, h .1))) (λ h. ((omega (arith, h .0, h .1), omega (arith, h .0, h .1)), (omega (arith, h .0, h .1), omega (arith, h .0, h .1))))
       (decides-and (decides-on l few s short i a) (decides-on l few (s - 1) (omega arith) i a))
 
-  decides-middle : (i : ℕ) → Decides (Middle (train l i) s) (middle (train l i) s)
-  unfolding middle
-  decides-middle i = decides-and (decides-lt _ _) (decides-lt _ _)
-
   stands-same : (t i : ℕ) → i < l .«train_count» → standsAt (directionsOf l) m s t i ≡ stands l m s t i
   unfolding standsIn stands
   stands-same t i a =
@@ -114,8 +111,8 @@ module _ (l : Line) (few : l .«train_count» ≤ 12) (m : List ℕ) (s : ℕ) (
       (λ h.
       let over : Uses (train l i) s = (omega (arith, h .0, h .1), h .1) in
       let out = outbound-way l few s short i a over in
-      rw (is-true (decides-passes i a) h, is-true (decides-middle i) h, out) (turned (outbound (train l i))))
-      (λ h. rw (is-false (decides-passes i a) h, is-false (decides-middle i) h) refl)
+      rw (is-true (decides-passes i a) h, is-true (decides-middle (train l i) s) h, out) (turned (outbound (train l i))))
+      (λ h. rw (is-false (decides-passes i a) h, is-false (decides-middle (train l i) s) h) refl)
     where
       turned : (w : Bool) → leb (cond w (arrivesOn m (s - 1) i) (arrivesOn m s i)) t && leb t (cond w (departsOn m s i) (departsOn m (s - 1) i)) ≡ leb (arrivesOn m (cond w (s - 1) s) i) t && leb t (departsOn m (cond w s (s - 1)) i)
       turned true = refl
@@ -139,9 +136,9 @@ count-never (suc n) = rw (count-never n) refl
 
 -- at a station that is nobody's middle one nobody stands
 nobody-stands : (l : Line) (m : List ℕ) (s : ℕ) → EachTrain l (λ i. Middle (train l i) s → ⊥) → Room l m s
-unfolding standing stands middle
+unfolding standing stands
 nobody-stands l m s h t b =
-    let none = count-same (stands l m s t) (λ i. false) (l .«train_count») (λ i a. rw (is-false (decides-and (decides-lt _ _) (decides-lt _ _)) (h i a)) refl) in
+    let none = count-same (stands l m s t) (λ i. false) (l .«train_count») (λ i a. rw (is-false (decides-middle (train l i) s) (h i a)) refl) in
     omega (arith, none, count-never (l .«train_count»))
 
 -- ---- the whole
@@ -159,10 +156,6 @@ or-nothing : (a b : Conflict) → orConflict a b ≡ Conflict.Nothing → (a ≡
 or-nothing Conflict.Nothing b e = (refl, e)
 or-nothing (Conflict.OnSegment x) b e = let z : _≡_ {A = ℕ} 0 1 = cc in absurd (omega arith)
 or-nothing (Conflict.AtStation x) b e = let z : _≡_ {A = ℕ} 0 1 = cc in absurd (omega arith)
-
-or-none : (a b : Breach) → orBreach a b ≡ Breach.None → (a ≡ Breach.None) × (b ≡ Breach.None)
-or-none Breach.None b e = (refl, e)
-or-none (Breach.Rule n p) b e = let z : _≡_ {A = ℕ} 0 1 = cc in absurd (omega arith)
 
 no-conflict : (c : Conflict) → conflictBreach c ≡ Breach.None → c ≡ Conflict.Nothing
 no-conflict Conflict.Nothing e = refl
@@ -248,3 +241,13 @@ module _ (l : Line) (w : Within l) (a : Arrays l) (m : List ℕ) where
       let b12 = sym (breach-none 12 l m (λ i b. is-true (decides-12 l m i) (k .rule12 i b))) in
       let b13 = sym (breach-none 13 l m (λ i b. is-true (decides-13 l m i) (k .rule13 i b))) in
       rw (b10, b11, b12, b13, clear-segments (k .rule14), clear-stations (k .rule15)) refl
+
+  -- minutes in days are lawful exactly when no breach is found
+  pub lawful-of : EachTrain l (InDays l m) → breachOf l m ≡ Breach.None → Lawful l m
+  lawful-of h e =
+      let k = kept-of e in
+      record { days = h; rule10 = k .rule10; rule11 = k .rule11; rule12 = k .rule12; rule13 = k .rule13; rule14 = k .rule14; rule15 = k .rule15 }
+
+  pub of-lawful : Lawful l m → breachOf l m ≡ Breach.None
+  of-lawful h =
+      of-kept record { rule10 = h .rule10; rule11 = h .rule11; rule12 = h .rule12; rule13 = h .rule13; rule14 = h .rule14; rule15 = h .rule15 }

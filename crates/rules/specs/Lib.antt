@@ -8,7 +8,6 @@ pub mod Directions
 pub mod Conflicts
 pub mod Orders
 pub mod Breaches
-pub mod BestLaws
 pub mod DirectionsLaws
 pub mod ConflictsLaws
 pub mod Standing
@@ -17,4 +16,7 @@ pub mod RulesLaws
 pub mod BreachesLaws
 pub mod OrdersCarry
 pub mod OrdersLaws
+pub mod ListsLaws
 pub mod ExactLaws
+pub mod SameLaws
+pub mod BestLaws

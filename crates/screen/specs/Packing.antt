@@ -4,6 +4,7 @@ use mathlib.Core.Path.{_≡_}
 use native.Mathlib.Omega.{arith}
 use Rattle.text.specs.declared.Written.{Written}
 use Rattle.line.specs.declared.Answer.{Answer}
+use Rattle.timetable.specs.declared.checking.Verdict.{Verdict}
 
 abbrev pub packed : ℕ → ℕ → ℕ
 packed number value = number * 4294967296 + value % 4294967296
@@ -12,6 +13,11 @@ packed number value = number * 4294967296 + value % 4294967296
 abbrev pub packedAnswer : Answer → ℕ
 packedAnswer Answer.Accepted = 0
 packedAnswer (Answer.Refused n p) = packed n p
+
+-- of a check: 0 where the timetable passes
+abbrev pub packedVerdict : Verdict → ℕ
+packedVerdict Verdict.Passed = 0
+packedVerdict (Verdict.Refused n p) = packed n p
 
 -- of a writing: 0 and the length of the text, or the refusal
 abbrev pub packedWritten : Written → ℕ

@@ -2,12 +2,15 @@
 // or 0 and the length of what was written.
 ghost use mathlib.Core.Path.{_≡_};
 ghost use Rattle.line.specs.File.{lineFile, answered};
-ghost use Rattle.screen.specs.Packing.{packed, packedAnswer, packedWritten};
+ghost use Rattle.screen.specs.Packing.{packed, packedAnswer, packedVerdict, packedWritten};
 ghost use Rattle.screen.specs.Rewriting.{Rewritten};
+ghost use Rattle.timetable.specs.Check.{checkOf};
 use line::Answer;
 use line::reading::read;
 use line::writing::write;
 use text::Written;
+use timetable::checking::Verdict;
+use timetable::checking::check;
 
 fn pack(number: u8, value: usize) -> u64
     ensures { λ r. ⌜ r ≡ packed number value ⌝ }
@@ -50,5 +53,17 @@ pub extern "C" fn gaugeviolet_rewrite(file: &[u8], out: &mut [u8]) -> u64
             pack_written(write(line, out))
         }
         Answer::Refused(number, place) => pack(number, place),
+    }
+}
+
+// Checks a timetable's text against a line file: 0, or the number and place of its first fault.
+#[no_mangle]
+pub extern "C" fn gaugeviolet_check(file: &[u8], timetable: &[u8]) -> u64
+    ensures { λ r. ⌜ r ≡ packedVerdict (checkOf (now (file .entry)) (now (timetable .entry))) ⌝ }
+{
+    let verdict = check(file, timetable);
+    match verdict {
+        Verdict::Passed => 0,
+        Verdict::Refused(number, place) => pack(number, place),
     }
 }

@@ -17,6 +17,14 @@ EachBelow n P = (i : ℕ) → i < n → P i
 pub each-more : (P : ℕ → Type 0) (n : ℕ) → EachBelow n P → P n → EachBelow (suc n) P
 each-more P n h p i l = elim (decLt i n) [ yes k ↦ h i k | no k ↦ subst P (let e : n ≡ i = omega arith in e) p ]
 
+-- `P` at each of the k numbers from j on
+abbrev pub EachFrom : ℕ → ℕ → (ℕ → Type 0) → Type 0
+EachFrom k j P = (i : ℕ) → j ≤ i → i < j + k → P i
+
+pub each-first : (P : ℕ → Type 0) (k j : ℕ) → P j → EachFrom k (j + 1) P → EachFrom (suc k) j P
+each-first P k j p h i low high =
+    elim (decLt j i) [ yes l ↦ h i (omega arith) (omega arith) | no l ↦ subst P (let e : j ≡ i = omega arith in e) p ]
+
 abbrev pub orElse : {A : Type 0} → Option A → Option A → Option A
 orElse none p = p
 orElse (some i) p = some i
@@ -127,6 +135,14 @@ module _ (f : ℕ → Bool) where
 pub sum-more : (f : ℕ → ℕ) (i : ℕ) → sum f (i + 1) ≡ sum f i + f i
 unfolding sum
 sum-more f i = rw add-one
+
+pub gather-more : {A : Type 0} (f : ℕ → List A) (i : ℕ) → gather f (i + 1) ≡ gather f i ++ f i
+unfolding gather
+gather-more f i = rw add-one
+
+pub gather-none : {A : Type 0} (f : ℕ → List A) → [] ≡ gather f 0
+unfolding gather
+gather-none f = refl
 
 -- the test of every number decides the statement of every number
 pub decides-all : (P : ℕ → Type 0) (f : ℕ → Bool) (n : ℕ) → ((i : ℕ) → i < n → Decides (P i) (f i)) → Decides (EachBelow n P) (all f n)

@@ -8,7 +8,7 @@ use native.Mathlib.Numerals.{add-one}
 use native.Mathlib.Nat.{lt-irrefl, not-suc-le-zero, le-of-suc-le-suc}
 use borrow.Author.Tests.{ltb-false, le-ltb, eq-eqb, eqb-true}
 use lib.Dec.{ltb, eqb}
-use lib.ListN.{length, getD, drop}
+use lib.ListN.{length, getD, drop, length-drop}
 use lib.Seq.{drop-cons, drop-drop, drop-append-seam}
 use Rattle.text.specs.declared.Cursor.{Cursor}
 use Rattle.text.specs.declared.Digit.{Digit}
@@ -55,6 +55,10 @@ pub from-skip : (s : List ℕ) (c : Cursor) (xs ys : List ℕ) → from s c ≡ 
 from-skip s c xs ys e =
     sym (drop-drop (length xs) (c .at) s) ∙ ap (λ (l : List ℕ). drop (length xs) l) e ∙ drop-append-seam xs ys
 
+-- where nothing is left, the cursor is at the end
+pub at-length : (s : List ℕ) (c : Cursor) → from s c ≡ [] → length s ≤ c .at
+at-length s c e = omega (arith, length-drop (c .at) s, ap length e)
+
 -- ---- the byte after a field
 
 pub past-spelt : (s : List ℕ) (c next : Cursor) (b : ℕ) → b < 256 → pastOf s c b ≡ Step.Next next → from s c ≡ b ∷ from s next
@@ -95,6 +99,15 @@ unfolding digitOf
 digit-byte d h =
     let z : (d + 48) - 48 ≡ d = omega arith in
     simp (le-ltb (d + 48) 48 (omega arith), le-ltb 57 (d + 48) (omega arith), z)
+
+-- a space and a line feed are no digits
+pub space-ends : digitOf 32 ≡ Digit.Other
+unfolding digitOf
+space-ends = refl
+
+pub feed-ends : digitOf 10 ≡ Digit.Other
+unfolding digitOf
+feed-ends = refl
 
 -- a digit's worth from a byte that was read, the answer for it, and what the answer is
 pub digit-is : (b r : ℕ) (x y : Digit) → r ≡ b → x ≡ digitOf r → x ≡ y → digitOf b ≡ y

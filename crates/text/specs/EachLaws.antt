@@ -1,6 +1,8 @@
 -- Laws of what holds of each element of a list.
 use Prim.Native.Nat.{ℕ, zero, suc, _<_, _≤_}
-use mathlib.Core.List.{List, [], _∷_}
+use mathlib.Core.Path.{_≡_, refl}
+use mathlib.Core.Logic.{_⊎_, inl, inr}
+use mathlib.Core.List.{List, [], _∷_, _++_, map}
 use native.Mathlib.Omega.{arith}
 use lib.ListN.{length, getD, take}
 use Rattle.text.specs.Each.{Each}
@@ -21,9 +23,25 @@ pub each-map : {A : Type 0} (P Q : A → Type 0) → ((x : A) → P x → Q x) �
 each-map P Q f [] v = tt
 each-map P Q f (x ∷ xs) v = (f x (v .0), each-map P Q f xs (v .1))
 
+-- of what f makes of each
+pub each-image : {A B : Type 0} (P : B → Type 0) (f : A → B) (xs : List A) → Each (λ x. P (f x)) xs → Each P (map f xs)
+each-image P f [] v = tt
+each-image P f (x ∷ xs) v = (v .0, each-image P f xs (v .1))
+
+pub each-append : {A : Type 0} (P : A → Type 0) (xs ys : List A) → Each P xs → Each P ys → Each P (xs ++ ys)
+each-append P [] ys v w = w
+each-append P (x ∷ xs) ys v w = (v .0, each-append P xs ys (v .1) w)
+
 -- what holds of each of the first n holds of element i
 pub each-at : {A : Type 0} (P : A → Type 0) (n : ℕ) (xs : List A) (i : ℕ) (d : A) → n ≤ length xs → i < n → Each P (take n xs) → P (getD xs i d)
 each-at P zero xs i d full h e = absurd (omega arith)
 each-at P (suc n) [] i d full h e = absurd (omega arith)
 each-at P (suc n) (x ∷ xs) zero d full h e = e .0
 each-at P (suc n) (x ∷ xs) (suc i) d full h e = each-at P n xs i d (omega arith) (omega arith) (e .1)
+
+-- the same where there may be fewer than n: else element i is what stands past the last
+pub each-or : {A : Type 0} (P : A → Type 0) (n : ℕ) (xs : List A) (i : ℕ) (d : A) → i < n → Each P (take n xs) → P (getD xs i d) ⊎ (getD xs i d ≡ d)
+each-or P zero xs i d h e = absurd (omega arith)
+each-or P (suc n) [] i d h e = inr refl
+each-or P (suc n) (x ∷ xs) zero d h e = inl (e .0)
+each-or P (suc n) (x ∷ xs) (suc i) d h e = each-or P n xs i d (omega arith) (e .1)

@@ -1,6 +1,6 @@
 -- Laws of writing into lent bytes: a copy byte by byte, and its two endings.
 use Prim.Native.Nat.{ℕ, _+_, _<_, _≤_}
-use mathlib.Core.Path.{_≡_, refl, ap, _∙_}
+use mathlib.Core.Path.{_≡_, refl, sym, ap, _∙_}
 use mathlib.Core.List.{List, _++_}
 use native.Mathlib.Omega.{arith}
 use native.Mathlib.Numerals.{add-one}
@@ -47,3 +47,8 @@ put-front entry exit t n p fits =
     ap (λ (l : List ℕ). take n l) (p .bytes ∙ sets-eq t entry 0 (omega arith))
     ∙ ap (λ (k : ℕ). take k (t ++ drop (0 + length t) entry)) count
     ∙ take-append-seam t (drop (0 + length t) entry)
+
+-- where that text is what there is to write, lending the front of the buffer writes it
+pub lent-front : {what : Spelling} {buffer entry exit : List ℕ} {n : ℕ} {r : Written} (zeros t : List ℕ) → what ≡ Spelling.text t →
+    length t ≤ length zeros → Put zeros buffer 0 t n → Lent (Spelling.text (take n buffer)) entry exit r → Lent what entry exit r
+lent-front {buffer = buffer} {n = n} zeros t is fits put lent = rw (is, sym (put-front zeros buffer t n put fits)) lent

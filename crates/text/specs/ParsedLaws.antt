@@ -29,12 +29,17 @@ pub record Followed {A B : Type 0} (r : Parsed A) (f : A → Cursor → Parsed B
   pub first : r ≡ Parsed.got value next
   pub after : f value next ≡ Parsed.got b end
 
+bad-got : {A : Type 0} (n p : ℕ) (x : A) (c : Cursor) → Parsed.bad n p ≡ Parsed.got x c → ⊥
+bad-got n p x c e = let z : _≡_ {A = ℕ} 0 1 = cc in omega arith
+
 pub then-got : {A B : Type 0} (r : Parsed A) (f : A → Cursor → Parsed B) (b : B) (end : Cursor) → thenRead r f ≡ Parsed.got b end → Followed r f b end
 then-got (Parsed.got a c) f b end e = record { value = a; next = c; first = refl; after = e }
 then-got (Parsed.bad n p) f b end e = absurd (bad-got n p b end e)
-  where
-    bad-got : {C : Type 0} (n p : ℕ) (x : C) (c : Cursor) → Parsed.bad n p ≡ Parsed.got x c → ⊥
-    bad-got n p x c h = let z : _≡_ {A = ℕ} 0 1 = cc in omega arith
+
+-- where a test would have refused, and something was read, the test did not hold
+pub pick-got : {A : Type 0} (b : Bool) (n p : ℕ) (r : Parsed A) (x : A) (end : Cursor) → pick b (Parsed.bad n p) r ≡ Parsed.got x end → (b ≡ false) × (r ≡ Parsed.got x end)
+pick-got true n p r x end e = absurd (bad-got n p x end e)
+pick-got false n p r x end e = (refl, e)
 
 -- what holds of a value and its end holds of the same value and end
 pub got-is : {A : Type 0} (Q : A → Cursor → Type 0) {a b : A} {m n : Cursor} → Parsed.got a m ≡ Parsed.got b n → Q a m → Q b n
@@ -136,6 +141,10 @@ ranged-reads form range lo hi b p s c n rest o l h small e =
       leaves = field-leaves 4 s c n b rest (omega arith) few (omega arith) o e;
     }
 
+-- nothing more is read
+pub at-end : {A : Type 0} {s rest : List ℕ} (x : A) (c : Cursor) → from s c ≡ rest → Reads (Parsed.got x c) x s rest
+at-end x c e = record { next = c; reads = refl; leaves = e }
+
 -- x is read, and then what follows it gives y
 pub reads-then : {A B : Type 0} {r : Parsed A} {x : A} {s mid rest : List ℕ} {y : B} (f : A → Cursor → Parsed B) → Reads r x s mid → ((next : Cursor) → from s next ≡ mid → Reads (f x next) y s rest) → Reads (thenRead r f) y s rest
 reads-then f a g =
@@ -177,7 +186,7 @@ module _ {A B : Type 0} (P : B → Type 0) (text : B → List ℕ → List ℕ) 
   each-reads [] i c rest v e = record { next = c; reads = refl; leaves = e }
   each-reads (b ∷ bs) i c rest v e =
       reads-then _ (one i c b (eachThen text bs rest) (v .0) e)
-      (λ next h. reads-then _ (each-reads bs (i + 1) next rest (v .1) h) (λ end l. record { next = end; reads = refl; leaves = l }))
+      (λ next h. reads-then _ (each-reads bs (i + 1) next rest (v .1) h) (λ end l. at-end _ end l))
 
   pub many-reads : (k : ℕ) (bs : List B) → length bs ≡ k → (i : ℕ) (c : Cursor) (rest : List ℕ) → Each P bs → from s c ≡ eachThen text bs rest → Reads (many k part i s c) (map f bs) s rest
   many-reads k bs w i c rest v e = rw w at (each-reads bs i c rest v e)

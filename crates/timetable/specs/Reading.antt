@@ -12,12 +12,11 @@ use Rattle.text.specs.Bytes.{pastOf}
 use Rattle.text.specs.Numbers.{numberAt, fieldAt}
 use Rattle.text.specs.Limits.{boundedOf}
 use Rattle.text.specs.Parsed.{Parsed, thenRead, many, rangedAt}
-use Rattle.text.specs.Below.{sum}
-use Rattle.line.specs.declared.Kind.{Kind}
 use Rattle.line.specs.declared.Train.{Train}
 use Rattle.line.specs.declared.Line.{Line}
-use Rattle.rules.specs.Paths.{train, segmentCount, segment, legs, segmentOf}
+use Rattle.rules.specs.Paths.{train, legs, segmentOf}
 use Rattle.rules.specs.Minutes.{departs, arrives}
+use Rattle.rules.specs.Orders.{listCount}
 
 -- the byte after a field with k more on its line
 abbrev pub afterField : ℕ → ℕ
@@ -61,14 +60,6 @@ minutesAt l s c = thenRead (countAt (l .«train_count») 1 s c) (λ n c₁. trai
 
 -- ---- "Then the count of order lists, one for S or F and two for D, by segment; each line has the number of trains in it and then their numbers"
 
-abbrev pub lanes : Kind → ℕ
-lanes Kind.S = 1
-lanes Kind.F = 1
-lanes Kind.D = 2
-
-unfoldable pub listCount : Line → ℕ
-listCount l = sum (λ p. lanes (segment l p .kind)) (segmentCount l)
-
 -- a list's own count: a line feed after 0, a space after any other; "over the trains" is 9
 unfoldable pub ownCountAt : ℕ → ℕ → List ℕ → Cursor → Parsed ℕ
 ownCountAt n p s c =
@@ -102,6 +93,7 @@ restAt l p s c =
     thenRead (totalAt (p + 1 + n) s c₂) (λ v c₃.
     pick (ltb (c₃ .at) (length s)) (Parsed.bad 8 (p + 2 + n)) (Parsed.got (record { lists = ls; total = v }) c₃))))
 
+-- what was read of the text
 pub record Timetable : Type 0 where
   pub minutes : List ℕ
   pub rest : Rest

@@ -27,7 +27,7 @@ field-told lo hi b p s c {y} {x} {f} {g} byte faults told is =
     ∙ ap toldField is
 
 -- a count that was read is the line's
-count-is : (n p : ℕ) (s : List ℕ) (c : Cursor) (v : ℕ) (next : Cursor) → countAt n p s c ≡ Parsed.got v next → v ≡ n
+pub count-is : (n p : ℕ) (s : List ℕ) (c : Cursor) (v : ℕ) (next : Cursor) → countAt n p s c ≡ Parsed.got v next → v ≡ n
 count-is n p s c v next e =
     let w = ranged-spelt 8 9 n n 10 p s c v next (omega arith) e in
     omega (arith, w .low, w .high)

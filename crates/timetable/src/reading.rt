@@ -1,18 +1,24 @@
 // Reading the timetable's text for a line: the minutes, then the order lists and the total.
 ghost use mathlib.Core.Path.{_≡_};
 ghost use Prim.Native.Nat.{_+_, _-_, _≤_, _<_};
-ghost use lib.ListN.{replicate};
+ghost use mathlib.Core.List.{map};
+ghost use lib.ListN.{replicate, take};
+ghost use Rattle.text.specs.Parsed.{many};
 ghost use Rattle.text.specs.Told.{toldField, toldEnding};
 ghost use Rattle.line.specs.Record.{legsOf};
 ghost use Rattle.line.specs.Within.{Within};
 ghost use Rattle.rules.specs.Paths.{Routed};
-ghost use Rattle.rules.specs.Orders.{listed};
-ghost use Rattle.timetable.specs.Reading.{afterField, faultsOn, legsAt, trainsAt, minutesAt, ownCountAt, listAt};
+ghost use Rattle.rules.specs.Orders.{listed, listCount};
+ghost use Rattle.timetable.specs.Reading.{afterField, faultsOn, legsAt, trainsAt, minutesAt, ownCountAt, listAt, restAt, timetableFile};
+ghost use Rattle.timetable.specs.Told.{restOf, timetableOf};
 use line::Line;
+use line::MAX_BYTES;
 use line::Time;
 use line::Train;
 use line::legs_between;
 use rules::orders::OrderList;
+use rules::orders::list_count;
+use rules::orders::no_list;
 use rules::rules::segment_between;
 use text::Bounded;
 use text::Cursor;
@@ -22,6 +28,7 @@ use text::Field;
 use text::LINE_FEED;
 use text::Limits;
 use text::Number;
+use text::NumberField;
 use text::SPACE;
 use text::Step;
 use text::stopped;
@@ -38,6 +45,27 @@ pub struct ListPart {
     pub list: OrderList,
 }
 
+// The order lists, as many as the line has.
+pub struct ListsPart {
+    pub ending: Ending,
+    pub lists: [OrderList; 22],
+}
+
+// The order lists and the total.
+pub struct RestPart {
+    pub ending: Ending,
+    pub lists: [OrderList; 22],
+    pub total: u32,
+}
+
+// The whole text.
+pub struct TimetablePart {
+    pub ending: Ending,
+    pub minutes: [u16; 352],
+    pub lists: [OrderList; 22],
+    pub total: u32,
+}
+
 // The numbers of a timetable's refusals, on this line.
 fn faults_on(line: usize) -> Faults
     ensures { λ r. ⌜ r ≡ faultsOn line ⌝ }
@@ -50,7 +78,7 @@ fn faults_on(line: usize) -> Faults
 }
 
 // The byte after a field with `left` more on its line.
-fn after_field(left: usize) -> u8
+pub fn after_field(left: usize) -> u8
     ensures { λ r. ⌜ r ≡ afterField left ⌝ }
 {
     if left == 0 { LINE_FEED } else { SPACE }
@@ -194,5 +222,112 @@ fn list_line(s: &[u8], start: Cursor, n: u16, line: usize) -> ListPart
     ListPart {
         ending,
         list: OrderList { count, trains },
+    }
+}
+
+// The lines of the order lists, of a line with n trains, from line `first` on.
+fn list_lines(s: &[u8], start: Cursor, n: u16, count: usize, first: usize) -> ListsPart
+    requires { ⌜ (n ≤ 12) × (count ≤ 22) × (first ≤ 100) ⌝ }
+    ensures { λ r. ⌜ toldEnding (r .ending) (map listed (take count (r .lists))) ≡ many count (listAt n) first (now (s .entry)) start ⌝ }
+{
+    let none = no_list();
+    let mut lists = [none; 22];
+    let mut cursor = start;
+    let mut k: usize = 0;
+    let ending = 'lines: loop {
+        if k == count {
+            break 'lines Ending::Done(cursor);
+        }
+        let part = list_line(s, cursor, n, first + k);
+        let ended = part.ending;
+        let Ending::Done(next) = ended else {
+            break 'lines ended;
+        };
+        let list = part.list;
+        lists[k] = list;
+        cursor = next;
+        k = k + 1;
+    };
+    ListsPart { ending, lists }
+}
+
+// No lists and no total, with how the reading ended.
+fn no_rest(ending: Ending) -> RestPart
+    ensures { λ r. ⌜ r .ending ≡ ending ⌝ }
+{
+    let none = no_list();
+    RestPart {
+        ending,
+        lists: [none; 22],
+        total: 0,
+    }
+}
+
+// The second part of the text, which begins on line `first`: the order lists and the total, and nothing after them.
+pub fn read_rest(s: &[u8], start: Cursor, line: Line, first: usize) -> RestPart
+    requires { ⌜ Within line × (first ≤ 50) ⌝ }
+    ensures { λ r. ⌜ toldEnding (r .ending) (restOf line r) ≡ restAt line first (now (s .entry)) start ⌝ }
+{
+    let own = list_count(line);
+    let limits = Limits { min: own, max: own };
+    let field = start.ranged(s, LINE_FEED, limits, faults_on(first));
+    let Field::Value(_, next) = field else {
+        return no_rest(stopped(field));
+    };
+    let count = own as usize;
+    let part = list_lines(s, next, line.train_count, count, first + 1);
+    let ended = part.ending;
+    let Ending::Done(after_lists) = ended else {
+        return no_rest(ended);
+    };
+    let NumberField::Value(total, end) = after_lists.number_field(s, 7, LINE_FEED) else {
+        return no_rest(Ending::Refused(8, first + 1 + count));
+    };
+    if end.at < s.len() {
+        return no_rest(Ending::Refused(8, first + 2 + count));
+    }
+    let lists = part.lists;
+    RestPart {
+        ending: Ending::Done(end),
+        lists,
+        total,
+    }
+}
+
+// Nothing read, with how the reading ended.
+fn no_timetable(ending: Ending) -> TimetablePart
+    ensures { λ r. ⌜ r .ending ≡ ending ⌝ }
+{
+    let none = no_list();
+    TimetablePart {
+        ending,
+        minutes: [0; 352],
+        lists: [none; 22],
+        total: 0,
+    }
+}
+
+// The whole text: 7 before all, then field by field.
+pub fn read_timetable(s: &[u8], line: Line) -> TimetablePart
+    requires { ⌜ Within line ⌝ }
+    ensures { λ r. ⌜ toldEnding (r .ending) (timetableOf line r) ≡ timetableFile line (now (s .entry)) ⌝ }
+{
+    if MAX_BYTES < s.len() {
+        return no_timetable(Ending::Refused(7, 0));
+    }
+    let first = read_minutes(s, Cursor { at: 0 }, line);
+    let ended = first.ending;
+    let Ending::Done(next) = ended else {
+        return no_timetable(ended);
+    };
+    let second = read_rest(s, next, line, line.train_count as usize + 2);
+    let ending = second.ending;
+    let minutes = first.at;
+    let lists = second.lists;
+    TimetablePart {
+        ending,
+        minutes,
+        lists,
+        total: second.total,
     }
 }

@@ -1,0 +1,123 @@
+-- Only the minutes of legs matter: two timetables that are the same have the same weighted delay and the same order lists, and one keeps the rules where
+-- the other does. A segment that a train uses is that of one of its legs, and the segments beside a middle station are used.
+use Prim.Native.Nat.{ℕ, _+_, _*_, _-_, _≤_, _<_}
+use mathlib.Core.Path.{_≡_, refl, sym, _∙_, ap}
+use mathlib.Core.Logic.{inl, inr, ⊎-elim}
+use mathlib.Core.Bool.{Bool, true, false, cond}
+use mathlib.Core.List.{List, [], _∷_}
+use native.Mathlib.Decide.{decLt}
+use native.Mathlib.Omega.{arith}
+use Rattle.text.specs.Decide.{by-test, is-true, is-false, decides-not, decides-eq}
+use Rattle.text.specs.BelowLaws.{count-same, sum-same, gather-same}
+use Rattle.line.specs.declared.Train.{Train}
+use Rattle.line.specs.declared.Line.{Line}
+use Rattle.line.specs.Record.{legsBetween, legsOf}
+use Rattle.line.specs.Within.{Within, Arrays}
+use Rattle.rules.specs.declared.orders.Lane.{Lane}
+use Rattle.rules.specs.Paths.{train, segmentCount, segment, legs, outbound, Uses, segmentBetween, segmentOf, Middle, into, outOf}
+use Rattle.rules.specs.Minutes.{departsOn, arrivesOn, lastArrival}
+use Rattle.rules.specs.Rules.{Before, stands, standing, Lawful}
+use Rattle.rules.specs.Delay.{freeArrival, weightedDelay, Same}
+use Rattle.rules.specs.Directions.{directionsOf, way}
+use Rattle.rules.specs.DirectionsLaws.{decides-on}
+use Rattle.rules.specs.Orders.{inLane, lanesOf, listsOn, orderList, orderLists}
+use Rattle.rules.specs.OrdersLaws.{ordered-same}
+use Rattle.rules.specs.RulesLaws.{routed, legs-few, segment-out, segment-in}
+use Rattle.rules.specs.ExactLaws.{decides-middle}
+
+pub same-sym : (l : Line) (m m′ : List ℕ) → Same l m m′ → Same l m′ m
+same-sym l m m′ s i n k r = (sym (s i n k r .0), sym (s i n k r .1))
+
+pub same-trans : (l : Line) (a b c : List ℕ) → Same l a b → Same l b c → Same l a c
+same-trans l a b c s t i n k r = (s i n k r .0 ∙ t i n k r .0, s i n k r .1 ∙ t i n k r .1)
+
+-- ---- paths
+
+-- a segment that a train uses is that of one of its legs
+leg-on : (t : Train) (p : ℕ) → Uses t p → (k : ℕ) × (k < legsOf t) × (segmentOf t k ≡ p)
+leg-on t p u = elim (decLt (t .origin) (t .destination)) [
+  | yes o ↦ out (t .origin) (t .destination) o (omega (arith, u .0)) (omega (arith, u .1))
+  | no o ↦ back (t .origin) (t .destination) (omega arith) (omega (arith, u .0)) (omega (arith, u .1))
+]
+  where
+    out : (o d : ℕ) → o < d → o - 1 ≤ p → p < d - 1 → (k : ℕ) × (k < legsBetween o d) × (segmentBetween o d k ≡ p)
+    out o d l a b = (p - (o - 1), omega arith, sym (segment-out o d (p - (o - 1)) l) ∙ omega arith)
+
+    back : (o d : ℕ) → d ≤ o → d - 1 ≤ p → p < o - 1 → (k : ℕ) × (k < legsBetween o d) × (segmentBetween o d k ≡ p)
+    back o d l a b = (o - 2 - p, omega arith, sym (segment-in o d (o - 2 - p) l) ∙ omega arith)
+
+-- it comes to a middle station and leaves it on segments that it uses
+beside : (t : Train) (s : ℕ) → Middle t s → Uses t (into t s) × Uses t (outOf t s)
+beside t s h = go (outbound t)
+  where
+    before : Uses t (s - 1)
+    before = (omega (arith, h .0, h .1), omega (arith, h .0, h .1))
+
+    after : Uses t s
+    after = (omega (arith, h .0, h .1), h .1)
+
+    go : (b : Bool) → Uses t (cond b (s - 1) s) × Uses t (cond b s (s - 1))
+    go true = (before, after)
+    go false = (after, before)
+
+-- a train in a lane of a segment has a way there
+lane-way : (lane : Lane) (w : ℕ) → inLane lane w ≡ true → inLane Lane.Both w ≡ true
+lane-way Lane.Both w e = e
+lane-way Lane.Outbound w e = is-true (decides-not (decides-eq w 0)) (λ z. omega (arith, decides-eq w 1 .yea e))
+lane-way Lane.Inbound w e = is-true (decides-not (decides-eq w 0)) (λ z. omega (arith, decides-eq w 2 .yea e))
+
+-- ---- what the same minutes have in common
+
+module _ (l : Line) (m m′ : List ℕ) (s : Same l m m′) where
+  pub same-on : (p i : ℕ) → i < l .«train_count» → Uses (train l i) p → (departsOn m p i ≡ departsOn m′ p i) × (arrivesOn m p i ≡ arrivesOn m′ p i)
+  same-on p i n u = let k = leg-on (train l i) p u in rw (k .2) at (s i n (k .0) (k .1))
+
+  before-same : (p i j : ℕ) → i < l .«train_count» → j < l .«train_count» → Uses (train l i) p → Uses (train l j) p → Before l m p i j → Before l m′ p i j
+  before-same p i j a b u v h = let x = same-on p i a u in let y = same-on p j b v in rw (← x .0, ← x .1, ← y .0, ← y .1) h
+
+  stands-same : (q t i : ℕ) → i < l .«train_count» → stands l m q t i ≡ stands l m′ q t i
+  unfolding stands
+  stands-same q t i n =
+      by-test (decides-middle (train l i) q)
+      (λ h. let b = beside (train l i) q h in rw (same-on _ i n (b .0) .1, same-on _ i n (b .1) .0) refl)
+      (λ h. rw (is-false (decides-middle (train l i) q) h) refl)
+
+  standing-same : (q t : ℕ) → standing l m q t ≡ standing l m′ q t
+  unfolding standing
+  standing-same q t = count-same (stands l m q t) (stands l m′ q t) (l .«train_count») (λ i n. stands-same q t i n)
+
+  module _ (w : Within l) (a : Arrays l) where
+    has-legs : (i : ℕ) → i < l .«train_count» → 1 ≤ legs l i
+    has-legs i n = legs-few (train l i) (routed l i w (a .trains) n) .0
+
+    last-same : (i : ℕ) → i < l .«train_count» → lastArrival l m i ≡ lastArrival l m′ i
+    last-same i n = s i n (legs l i - 1) (omega (arith, has-legs i n)) .1
+
+    pub delay-same : weightedDelay l m ≡ weightedDelay l m′
+    unfolding weightedDelay
+    delay-same = sum-same _ _ (l .«train_count») (λ i n. ap (λ (x : ℕ). train l i .weight * (x - freeArrival (train l i))) (last-same i n))
+
+    list-same : (p : ℕ) → p < 11 → (lane : Lane) → orderList l m p lane ≡ orderList l m′ p lane
+    unfolding orderList
+    list-same p b lane =
+        ordered-same (departsOn m p) (departsOn m′ p) _ _ (l .«train_count»)
+        (λ i n. (λ t. same-on p i n (decides-on l (w .trains .1) p b i n .yea (lane-way lane (way (directionsOf l) p i) t)) .0, refl))
+
+    pub lists-same : orderLists l m ≡ orderLists l m′
+    unfolding orderLists
+    lists-same = gather-same _ _ (segmentCount l) (λ p b. lanes-same p (omega (arith, w .stations .1)) (lanesOf (segment l p .kind)))
+      where
+        lanes-same : (p : ℕ) → p < 11 → (lanes : List Lane) → listsOn l m p lanes ≡ listsOn l m′ p lanes
+        lanes-same p b [] = refl
+        lanes-same p b (lane ∷ lanes) = λ i. list-same p b lane i ∷ lanes-same p b lanes i
+
+    pub lawful-same : Lawful l m → Lawful l m′
+    lawful-same h = record {
+      days = λ i n k r. (omega (arith, h .days i n k r .0, s i n k r .0), omega (arith, h .days i n k r .1, s i n k r .1));
+      rule10 = λ i n. omega (arith, h .rule10 i n, s i n 0 (has-legs i n) .0);
+      rule11 = λ i n k r. omega (arith, h .rule11 i n k r, s i n k r .0, s i n k r .1);
+      rule12 = λ i n k r. omega (arith, h .rule12 i n k r, s i n k (omega arith) .1, s i n (k + 1) (omega arith) .0);
+      rule13 = λ i n. omega (arith, h .rule13 i n, last-same i n);
+      rule14 = λ p b i n j o e u v. ⊎-elim (λ x. inl (before-same p i j n o u v x)) (λ x. inr (before-same p j i o n v u x)) (h .rule14 p b i n j o e u v);
+      rule15 = λ q b t r. omega (arith, h .rule15 q b t r, standing-same q t);
+    }

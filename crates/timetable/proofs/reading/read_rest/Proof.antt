@@ -1,0 +1,155 @@
+-- `timetable::reading::read_rest` meets its contract: each refusal is that of the definition at the same place, and the lists and the total are those read.
+use Prim.Native.Nat.{ℕ}
+use mathlib.Core.Path.{_≡_, _∙_, sym, ap, refl}
+use mathlib.Core.List.{map}
+use native.Mathlib.Omega.{arith}
+use borrow.Author.Needs.{needs}
+use lib.ListN.{take}
+use Rattle.text.specs.Parsed.{Parsed}
+use Rattle.text.specs.Told.{stoppedBy}
+use Rattle.line.specs.FileLaws.{ended-told}
+use Rattle.rules.specs.Orders.{listed}
+use Rattle.timetable.specs.ReadingLaws.{field-told}
+use Rattle.timetable.specs.RestLaws.{rest-no-count, rest-no-lists, rest-no-total, rest-more, rest-whole}
+use Rattle.timetable.proofs.reading.read_rest.Statement.{statement}
+use Rattle.timetable.proofs.reading.read_rest.Tie as tie
+
+list-count-requires : tie.Need-list-count-requires
+list-count-requires c κs = search needs
+
+faults-on-requires : tie.Need-faults-on-requires
+faults-on-requires c κs = search needs
+
+ranged-requires : tie.Need-ranged-requires
+ranged-requires c κs = search needs
+
+enum-known-field : tie.Need-enum-known-field
+enum-known-field c = search needs
+
+enum-told : tie.Need-enum-told
+enum-told c = search needs
+
+stopped-requires : tie.Need-stopped-requires
+stopped-requires c κs = search needs
+
+no-rest-requires : tie.Need-no-rest-requires
+no-rest-requires c κs = search needs
+
+returns : tie.Need-returns
+returns c =
+    let a = c .before .before .before .before .before .before .before .before .args in
+    let refused = c .before .before .enum-told .given .1 in
+    let count = field-told _ _ 10 (a .first) _ _ refl (c .before .before .before .before .before .faults-on .ensures) (c .before .before .before .before .ranged .ensures) refused in
+    ended-told _ (c .no-rest .ensures ∙ c .before .stopped .ensures ∙ ap stoppedBy refused) ∙ sym (rest-no-count _ _ _ _ (c .before .before .before .before .before .before .list-count .ensures .0) count)
+
+cast-count : tie.Need-cast-count
+cast-count c = search needs
+
+add-list-lines : tie.Need-add-list-lines
+add-list-lines c = search needs
+
+list-lines-requires : tie.Need-list-lines-requires
+list-lines-requires c κs =
+    (c .before .before .before .before .before .before .before .pre .0 .trains .1, c .before .before .before .before .before .list-count .ensures .1, omega (arith, c .before .before .before .before .before .before .before .pre .1))
+
+enum-known-ended : tie.Need-enum-known-ended
+enum-known-ended c = search needs
+
+enum-told-2 : tie.Need-enum-told-2
+enum-told-2 c = search needs
+
+no-rest-requires-2 : tie.Need-no-rest-requires-2
+no-rest-requires-2 c κs = search needs
+
+returns-2 : tie.Need-returns-2
+returns-2 c =
+    let a = c .before .before .before .before .before .before .before .before .before .before .before .args in
+    let count = field-told _ _ 10 (a .first) _ _ refl (c .before .before .before .before .before .before .before .before .faults-on .ensures) (c .before .before .before .before .before .before .before .ranged .ensures) (c .before .before .before .before .before .field .given .1) in
+    let refused = c .before .enum-told2 .given .1 in
+    let lists = sym (c .before .before .before .list-lines .ensures) ∙ ended-told _ refused in
+    ended-told _ (c .no-rest2 .ensures ∙ refused) ∙ sym (rest-no-lists _ _ _ _ (c .before .before .before .before .before .before .before .before .before .list-count .ensures .0) count lists)
+
+number-field-requires : tie.Need-number-field-requires
+number-field-requires c κs = search needs
+
+enum-known-total : tie.Need-enum-known-total
+enum-known-total c = search needs
+
+enum-told-3 : tie.Need-enum-told-3
+enum-told-3 c = search needs
+
+add-t20 : tie.Need-add-t20
+add-t20 c = search needs
+
+add-t21 : tie.Need-add-t21
+add-t21 c = search needs
+
+no-rest-requires-3 : tie.Need-no-rest-requires-3
+no-rest-requires-3 c κs = search needs
+
+returns-3 : tie.Need-returns-3
+returns-3 c =
+    let a = c .before .before .before .before .before .before .before .before .before .before .before .before .before .before .before .args in
+    let count = field-told _ _ 10 (a .first) _ _ refl (c .before .before .before .before .before .before .before .before .before .before .before .before .faults-on .ensures) (c .before .before .before .before .before .before .before .before .before .before .before .ranged .ensures) (c .before .before .before .before .before .before .before .before .before .field .given .1) in
+    let lists = sym (c .before .before .before .before .before .before .before .list-lines .ensures) ∙ ended-told _ (c .before .before .before .before .before .ended .given .1) in
+    let total = sym (c .before .before .before .number-field .ensures) ∙ c .before .enum-told3 .given .1 in
+    ended-told _ (c .no-rest3 .ensures) ∙ sym (rest-no-total _ _ _ _ (c .before .before .before .before .before .before .before .before .before .before .before .before .before .list-count .ensures .0) count lists total)
+
+add-t24 : tie.Need-add-t24
+add-t24 c = search needs
+
+add-t25 : tie.Need-add-t25
+add-t25 c = search needs
+
+no-rest-requires-4 : tie.Need-no-rest-requires-4
+no-rest-requires-4 c κs = search needs
+
+returns-4 : tie.Need-returns-4
+returns-4 c =
+    let a = c .before .before .before .before .before .before .before .before .before .before .before .before .before .before .before .before .before .before .args in
+    let count = field-told _ _ 10 (a .first) _ _ refl (c .before .before .before .before .before .before .before .before .before .before .before .before .before .before .before .faults-on .ensures) (c .before .before .before .before .before .before .before .before .before .before .before .before .before .before .ranged .ensures) (c .before .before .before .before .before .before .before .before .before .before .before .before .field .given .1) in
+    let lists = sym (c .before .before .before .before .before .before .before .before .before .before .list-lines .ensures) ∙ ended-told _ (c .before .before .before .before .before .before .before .before .ended .given .1) in
+    let total = sym (c .before .before .before .before .before .before .number-field .ensures) ∙ c .before .before .before .before .total .given .1 in
+    ended-told _ (c .no-rest4 .ensures) ∙ sym (rest-more _ _ _ _ (c .before .before .before .before .before .before .before .before .before .before .before .before .before .before .before .before .list-count .ensures .0) count lists total (c .before .if1 .taken))
+
+returns-5 : tie.Need-returns-5
+returns-5 c =
+    let a = c .before .before .before .before .before .before .before .before .before .before .before .before .before .before .before .before .before .before .args in
+    let own = c .before .before .before .before .before .before .before .before .before .before .before .before .before .before .before .before .list-count .ensures .0 in
+    let count = field-told _ _ 10 (a .first) _ _ refl (c .before .before .before .before .before .before .before .before .before .before .before .before .before .before .before .faults-on .ensures) (c .before .before .before .before .before .before .before .before .before .before .before .before .before .before .ranged .ensures) (c .before .before .before .before .before .before .before .before .before .before .before .before .field .given .1) in
+    let lists = sym (c .before .before .before .before .before .before .before .before .before .before .list-lines .ensures) ∙ ended-told _ (c .before .before .before .before .before .before .before .before .ended .given .1) in
+    let total = sym (c .before .before .before .before .before .before .number-field .ensures) ∙ c .before .before .before .before .total .given .1 in
+    ap (λ (k : ℕ). Parsed.got (record { lists = map listed (take k (c .before .before .before .before .before .before .before .before .before .before .list-lines .result .lists)); total = c .before .before .before .before .total .given .0 .0 }) (c .before .before .before .before .total .given .0 .1 .0)) (sym own)
+    ∙ sym (rest-whole _ _ _ _ own count lists total (omega (arith, c .before .if1 .left)))
+
+pub read-rest-spec : {M : Type 1} → statement M
+read-rest-spec =
+    tie.close
+    (tie.spec
+    list-count-requires
+    faults-on-requires
+    ranged-requires
+    enum-known-field
+    enum-told
+    stopped-requires
+    no-rest-requires
+    returns
+    cast-count
+    add-list-lines
+    list-lines-requires
+    enum-known-ended
+    enum-told-2
+    no-rest-requires-2
+    returns-2
+    number-field-requires
+    enum-known-total
+    enum-told-3
+    add-t20
+    add-t21
+    no-rest-requires-3
+    returns-3
+    add-t24
+    add-t25
+    no-rest-requires-4
+    returns-4
+    returns-5)

@@ -1,0 +1,64 @@
+-- `timetable::reading::read_timetable` meets its contract: refused for its length or in its first part, or else what the second part gives.
+use mathlib.Core.Path.{_≡_, _∙_, sym}
+use native.Mathlib.Omega.{arith}
+use borrow.Author.Needs.{needs}
+use Rattle.line.specs.FileLaws.{ended-told}
+use Rattle.timetable.specs.RestLaws.{told-map, file-long, file-no-minutes, file-rest}
+use Rattle.timetable.proofs.reading.read_timetable.Statement.{statement}
+use Rattle.timetable.proofs.reading.read_timetable.Tie as tie
+
+no-timetable-requires : tie.Need-no-timetable-requires
+no-timetable-requires c κs = search needs
+
+returns : tie.Need-returns
+returns c =
+    ended-told _ (c .no-timetable .ensures) ∙ sym (file-long _ _ (c .before .if1 .taken))
+
+read-minutes-requires : tie.Need-read-minutes-requires
+read-minutes-requires c κs = search needs
+
+enum-known-ended : tie.Need-enum-known-ended
+enum-known-ended c = search needs
+
+enum-told : tie.Need-enum-told
+enum-told c = search needs
+
+no-timetable-requires-2 : tie.Need-no-timetable-requires-2
+no-timetable-requires-2 c κs = search needs
+
+returns-2 : tie.Need-returns-2
+returns-2 c =
+    let refused = c .before .enum-told .given .1 in
+    let minutes = sym (c .before .before .before .read-minutes .ensures) ∙ ended-told _ refused in
+    ended-told _ (c .no-timetable2 .ensures ∙ refused) ∙ sym (file-no-minutes _ _ (omega (arith, c .before .before .before .before .if1 .left)) minutes)
+
+cast-read-rest : tie.Need-cast-read-rest
+cast-read-rest c = search needs
+
+add-read-rest : tie.Need-add-read-rest
+add-read-rest c = search needs
+
+read-rest-requires : tie.Need-read-rest-requires
+read-rest-requires c κs =
+    (c .before .before .before .before .before .before .before .pre, omega (arith, c .before .before .before .before .before .before .before .pre .trains))
+
+returns-3 : tie.Need-returns-3
+returns-3 c =
+    let minutes = sym (c .before .before .before .before .before .before .before .read-minutes .ensures) ∙ ended-told _ (c .before .before .before .before .before .ended .given .1) in
+    sym (file-rest _ _ (omega (arith, c .before .before .before .before .before .before .before .before .if1 .left)) minutes (c .before .before .read-rest .ensures) ∙ told-map _ (c .before .before .read-rest .result .ending) _)
+
+pub read-timetable-spec : {M : Type 1} → statement M
+read-timetable-spec =
+    tie.close
+    (tie.spec
+    no-timetable-requires
+    returns
+    read-minutes-requires
+    enum-known-ended
+    enum-told
+    no-timetable-requires-2
+    returns-2
+    cast-read-rest
+    add-read-rest
+    read-rest-requires
+    returns-3)

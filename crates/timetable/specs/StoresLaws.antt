@@ -1,0 +1,100 @@
+-- What reading the minutes stores: each leg has two entries of its own, so those of other legs and of other trains stay as they were.
+use Prim.Native.Nat.{ℕ, zero, suc, _+_, _≤_, _<_, _%_}
+use mathlib.Core.Path.{_≡_, refl, _∙_}
+use mathlib.Core.List.{List}
+use native.Mathlib.Omega.{arith}
+use lib.ListN.{length, getD, set, length-set}
+use lib.Seq.{getD-set-same, getD-set-other}
+use Rattle.text.specs.declared.Cursor.{Cursor}
+use Rattle.text.specs.Below.{EachFrom}
+use Rattle.text.specs.Parsed.{Parsed}
+use Rattle.text.specs.ParsedLaws.{then-got, got-is}
+use Rattle.line.specs.declared.Train.{Train}
+use Rattle.line.specs.declared.Line.{Line}
+use Rattle.line.specs.Record.{legsOf}
+use Rattle.rules.specs.Paths.{train, legs, segmentOf, Routed}
+use Rattle.rules.specs.Minutes.{departs, arrives}
+use Rattle.rules.specs.Tests.{departureOf, arrivalOf}
+use Rattle.rules.specs.RulesLaws.{segment-below, segment-apart}
+use Rattle.timetable.specs.Reading.{afterField, timeAt, withLeg, legsAt, trainsAt}
+
+-- ---- the legs of a train, which is train i
+
+module _ (t : Train) (i : ℕ) where
+  -- entry x is none of those of the k legs from leg j on
+  abbrev pub Off : ℕ → ℕ → ℕ → Type 0
+  Off k j x = EachFrom k j (λ q. (x ≡ departs (segmentOf t q) i → ⊥) × (x ≡ arrives (segmentOf t q) i → ⊥))
+
+  -- k legs from leg j on were stored into m, which gave m′
+  pub record LegsStored (k j : ℕ) (m m′ : List ℕ) : Type 0 where
+    pub size : length m′ ≡ length m
+    pub stays : (x : ℕ) → Off k j x → getD m′ x 0 ≡ getD m x 0
+
+  -- one leg
+  pub leg-stored : (j d a : ℕ) (m : List ℕ) → LegsStored 1 j m (withLeg t i j d a m)
+  leg-stored j d a m =
+      let mid = set m (departs (segmentOf t j) i) d in
+      record {
+        size = length-set mid (arrives (segmentOf t j) i) a ∙ length-set m (departs (segmentOf t j) i) d;
+        stays = λ x off.
+            let here = off j (omega arith) (omega arith) in
+            getD-set-other mid (arrives (segmentOf t j) i) x a 0 (here .1) ∙ getD-set-other m (departs (segmentOf t j) i) x d 0 (here .0);
+      }
+
+  pub legs-stored : (k j p : ℕ) (m s : List ℕ) (c : Cursor) (m′ : List ℕ) (next : Cursor) → legsAt k t i j p m s c ≡ Parsed.got m′ next → LegsStored k j m m′
+  unfolding legsAt
+  legs-stored zero j p m s c m′ next e = got-is (λ y _. LegsStored 0 j m y) e (record { size = refl; stays = λ x off. refl })
+  legs-stored (suc k) j p m s c m′ next e =
+      let d = then-got (timeAt 32 p s c) _ m′ next e in
+      let a = then-got (timeAt (afterField k) p s (d .next)) _ m′ next (d .after) in
+      let h = legs-stored k (j + 1) p (withLeg t i j (d .value) (a .value) m) s (a .next) m′ next (a .after) in
+      let one = leg-stored j (d .value) (a .value) m in
+      record {
+        size = h .size ∙ one .size;
+        stays = λ x off. h .stays x (λ q low high. off q (omega arith) (omega arith)) ∙ one .stays x (λ q low high. off q low (omega arith));
+      }
+
+  -- leg j stored, and then k more from the next on: the minutes of leg j are those that were stored
+  module _ (r : Routed t) (few : i < 16) (k j p : ℕ) (d a : ℕ) (m s : List ℕ) (c : Cursor) (m′ : List ℕ) (next : Cursor)
+      (size : length m ≡ 352) (path : j + suc k ≤ legsOf t) (e : legsAt k t i (j + 1) p (withLeg t i j d a m) s c ≡ Parsed.got m′ next) where
+    here : segmentOf t j < 11
+    here = segment-below t r j (omega arith)
+
+    other : (q : ℕ) → j + 1 ≤ q → q < j + 1 + k → segmentOf t j ≡ segmentOf t q → ⊥
+    other q low high = segment-apart t r j q (omega arith) (omega arith)
+
+    there : (q : ℕ) → q < j + 1 + k → segmentOf t q < 11
+    there q high = segment-below t r q (omega arith)
+
+    pub departure-stored : departureOf t m′ i j ≡ d
+    departure-stored =
+        legs-stored k (j + 1) p (withLeg t i j d a m) s c m′ next e .stays (departs (segmentOf t j) i)
+        (λ q low high. ((λ z. other q low high (omega arith)), (λ z. omega (arith, here))))
+        ∙ getD-set-other (set m (departs (segmentOf t j) i) d) (arrives (segmentOf t j) i) (departs (segmentOf t j) i) a 0 (λ z. omega arith)
+        ∙ getD-set-same m (departs (segmentOf t j) i) d 0 (omega (arith, here))
+
+    pub arrival-stored : arrivalOf t m′ i j ≡ a
+    arrival-stored =
+        legs-stored k (j + 1) p (withLeg t i j d a m) s c m′ next e .stays (arrives (segmentOf t j) i)
+        (λ q low high. ((λ z. omega (arith, there q high)), (λ z. other q low high (omega arith))))
+        ∙ getD-set-same (set m (departs (segmentOf t j) i) d) (arrives (segmentOf t j) i) a 0 (rw length-set (omega (arith, here)))
+
+-- ---- the trains of a line
+
+-- trains from train i on were stored into m, which gave m′: entry x of an earlier train is as it was
+pub record TrainsStored (i : ℕ) (m m′ : List ℕ) : Type 0 where
+  pub size : length m′ ≡ length m
+  pub stays : (x : ℕ) → x % 16 < i → getD m′ x 0 ≡ getD m x 0
+
+pub trains-stored : (k : ℕ) (l : Line) (i : ℕ) (m s : List ℕ) (c : Cursor) (m′ : List ℕ) (next : Cursor) → i + k ≤ 12 →
+    trainsAt k l i m s c ≡ Parsed.got m′ next → TrainsStored i m m′
+unfolding trainsAt
+trains-stored zero l i m s c m′ next few e = got-is (λ y _. TrainsStored i m y) e (record { size = refl; stays = λ x h. refl })
+trains-stored (suc k) l i m s c m′ next few e =
+    let a = then-got (legsAt (legs l i) (train l i) i 0 (i + 2) m s c) _ m′ next e in
+    let one = legs-stored (train l i) i (legs l i) 0 (i + 2) m s c (a .value) (a .next) (a .first) in
+    let others = trains-stored k l (i + 1) (a .value) s (a .next) m′ next (omega arith) (a .after) in
+    record {
+      size = others .size ∙ one .size;
+      stays = λ x h. others .stays x (omega arith) ∙ one .stays x (λ q low high. ((λ z. omega arith), (λ z. omega arith)));
+    }

@@ -1,0 +1,33 @@
+-- Writing a timetable: "Writing a record gives 3 or 4 with the line its field would have"; a time over 2,879 gives 9 with its line; else the text.
+use Prim.Native.Nat.{ℕ, _+_}
+use mathlib.Core.Bool.{Bool, not, _&&_}
+use mathlib.Core.Option.{Option, some, none}
+use mathlib.Core.List.{List}
+use lib.Dec.{leb}
+use Rattle.text.specs.Below.{first, all}
+use Rattle.text.specs.Lend.{Spelling}
+use Rattle.line.specs.declared.Train.{Train}
+use Rattle.line.specs.declared.Line.{Line}
+use Rattle.line.specs.declared.writing.Fault.{Fault}
+use Rattle.line.specs.Record.{legsOf}
+use Rattle.line.specs.Writing.{thenFault, onFault, faultOf}
+use Rattle.rules.specs.Paths.{train}
+use Rattle.rules.specs.Tests.{departureOf, arrivalOf}
+use Rattle.timetable.specs.Spell.{timetableText}
+
+-- each time of the train, which is train i, is at most 2,879
+unfoldable pub timesRight : Train → List ℕ → ℕ → Bool
+timesRight t m i = all (λ k. leb (departureOf t m i k) 2879 && leb (arrivalOf t m i k) 2879) (legsOf t)
+
+-- train i stands on line i + 2
+abbrev pub onLine : Option ℕ → Fault
+onLine none = Fault.None
+onLine (some i) = Fault.At 9 (i + 2)
+
+-- the first train with a time over 2,879
+unfoldable pub minutesFault : Line → List ℕ → Fault
+minutesFault l m = onLine (first (λ i. not (timesRight (train l i) m i)) (l .«train_count»))
+
+-- what there is to write for a line and its minutes: a refusal, or the text
+unfoldable pub spelling : Line → List ℕ → Spelling
+spelling l m = onFault (thenFault (faultOf l) (minutesFault l m)) (Spelling.text (timetableText l m)) Spelling.refused

@@ -1,0 +1,254 @@
+-- Laws of writing a timetable: the test of the minutes, and the texts in parts: each part is its own text and then what follows it, so that parts
+-- written one after the other are the whole.
+use Prim.Native.Nat.{ℕ, zero, suc, _+_, _-_, _≤_, _<_}
+use mathlib.Core.Path.{_≡_, refl, sym, ap, _∙_}
+use mathlib.Core.Bool.{true, false, cond, not}
+use mathlib.Core.Option.{Option, some, none}
+use mathlib.Core.List.{List, [], _∷_, _++_, map, append-assoc}
+use native.Mathlib.Omega.{arith}
+use native.Mathlib.Numerals.{add-one}
+use borrow.Author.Tests.{not-false}
+use lib.Dec.{eqb}
+use lib.ListN.{length, getD, drop, length-append, length-drop, length-map, length-take}
+use lib.Seq.{drop-cons, drop-length, getD-take}
+use Rattle.text.specs.Decide.{Decides, decides-and, decides-le}
+use Rattle.text.specs.Below.{EachBelow, decides-all, first-found, first-none, none-first}
+use Rattle.text.specs.Digits.{fieldText}
+use Rattle.text.specs.Each.{eachThen}
+use Rattle.text.specs.Lend.{Spelling}
+use Rattle.text.specs.SpliceLaws.{Putting, putting-room}
+use Rattle.line.specs.declared.Train.{Train}
+use Rattle.line.specs.declared.Line.{Line}
+use Rattle.line.specs.declared.writing.Fault.{Fault}
+use Rattle.line.specs.Record.{legsOf}
+use Rattle.line.specs.Within.{Within}
+use Rattle.line.specs.WithinLaws.{within-of}
+use Rattle.line.specs.Spell.{field}
+use Rattle.line.specs.Writing.{thenFault, onFault, faultOf}
+use Rattle.line.specs.SpellLaws.{each-then}
+use Rattle.rules.specs.Paths.{train, legs, EachTrain}
+use Rattle.rules.specs.Tests.{departureOf, arrivalOf}
+use Rattle.rules.specs.Rules.{InDays}
+use Rattle.rules.specs.Delay.{weightedDelay}
+use Rattle.rules.specs.declared.orders.OrderList.{OrderList}
+use Rattle.rules.specs.Orders.{listCount, listed}
+use Rattle.timetable.specs.Reading.{afterField}
+use Rattle.timetable.specs.Spell.{legsText, trainsText, minutesText, namesText, listText, restText, numbers, listNumbers, timetableText}
+use Rattle.timetable.specs.Writing.{timesRight, onLine, minutesFault, spelling}
+use Rattle.timetable.specs.SpeltLaws.{DaysAt}
+use Rattle.timetable.specs.FitsLaws.{timetable-fits}
+
+-- ---- the times of a train, and the first train with a time that is too late
+
+module _ (t : Train) (m : List ℕ) (i : ℕ) where
+  pub decides-times : Decides (EachBelow (legsOf t) (DaysAt t m i)) (timesRight t m i)
+  unfolding timesRight
+  decides-times = decides-all (DaysAt t m i) _ (legsOf t) (λ k _. decides-and (decides-le _ _) (decides-le _ _))
+
+module _ (l : Line) (m : List ℕ) where
+  abbrev pub Timed : ℕ → Type 0
+  Timed i = timesRight (train l i) m i ≡ true
+
+  pub late-at : (i : ℕ) → i < l .«train_count» → timesRight (train l i) m i ≡ false → EachBelow i Timed → Fault.At 9 (i + 2) ≡ minutesFault l m
+  unfolding minutesFault
+  late-at i h e k = ap onLine (sym (first-found _ _ i h (ap not e) (λ j s. ap not (k j s))))
+
+  pub late-none : EachTrain l Timed → Fault.None ≡ minutesFault l m
+  unfolding minutesFault
+  late-none k = ap onLine (sym (first-none _ _ (λ j s. ap not (k j s))))
+
+  -- minutes without a fault are of the two days
+  days-of : minutesFault l m ≡ Fault.None → EachTrain l (InDays l m)
+  unfolding minutesFault
+  days-of e i h = decides-times (train l i) m i .yea (not-false _ (none-first _ _ (nobody _ e) i h))
+    where
+      nobody : (o : Option ℕ) → onLine o ≡ Fault.None → o ≡ none
+      nobody none g = refl
+      nobody (some j) g = let z : _≡_ {A = ℕ} 0 1 = cc in absurd (omega arith)
+
+  -- of a line and minutes in which the checks f and g found no fault, the line is within the limits, the times in the two days, and the text fits
+  pub clean-fits : {f g : Fault} → f ≡ faultOf l → f ≡ Fault.None → g ≡ minutesFault l m → g ≡ Fault.None →
+      Within l × EachTrain l (InDays l m) × (length (timetableText l m) ≤ 4096)
+  clean-fits line clean minutes late =
+      let within = within-of l (sym line ∙ clean) in
+      let days = days-of (sym minutes ∙ late) in
+      (within, days, timetable-fits l m within days)
+
+  -- what there is to write, by the fault that was found
+  pub spelling-refused : {r : Fault} {n p : ℕ} → r ≡ thenFault (faultOf l) (minutesFault l m) → r ≡ Fault.At n p → spelling l m ≡ Spelling.refused n p
+  unfolding spelling
+  spelling-refused e g = ap (λ (f : Fault). onFault f (Spelling.text (timetableText l m)) Spelling.refused) (sym e ∙ g)
+
+  pub spelling-text : faultOf l ≡ Fault.None → minutesFault l m ≡ Fault.None → spelling l m ≡ Spelling.text (timetableText l m)
+  unfolding spelling
+  spelling-text e g = rw (e, g) refl
+
+-- ---- each part, and then what follows it
+
+legs-then : (k : ℕ) (t : Train) (m : List ℕ) (i j : ℕ) (rest : List ℕ) → legsText k t m i j rest ≡ legsText k t m i j [] ++ rest
+unfolding legsText
+legs-then zero t m i j rest = refl
+legs-then (suc k) t m i j rest = simp (append-assoc, legs-then k t m i (j + 1) rest)
+
+trains-then : (k : ℕ) (l : Line) (m : List ℕ) (i : ℕ) (rest : List ℕ) → trainsText k l m i rest ≡ trainsText k l m i [] ++ rest
+unfolding trainsText
+trains-then zero l m i rest = refl
+trains-then (suc k) l m i rest =
+    legs-then (legs l i) (train l i) m i 0 (trainsText k l m (i + 1) rest)
+    ∙ ap (λ (x : List ℕ). legsText (legs l i) (train l i) m i 0 [] ++ x) (trains-then k l m (i + 1) rest)
+    ∙ sym (append-assoc (legsText (legs l i) (train l i) m i 0 []) (trainsText k l m (i + 1) []) rest)
+    ∙ ap (λ (x : List ℕ). x ++ rest) (sym (legs-then (legs l i) (train l i) m i 0 (trainsText k l m (i + 1) [])))
+
+names-then : (xs rest : List ℕ) → namesText xs rest ≡ namesText xs [] ++ rest
+unfolding namesText
+names-then [] rest = refl
+names-then (x ∷ xs) rest = simp (append-assoc, names-then xs rest)
+
+list-then : (xs rest : List ℕ) → listText xs rest ≡ listText xs [] ++ rest
+unfolding listText
+list-then xs rest = simp (append-assoc, names-then xs rest)
+
+-- ---- the legs of a train, which is train i, of which j are written
+
+module _ (t : Train) (m : List ℕ) (i legs j : ℕ) where
+  abbrev leg : List ℕ
+  leg = fieldText (departureOf t m i j) 32 ++ fieldText (arrivalOf t m i j) (afterField (legs - (j + 1)))
+
+  -- the text yet to write: that of leg j, and the others
+  pub next-leg : j < legs → legsText (legs - j) t m i j [] ≡ leg ++ legsText (legs - (j + 1)) t m i (j + 1) []
+  unfolding legsText
+  next-leg h =
+      let more : legs - j ≡ suc (legs - (j + 1)) = omega arith in
+      rw more (simp append-assoc)
+
+  pub no-leg : j ≡ legs → legsText (legs - j) t m i j [] ≡ []
+  unfolding legsText
+  no-leg e =
+      let none : legs - j ≡ 0 = omega arith in
+      rw none refl
+
+  -- both times of leg j fit where the whole does
+  pub leg-room : {entry : List ℕ} {start : ℕ} {whole now : List ℕ} {at : ℕ} → Putting entry start whole now at (legsText (legs - j) t m i j []) → j < legs →
+      start + length whole ≤ length entry →
+      at + (length (fieldText (departureOf t m i j) 32) + length (fieldText (arrivalOf t m i j) (afterField (legs - (j + 1))))) ≤ length now
+  leg-room putting h fits = rw length-append at (putting-room leg (legsText (legs - (j + 1)) t m i (j + 1) []) putting (next-leg h) fits)
+
+-- ---- the lines of n trains, of which i are written
+
+module _ (l : Line) (m : List ℕ) (n i : ℕ) where
+  pub next-train : i < n → trainsText (n - i) l m i [] ≡ legsText (legs l i) (train l i) m i 0 [] ++ trainsText (n - (i + 1)) l m (i + 1) []
+  unfolding trainsText
+  next-train h =
+      let more : n - i ≡ suc (n - (i + 1)) = omega arith in
+      rw more (legs-then (legs l i) (train l i) m i 0 (trainsText (n - (i + 1)) l m (i + 1) []))
+
+  pub no-train : i ≡ n → trainsText (n - i) l m i [] ≡ []
+  unfolding trainsText
+  no-train e =
+      let none : n - i ≡ 0 = omega arith in
+      rw none refl
+
+  pub train-room : {entry : List ℕ} {start : ℕ} {whole now : List ℕ} {at : ℕ} → Putting entry start whole now at (trainsText (n - i) l m i []) → i < n →
+      start + length whole ≤ length entry → at + length (legsText (legs l i) (train l i) m i 0 []) ≤ length now
+  train-room putting h fits = putting-room (legsText (legs l i) (train l i) m i 0 []) (trainsText (n - (i + 1)) l m (i + 1) []) putting (next-train h) fits
+
+-- ---- the n trains of an order list, of which k are written
+
+-- the number of entry k
+number-at : (is : List ℕ) (k : ℕ) → k < length is → getD (numbers is) k 0 ≡ getD is k 0 + 1
+number-at [] k h = absurd (omega arith)
+number-at (i ∷ is) zero h = refl
+number-at (i ∷ is) (suc k) h = number-at is k (omega arith)
+
+name-then : (x : ℕ) (xs : List ℕ) → namesText (x ∷ xs) [] ≡ fieldText x (afterField (length xs)) ++ namesText xs []
+unfolding namesText
+name-then x xs = simp append-assoc
+
+module _ (o : OrderList) (n : ℕ) (size : n ≡ length (listed o)) where
+  abbrev names : List ℕ
+  names = numbers (listed o)
+
+  many : length names ≡ n
+  many = length-map (listed o) _ ∙ sym size
+
+  module _ (k : ℕ) where
+    name : k < n → getD names k 0 ≡ getD (o .trains) k 0 + 1
+    name h =
+        number-at (listed o) k (omega arith)
+        ∙ ap (λ (x : ℕ). x + 1) (getD-take (o .count) (o .trains) k 0 (omega (arith, length-take (o .count) (o .trains))))
+
+    pub next-name : k < n → namesText (drop k names) [] ≡ fieldText (getD (o .trains) k 0 + 1) (afterField (n - (k + 1))) ++ namesText (drop (k + 1) names) []
+    next-name h =
+        let others = drop (suc k) names in
+        let left : length others ≡ n - suc k = length-drop (suc k) names ∙ ap (λ (x : ℕ). x - suc k) many in
+        rw (add-one k) (
+        ap (λ (xs : List ℕ). namesText xs []) (drop-cons names k 0 (omega (arith, many)))
+        ∙ name-then (getD names k 0) others
+        ∙ ap (λ (x : ℕ). fieldText x (afterField (length others)) ++ namesText others []) (name h)
+        ∙ ap (λ (x : ℕ). fieldText (getD (o .trains) k 0 + 1) (afterField x) ++ namesText others []) left
+        )
+
+    pub no-name : k ≡ n → namesText (drop k names) [] ≡ []
+    unfolding namesText
+    no-name e = ap (λ (j : ℕ). namesText (drop j names) []) (e ∙ sym many) ∙ ap (λ (xs : List ℕ). namesText xs []) (drop-length names)
+
+    pub name-room : {entry : List ℕ} {start : ℕ} {whole now : List ℕ} {at : ℕ} → Putting entry start whole now at (namesText (drop k names) []) → k < n →
+        start + length whole ≤ length entry → at + length (fieldText (getD (o .trains) k 0 + 1) (afterField (n - (k + 1)))) ≤ length now
+    name-room putting h fits =
+        putting-room (fieldText (getD (o .trains) k 0 + 1) (afterField (n - (k + 1)))) (namesText (drop (k + 1) names) []) putting (next-name h) fits
+
+  -- the count, with the byte b after it, and then the numbers
+  module _ {b : ℕ} (byte : b ≡ cond (eqb n 0) 10 32) where
+    pub list-parts : listText names [] ≡ fieldText n b ++ namesText names []
+    unfolding listText
+    list-parts =
+        ap (λ (x : ℕ). field x (cond (eqb x 0) 10 32) (namesText names [])) many
+        ∙ ap (λ (x : ℕ). field n x (namesText names [])) (sym byte)
+        ∙ (simp append-assoc)
+
+    pub list-size : length (listText names []) ≡ length (fieldText n b) + length (namesText names [])
+    list-size = ap length list-parts ∙ length-append (fieldText n b) (namesText names [])
+
+-- ---- the order lists of the code
+
+abbrev pub orderText : OrderList → List ℕ → List ℕ
+orderText o rest = listText (numbers (listed o)) rest
+
+pub order-then : (o : OrderList) (rest : List ℕ) → orderText o rest ≡ orderText o [] ++ rest
+order-then o rest = list-then (numbers (listed o)) rest
+
+-- the text of the lists is that of each order list
+pub lists-text : (xs : List OrderList) (rest : List ℕ) → eachThen listText (map numbers (map listed xs)) rest ≡ eachThen orderText xs rest
+lists-text [] rest = refl
+lists-text (x ∷ xs) rest = ap (orderText x) (lists-text xs rest)
+
+-- ---- the whole text
+
+module _ (l : Line) (m : List ℕ) where
+  abbrev trains-part : List ℕ
+  trains-part = trainsText (l .«train_count») l m 0 []
+
+  abbrev lists-part : List ℕ
+  lists-part = eachThen listText (listNumbers l m) []
+
+  pub timetable-parts : timetableText l m ≡
+      fieldText (l .«train_count») 10 ++ (trains-part ++ (fieldText (listCount l) 10 ++ (lists-part ++ fieldText (weightedDelay l m) 10)))
+  unfolding timetableText minutesText restText
+  timetable-parts =
+      ap (λ (x : List ℕ). field (l .«train_count») 10 x) (
+      trains-then (l .«train_count») l m 0 (field (listCount l) 10 (eachThen listText (listNumbers l m) (fieldText (weightedDelay l m) 10)))
+      ∙ ap (λ (x : List ℕ). trains-part ++ field (listCount l) 10 x) (each-then listText list-then (listNumbers l m) (fieldText (weightedDelay l m) 10))
+      )
+      ∙ (simp append-assoc)
+
+  pub timetable-size : length (timetableText l m) ≡
+      length (fieldText (l .«train_count») 10) + (length trains-part + (length (fieldText (listCount l) 10)
+      + (length lists-part + length (fieldText (weightedDelay l m) 10))))
+  timetable-size =
+      ap length timetable-parts
+      ∙ (rw (
+        length-append (fieldText (l .«train_count») 10),
+        length-append trains-part,
+        length-append (fieldText (listCount l) 10),
+        length-append lists-part,
+      ) refl)
