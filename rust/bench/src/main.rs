@@ -1,14 +1,16 @@
-//! How long the proved library takes to read and to rewrite a full-size line file, beside the
-//! independent implementation: same file, same process, rounds in turn, so that both meet the same
-//! machine. It prints times and their ratio and judges nothing.
+//! How long the proved library takes to read and to rewrite a full-size line file, and to check
+//! full-size timetables, beside the independent implementation: same bytes, same process, rounds in
+//! turn, so that both meet the same machine. It prints times and their ratio and judges nothing.
 
 use std::hint::black_box;
 use std::time::Instant;
 
-use inputs::{full_size, Fields, Random};
+use inputs::{full_size, full_size_planned, Fields, Pair, Random};
 
 const ROUNDS: usize = 400;
 const CALLS: u32 = 200;
+/// How many timetables are checked in turn, each with its own line file.
+const PAIRS: usize = 10;
 
 /// Nanoseconds per call, one entry for each round.
 #[derive(Default)]
@@ -79,6 +81,25 @@ fn rewriting(file: &[u8]) {
     report("rewrite", library, independent);
 }
 
+fn checking(pairs: &[Pair]) {
+    let (mut library, mut independent) = (Times::default(), Times::default());
+    for _ in 0..ROUNDS {
+        let mut next = pairs.iter().cycle();
+        library.round(|| {
+            let Pair { file, timetable } = next.next().expect("there are pairs");
+            let answer = gaugeviolet::check(black_box(file), black_box(timetable));
+            assert_eq!(answer, Ok(()));
+        });
+        let mut next = pairs.iter().cycle();
+        independent.round(|| {
+            let Pair { file, timetable } = next.next().expect("there are pairs");
+            let answer = independent::check(black_box(file), black_box(timetable));
+            assert_eq!(answer, Ok(()));
+        });
+    }
+    report("check", library, independent);
+}
+
 fn main() {
     let file = Fields::of(&full_size(&mut Random::new(1))).text();
     println!(
@@ -89,4 +110,17 @@ fn main() {
     println!("The lent buffer is cleared between rounds, outside the time, and not between calls.");
     reading(&file);
     rewriting(&file);
+
+    let mut random = Random::new(2);
+    let pairs: Vec<Pair> = (0..PAIRS)
+        .map(|_| full_size_planned(&mut random).pair())
+        .collect();
+    let mean = |bytes: fn(&Pair) -> usize| pairs.iter().map(bytes).sum::<usize>() / PAIRS;
+    println!(
+        "{PAIRS} lawful timetables of such lines, one after another: timetables of {} bytes on \
+         average, line files of {}.",
+        mean(|pair| pair.timetable.len()),
+        mean(|pair| pair.file.len())
+    );
+    checking(&pairs);
 }

@@ -1,7 +1,7 @@
 //! Safe Rust functions over Gaugeviolet's proved static library, for the planning screen.
 //!
-//! A line file is lent as bytes. What is wrong with it comes back as a [`Refusal`]: its number and
-//! its place, as the rules of the planner have them.
+//! A line file or a timetable is lent as bytes. What is wrong with it comes back as a [`Refusal`]: its
+//! number and its place, as the rules of the planner have them.
 //!
 //! ```
 //! let file = b"2\n1\n1\n1\nS 5 4\n0\n";
@@ -15,6 +15,19 @@
 //! assert_eq!((refusal.number, refusal.place), (3, 1));
 //! assert_eq!(refusal.to_string(), "refused 3 1");
 //! ```
+//!
+//! A timetable is checked against its line file:
+//!
+//! ```
+//! let file = "3\n2\n2\n2\n2\nS 5 4\nS 5 4\n2\n1 3 0 200 1 20 0 20\n3 1 0 200 2 15 0 15\n";
+//! let timetable = "2\n0 20 20 40\n0 15 24 39\n2\n2 1 2\n2 2 1\n18\n";
+//! let check = |timetable: &str| gaugeviolet::check(file.as_bytes(), timetable.as_bytes());
+//! assert_eq!(check(timetable), Ok(()));
+//!
+//! // The last run of train 2 takes 15 minutes and no fewer.
+//! let refusal = check(&timetable.replace("24 39", "24 38")).unwrap_err();
+//! assert_eq!((refusal.number, refusal.place), (11, 2));
+//! ```
 
 #![deny(unsafe_code)]
 
@@ -24,14 +37,28 @@ mod screen;
 
 /// The most bytes that a line file may have. As many lent bytes hold the text of every line.
 pub const FILE_BYTES: usize = 4096;
+/// The most bytes that a timetable may have.
+pub const TIMETABLE_BYTES: usize = 4096;
 
 /// Why the planner turned something down. Nothing that was lent has changed then.
 #[derive(Clone, Copy, Debug, PartialEq, Eq, PartialOrd, Ord, Hash)]
 pub struct Refusal {
-    /// What is wrong: 1 the file is too long, 2 a field has the wrong form, 3 a number is outside
-    /// its range, 4 a destination equals its origin, 6 the lent bytes are too few for the text.
+    /// What is wrong.
+    ///
+    /// With the line file: 1 it is too long, 2 a field has the wrong form, 3 a number is outside its
+    /// range, 4 a destination equals its origin.
+    ///
+    /// With the lent bytes: 6 they are too few for the text.
+    ///
+    /// With the timetable: 7 it is too long, 8 a field has the wrong form, 9 a number is outside its
+    /// range or a count is not the line's, 10 a train departs before its earliest, 11 a run takes more
+    /// or fewer minutes than the line says, 12 a stop is too short, 13 a train arrives after its
+    /// latest, 14 trains on a segment do not keep their gap, 15 more trains stand at a station than it
+    /// has tracks, 16 an order list does not follow from the minutes, 17 nor does the total.
     pub number: u32,
-    /// Where it is wrong: for 2, 3 and 4 the line of the file, from 1; for 1 and 6 always 0.
+    /// Where it is wrong: for 2, 3 and 4 the line of the file, for 8 and 9 the line of the timetable;
+    /// for 10 to 13 the lowest train, for 14 the lowest segment, for 15 the lowest station and for 16
+    /// the lowest list of which it is true. All of them count from 1. For 1, 6, 7 and 17 always 0.
     pub place: u32,
 }
 
@@ -53,6 +80,13 @@ pub fn read(file: &[u8]) -> Result<(), Refusal> {
 /// `lent` has fewer bytes than the text.
 pub fn rewrite(file: &[u8], lent: &mut [u8]) -> Result<usize, Refusal> {
     unpacked(screen::rewrite(file, lent)).map(|length| length as usize)
+}
+
+/// Checks a timetable against its line file: whether it keeps every rule and gives the order lists and
+/// the total that follow from its minutes, or why not. Refused as in [`read`], then with the first of 7
+/// to 17: form and range (8 and 9) over the whole text, then each rule over all trains.
+pub fn check(file: &[u8], timetable: &[u8]) -> Result<(), Refusal> {
+    unpacked(screen::check(file, timetable)).map(|_| ())
 }
 
 /// Takes a returned number apart: number · 2³² + value. Number 0 is success with its value, any
@@ -83,5 +117,6 @@ mod tests {
         assert_eq!(unpacked(1 << 32), refused(1, 0));
         assert_eq!(unpacked((4 << 32) + 38), refused(4, 38));
         assert_eq!(unpacked(6 << 32), refused(6, 0));
+        assert_eq!(unpacked((16 << 32) + 22), refused(16, 22));
     }
 }

@@ -11,6 +11,12 @@
 extern "C" {
     fn gaugeviolet_read(file: *const u8, file_len: usize) -> u64;
     fn gaugeviolet_rewrite(file: *const u8, file_len: usize, out: *mut u8, out_len: usize) -> u64;
+    fn gaugeviolet_check(
+        file: *const u8,
+        file_len: usize,
+        timetable: *const u8,
+        timetable_len: usize,
+    ) -> u64;
 }
 
 pub(crate) fn read(file: &[u8]) -> u64 {
@@ -23,4 +29,16 @@ pub(crate) fn rewrite(file: &[u8], out: &mut [u8]) -> u64 {
     // SAFETY: as for `read`; and `out` is lent for writing to this call alone, so it does not overlap
     // `file`, as Rattle asks of a `&mut` slice. All its bytes hold a value before and after.
     unsafe { gaugeviolet_rewrite(file.as_ptr(), file.len(), out.as_mut_ptr(), out.len()) }
+}
+
+pub(crate) fn check(file: &[u8], timetable: &[u8]) -> u64 {
+    // SAFETY: as for `read`, for both slices. The function only reads them, so they may overlap.
+    unsafe {
+        gaugeviolet_check(
+            file.as_ptr(),
+            file.len(),
+            timetable.as_ptr(),
+            timetable.len(),
+        )
+    }
 }

@@ -13,7 +13,7 @@ const LAST: u16 = Limits::MINUTE.most;
 pub struct Planned {
     /// The line, within the limits.
     pub line: Line,
-    /// Minutes that keep every rule.
+    /// Minutes that keep every rule, unless a test puts in others.
     pub minutes: Minutes,
 }
 

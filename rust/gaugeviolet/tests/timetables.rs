@@ -1,0 +1,638 @@
+//! The library's check beside the independent one, on some hundred thousand pairs of a line file and
+//! a timetable: right ones, damaged ones, and unlawful minutes with the lists and total of their own.
+
+use std::collections::{BTreeMap, BTreeSet};
+
+use gaugeviolet::{FILE_BYTES, TIMETABLE_BYTES};
+use independent::rules::Minutes;
+use independent::{Limits, Line, Train};
+use inputs::{
+    damage_bytes, damage_lines, damaged, full_size_planned, planned, sizes, small_planned, Damage,
+    Density, Fields, Pair, Planned, Random, Traffic,
+};
+
+// The pairs that each test compares at least.
+const EVERY_DAMAGE: usize = 142_000;
+const SMALL_LINES: usize = 42_000;
+const SEVERAL_FAULTS: usize = 80_000;
+const ANY_MINUTES: usize = 40_000;
+const GREATEST_TOTAL: usize = 200;
+const TWO_ON_A_SEGMENT: usize = 129_000;
+const THREE_AT_A_STATION: usize = 78_000;
+const EVERY_NUMBER: usize = 180_000;
+const ONE_BYTE: usize = 57_000;
+const CUT_SHORT: usize = 35_000;
+const DAMAGED_FILES: usize = 30_000;
+const ARBITRARY_BYTES: usize = 30_000;
+const LENGTHS: usize = 390;
+
+const ALL: usize = EVERY_DAMAGE
+    + SMALL_LINES
+    + SEVERAL_FAULTS
+    + ANY_MINUTES
+    + GREATEST_TOTAL
+    + TWO_ON_A_SEGMENT
+    + THREE_AT_A_STATION
+    + EVERY_NUMBER
+    + ONE_BYTE
+    + CUT_SHORT
+    + DAMAGED_FILES
+    + ARBITRARY_BYTES
+    + LENGTHS;
+const _: () = assert!(ALL >= 200_000);
+
+const FILE_A: &[u8] = include_bytes!("../../../samples/a.line");
+const TIMETABLE_A: &[u8] = include_bytes!("../../../samples/a.timetable");
+
+/// How often each number has come with each place. Passing is number 0 with place 0.
+#[derive(Default)]
+struct Compared {
+    seen: BTreeMap<(u32, u32), usize>,
+}
+
+impl Compared {
+    /// Compares the check of one pair.
+    fn pair(&mut self, file: &[u8], timetable: &[u8]) {
+        let expected = match independent::check(file, timetable) {
+            Ok(()) => (0, 0),
+            Err(refusal) => (refusal.number, refusal.place),
+        };
+        let answer = match gaugeviolet::check(file, timetable) {
+            Ok(()) => (0, 0),
+            Err(refusal) => (refusal.number, refusal.place),
+        };
+        assert!(
+            answer == expected,
+            "{answer:?} and not {expected:?} for {} with {}",
+            shown(file),
+            shown(timetable)
+        );
+        *self.seen.entry(expected).or_insert(0) += 1;
+    }
+
+    /// Compares the check of these minutes, with the lists and the total that follow from them.
+    fn rows(&mut self, line: &Line, rows: &[Vec<u16>]) {
+        let minutes = Minutes::of_rows(line, rows);
+        let Pair { file, timetable } = Planned {
+            line: *line,
+            minutes,
+        }
+        .pair();
+        self.pair(&file, &timetable);
+    }
+
+    fn times(&self, number: u32) -> usize {
+        let of_number = self.seen.range((number, 0)..=(number, u32::MAX));
+        of_number.map(|(_, times)| times).sum()
+    }
+
+    fn places(&self, number: u32) -> usize {
+        self.seen.range((number, 0)..=(number, u32::MAX)).count()
+    }
+
+    /// Holds that enough was seen. A comparison that looked at little shows nothing.
+    fn ends(&self, name: &str, least: Least) {
+        let pairs: usize = self.seen.values().sum();
+        let numbers: BTreeSet<u32> = self.seen.keys().map(|&(number, _)| number).collect();
+        println!("{name}: {pairs} pairs, {} passed", self.times(0));
+        for &number in numbers.iter().filter(|&&number| number > 0) {
+            println!(
+                "  {number:2}: {:6} times, {:2} places",
+                self.times(number),
+                self.places(number)
+            );
+        }
+        assert!(pairs >= least.pairs, "only {pairs} pairs");
+        assert!(self.times(0) >= least.passed, "only {} pass", self.times(0));
+        for &(number, times, places) in least.numbers {
+            assert!(self.times(number) >= times, "number {number}: too rare");
+            assert!(self.places(number) >= places, "number {number}: places");
+        }
+    }
+}
+
+/// What a comparison must at least have seen.
+struct Least {
+    pairs: usize,
+    passed: usize,
+    /// Each number, how often, and with how many places.
+    numbers: &'static [(u32, usize, usize)],
+}
+
+/// The bytes in a form to copy into a test, the first 2,000 of them.
+fn shown(bytes: &[u8]) -> String {
+    let end = bytes.len().min(2000);
+    format!(
+        "b\"{}\" ({} bytes)",
+        bytes[..end].escape_ascii(),
+        bytes.len()
+    )
+}
+
+fn random_planned(random: &mut Random) -> Planned {
+    let (stations, trains) = (random.within(2, 12), random.within(0, 12));
+    let traffic = random.one_of(&[Traffic::Mixed, Traffic::Full]);
+    planned(random, stations, trains, traffic)
+}
+
+#[test]
+fn every_damage_to_lines_of_every_size() {
+    let mut random = Random::new(50);
+    let mut compared = Compared::default();
+    // The greatest size is there often enough to meet its last lists and lines.
+    for (stations, trains) in sizes().chain([(12, 12); 60]) {
+        let traffic = random.one_of(&[Traffic::Mixed, Traffic::Full]);
+        let planned = planned(&mut random, stations, trains, traffic);
+        for damage in [Damage::ALL; 50].concat() {
+            let pair = damaged(&mut random, &planned, damage);
+            compared.pair(&pair.file, &pair.timetable);
+        }
+    }
+    // All trains, segments, middle stations, lists and lines that there can be. Line 38 is past the
+    // last one; line 37 is the total, which has no range.
+    let least = Least {
+        pairs: EVERY_DAMAGE,
+        passed: 25_000,
+        numbers: &[
+            (2, 1000, 36),
+            (3, 1000, 36),
+            (4, 40, 12),
+            (7, 4000, 1),
+            (8, 35_000, 38),
+            (9, 10_000, 36),
+            (10, 2000, 12),
+            (11, 15_000, 12),
+            (12, 7000, 12),
+            (13, 3000, 12),
+            (14, 2500, 11),
+            (15, 700, 10),
+            (16, 6000, 22),
+            (17, 7000, 1),
+        ],
+    };
+    compared.ends("every damage", least);
+}
+
+#[test]
+fn every_damage_to_small_lines() {
+    let mut random = Random::new(51);
+    let mut compared = Compared::default();
+    for _ in 0..1000 {
+        let planned = small_planned(&mut random);
+        for damage in [Damage::ALL; 3].concat() {
+            let pair = damaged(&mut random, &planned, damage);
+            compared.pair(&pair.file, &pair.timetable);
+        }
+    }
+    let least = Least {
+        pairs: SMALL_LINES,
+        passed: 9000,
+        numbers: &[
+            (2, 400, 13),
+            (3, 600, 12),
+            (4, 40, 5),
+            (7, 1200, 1),
+            (8, 10_000, 12),
+            (9, 4000, 10),
+            (10, 1200, 3),
+            (11, 3500, 3),
+            (12, 1000, 3),
+            (13, 1000, 3),
+            (14, 500, 3),
+            (15, 30, 2),
+            (16, 1000, 5),
+            (17, 1500, 1),
+        ],
+    };
+    compared.ends("small lines", least);
+}
+
+/// The same line with minutes in which some trains, from some leg on, run earlier or later.
+fn careless(random: &mut Random, planned: &Planned) -> Planned {
+    let mut rows = planned.minutes.rows(&planned.line);
+    let (most, each) = (random.one_of(&[2, 5, 60]), random.one_of(&[2, 4, 12]));
+    for row in &mut rows {
+        if random.below(each) > 0 {
+            continue;
+        }
+        // A shift that begins at an arrival alters the run too.
+        let leg = random.below(row.len() / 2) * 2;
+        let from = leg + usize::from(random.below(10) == 0);
+        let minutes = random.within(1, most);
+        let earlier = random.below(2) == 0;
+        for time in &mut row[from..] {
+            *time = if earlier {
+                time.saturating_sub(minutes)
+            } else {
+                (*time + minutes).min(2879)
+            };
+        }
+    }
+    Planned {
+        line: planned.line,
+        minutes: Minutes::of_rows(&planned.line, &rows),
+    }
+}
+
+/// Minutes of several trains, a list or total on top, and a harder line: the order of the numbers
+/// and the lowest place decide.
+#[test]
+fn several_faults_at_once() {
+    let mut random = Random::new(52);
+    let mut compared = Compared::default();
+    for turn in 0..400 {
+        let planned = match turn % 2 {
+            0 => small_planned(&mut random),
+            _ => random_planned(&mut random),
+        };
+        for _ in 0..50 {
+            let careless = careless(&mut random, &planned);
+            let pair = careless.pair();
+            compared.pair(&pair.file, &pair.timetable);
+            let harder = damaged(&mut random, &careless, Damage::Demand);
+            compared.pair(&harder.file, &harder.timetable);
+            let damage = random.one_of(&Damage::ALL);
+            let timetable = damaged(&mut random, &careless, damage).timetable;
+            compared.pair(&harder.file, &timetable);
+            let damage = random.one_of(&[Damage::List, Damage::Total]);
+            let other = damaged(&mut random, &planned, Damage::LineField);
+            let timetable = damaged(&mut random, &careless, damage).timetable;
+            compared.pair(&other.file, &timetable);
+        }
+    }
+    let least = Least {
+        pairs: SEVERAL_FAULTS,
+        passed: 18_000,
+        numbers: &[
+            (2, 1000, 28),
+            (3, 3500, 33),
+            (4, 200, 10),
+            (7, 500, 1),
+            (8, 6000, 32),
+            (9, 4000, 27),
+            (10, 6000, 12),
+            (11, 8000, 12),
+            (12, 6000, 12),
+            (13, 5000, 12),
+            (14, 2000, 11),
+            (15, 250, 9),
+            (16, 800, 17),
+            (17, 1500, 1),
+        ],
+    };
+    compared.ends("several faults", least);
+}
+
+/// Minutes up to the last one on lines with numbers over the whole of their ranges.
+#[test]
+fn any_minutes_on_any_line() {
+    let mut random = Random::new(57);
+    let mut compared = Compared::default();
+    for _ in 0..ANY_MINUTES {
+        let density = random.one_of(&[Density::Sparse, Density::Dense]);
+        let (stations, trains) = (random.within(2, 12), random.within(1, 12));
+        let (stations, trains) = random.one_of(&[(2, 1), (2, 2), (3, 2), (stations, trains)]);
+        let line = inputs::line(&mut random, stations, trains, density);
+        let rows: Vec<Vec<u16>> = line
+            .used_trains()
+            .iter()
+            .map(|train| any_row(&mut random, train))
+            .collect();
+        compared.rows(&line, &rows);
+    }
+    let least = Least {
+        pairs: ANY_MINUTES,
+        passed: 2500,
+        numbers: &[
+            (10, 7000, 12),
+            (11, 8000, 9),
+            (13, 18_000, 4),
+            (14, 150, 2),
+            (15, 5, 1),
+        ],
+    };
+    compared.ends("any minutes", least);
+}
+
+/// Minutes with runs and stops as the train has them and some waits, as long as the day lasts.
+fn any_row(random: &mut Random, train: &Train) -> Vec<u16> {
+    let last = Limits::MINUTE.most;
+    let wait = random.one_of(&[0, 1, 60, 1000]);
+    let mut ready = train.earliest.saturating_sub(random.one_of(&[0, 0, 0, 1]));
+    let mut row = Vec::new();
+    for leg in 0..train.legs() {
+        let departure = last.min(ready + random.within(0, wait));
+        let arrival = last.min(departure + train.runs[leg]);
+        row.extend([departure, arrival]);
+        ready = arrival + train.stops[leg];
+    }
+    row
+}
+
+/// The greatest total of a lawful timetable, and others that fewer bits would not tell from it.
+#[test]
+fn totals_near_the_greatest() {
+    let mut compared = Compared::default();
+    let trains = vec!["1 2 0 2879 99 1".to_string(); 12];
+    let line = line(1, &["D 1 1"], &trains);
+    let rows: Vec<Vec<u16>> = (0..12).map(|late| vec![2878 - late, 2879 - late]).collect();
+    let planned = Planned {
+        line,
+        minutes: Minutes::of_rows(&line, &rows),
+    };
+    let Pair { file, timetable } = planned.pair();
+    let fields = Fields::of_text(&timetable);
+    let total = *fields.places().last().expect("a timetable has fields");
+    let greatest = 3_412_530_u64;
+    let near = greatest - 100..greatest + 100;
+    let wrapped = [8, 16, 20, 21].map(|bits| greatest % (1 << bits));
+    let longer = [8, 16, 20, 21, 22, 32, 63].map(|bits| greatest + (1 << bits));
+    for number in near.chain(wrapped).chain(longer) {
+        compared.pair(&file, &fields.text_with(total, &number.to_string()));
+    }
+    let least = Least {
+        pairs: GREATEST_TOTAL,
+        passed: 1,
+        numbers: &[(8, 2, 1), (17, 200, 1)],
+    };
+    compared.ends("greatest total", least);
+}
+
+/// A line of these segments and trains, with so many tracks at each station.
+fn line(tracks: u16, segments: &[&str], trains: &[String]) -> Line {
+    let mut file = format!("{}\n", segments.len() + 1);
+    file += &format!("{tracks}\n").repeat(segments.len() + 1);
+    file += &format!("{}\n{}\n", segments.len(), segments.join("\n"));
+    file += &format!("{}\n", trains.len());
+    for train in trains {
+        file += &format!("{train}\n");
+    }
+    independent::read(file.as_bytes()).expect("a line file")
+}
+
+/// Both trains at every minute near each other, on each kind and in each direction.
+#[test]
+fn two_trains_on_a_segment() {
+    let mut compared = Compared::default();
+    let ends = ["1 2", "2 1"];
+    for segment in ["S 1 3", "S 4 2", "F 1 3", "F 4 2", "D 1 3", "D 4 2"] {
+        for (one, other) in [(0, 0), (0, 1), (1, 0), (1, 1)] {
+            for (run, other_run) in [(1, 1), (1, 4), (4, 1), (3, 4), (5, 5), (1, 9)] {
+                let trains = [
+                    format!("{} 0 2879 1 {run}", ends[one]),
+                    format!("{} 0 30 2 {other_run}", ends[other]),
+                ];
+                let line = line(1, &[segment], &trains);
+                for (departure, other) in (0..30).flat_map(|d| (0..30).map(move |o| (d, o))) {
+                    let rows = [
+                        vec![departure, departure + run],
+                        vec![other, other + other_run],
+                    ];
+                    compared.rows(&line, &rows);
+                }
+            }
+        }
+    }
+    let least = Least {
+        pairs: TWO_ON_A_SEGMENT,
+        passed: 80_000,
+        numbers: &[(13, 12_000, 1), (14, 25_000, 1)],
+    };
+    compared.ends("two on a segment", least);
+}
+
+/// Three trains that stand at station 2, two of them at every minute near the first, in each
+/// direction, with fewer and more tracks.
+#[test]
+fn three_trains_at_a_station() {
+    let mut compared = Compared::default();
+    let ends = ["1 3", "3 1"];
+    for tracks in 1..=3 {
+        for directions in 0..8 {
+            let train = |bit: usize| format!("{} 0 2879 1 2 0 2", ends[directions >> bit & 1]);
+            let line = line(tracks, &["D 1 1", "D 1 1"], &[train(0), train(1), train(2)]);
+            for stands in 0..27 {
+                let stands = [stands % 3, stands / 3 % 3, stands / 9];
+                for (second, third) in (4..15).flat_map(|a| (4..15).map(move |b| (a, b))) {
+                    let row = |(arrival, stand): (u16, u16)| {
+                        let departure = arrival + stand;
+                        vec![arrival - 2, arrival, departure, departure + 2]
+                    };
+                    let arrivals = [9, second, third];
+                    let rows: Vec<Vec<u16>> = arrivals.into_iter().zip(stands).map(row).collect();
+                    compared.rows(&line, &rows);
+                }
+            }
+        }
+    }
+    let least = Least {
+        pairs: THREE_AT_A_STATION,
+        passed: 50_000,
+        numbers: &[(14, 16_000, 2), (15, 11_000, 1)],
+    };
+    compared.ends("three at a station", least);
+}
+
+#[test]
+fn every_number_in_every_field() {
+    let mut compared = Compared::default();
+    let fields = Fields::of_text(TIMETABLE_A);
+    for place in fields.places() {
+        for number in 0..=9999 {
+            compared.pair(FILE_A, &fields.text_with(place, &number.to_string()));
+        }
+    }
+    // The total may have seven digits.
+    let total = *fields.places().last().expect("a timetable has fields");
+    for number in (9_000_000..10_010_000).step_by(101) {
+        compared.pair(FILE_A, &fields.text_with(total, &number.to_string()));
+    }
+    let least = Least {
+        pairs: EVERY_NUMBER,
+        passed: 17,
+        numbers: &[
+            (8, 100, 3),
+            (9, 130_000, 6),
+            (11, 23_000, 2),
+            (16, 4, 2),
+            (17, 19_000, 1),
+        ],
+    };
+    compared.ends("every number", least);
+}
+
+/// The text with one byte replaced, inserted or left out, and with two exchanged.
+fn with_one_byte_damaged(text: &[u8]) -> Vec<Vec<u8>> {
+    let mut texts = Vec::new();
+    for at in 0..=text.len() {
+        let (before, after) = text.split_at(at);
+        texts.extend((0..=255).map(|byte| [before, &[byte], after].concat()));
+        if let Some((_, after)) = after.split_first() {
+            texts.extend((0..=255).map(|byte| [before, &[byte], after].concat()));
+            texts.push([before, after].concat());
+        }
+        for other in at + 1..text.len() {
+            let mut swapped = text.to_vec();
+            swapped.swap(at, other);
+            texts.push(swapped);
+        }
+    }
+    texts
+}
+
+#[test]
+fn one_damaged_byte() {
+    let mut compared = Compared::default();
+    for timetable in with_one_byte_damaged(TIMETABLE_A) {
+        compared.pair(FILE_A, &timetable);
+    }
+    for file in with_one_byte_damaged(FILE_A) {
+        compared.pair(&file, TIMETABLE_A);
+    }
+    let least = Least {
+        pairs: ONE_BYTE,
+        passed: 300,
+        numbers: &[
+            (2, 30_000, 11),
+            (3, 400, 10),
+            (4, 4, 2),
+            (8, 20_000, 8),
+            (9, 250, 5),
+            (10, 30, 2),
+            (11, 400, 2),
+            (12, 25, 2),
+            (13, 4, 2),
+            (14, 35, 2),
+            (15, 1, 1),
+            (16, 4, 2),
+            (17, 80, 1),
+        ],
+    };
+    compared.ends("one byte", least);
+}
+
+#[test]
+fn cut_short_at_every_byte() {
+    let mut random = Random::new(53);
+    let mut compared = Compared::default();
+    let mut pairs: Vec<Pair> = (0..5)
+        .map(|_| full_size_planned(&mut random).pair())
+        .collect();
+    pairs.extend((0..20).map(|_| random_planned(&mut random).pair()));
+    for Pair { file, timetable } in &pairs {
+        // Lent as a part of the whole text: a reader that looks past the end finds a good one.
+        for end in 0..timetable.len() {
+            compared.pair(file, &timetable[..end]);
+            compared.pair(file, &[&timetable[..end], b"\n"].concat());
+        }
+        for end in 0..file.len() {
+            compared.pair(&file[..end], timetable);
+        }
+    }
+    let least = Least {
+        pairs: CUT_SHORT,
+        passed: 25,
+        numbers: &[(2, 7000, 36), (8, 25_000, 30), (9, 10, 5), (17, 40, 1)],
+    };
+    compared.ends("cut short", least);
+}
+
+#[test]
+fn damaged_line_files_with_a_good_timetable() {
+    let mut random = Random::new(54);
+    let mut compared = Compared::default();
+    for _ in 0..300 {
+        let Pair { file, timetable } = random_planned(&mut random).pair();
+        for _ in 0..50 {
+            let times = random.one_of(&[1, 1, 2, 5]);
+            let mut bytes = file.clone();
+            damage_bytes(&mut random, &mut bytes, times);
+            compared.pair(&bytes, &timetable);
+            compared.pair(&damage_lines(&mut random, &file), &timetable);
+        }
+    }
+    let least = Least {
+        pairs: DAMAGED_FILES,
+        passed: 2000,
+        numbers: &[
+            (2, 20_000, 36),
+            (3, 3000, 35),
+            (4, 20, 12),
+            (8, 10, 5),
+            (10, 150, 9),
+            (11, 600, 12),
+            (12, 70, 9),
+            (13, 100, 8),
+            (14, 70, 8),
+            (15, 25, 7),
+            (16, 5, 4),
+            (17, 180, 1),
+        ],
+    };
+    compared.ends("damaged files", least);
+}
+
+/// Bytes from anywhere, alone and behind the first part of a good timetable.
+#[test]
+fn arbitrary_bytes_as_a_timetable() {
+    let mut random = Random::new(55);
+    let mut compared = Compared::default();
+    for _ in 0..300 {
+        let Pair { file, timetable } = random_planned(&mut random).pair();
+        for _ in 0..100 {
+            let some = random.below(timetable.len());
+            let front = random.one_of(&[0, some, some]);
+            let mut bytes = timetable[..front].to_vec();
+            let more = random.one_of(&[1, 5, 20, 200]);
+            let any = random.below(4) == 0;
+            for _ in 0..random.below(more) {
+                bytes.push(match any {
+                    true => random.below(256) as u8,
+                    false => random.one_of(b"0123456789    \n\n"),
+                });
+            }
+            compared.pair(&file, &bytes);
+        }
+    }
+    let least = Least {
+        pairs: ARBITRARY_BYTES,
+        passed: 0,
+        numbers: &[(8, 25_000, 30), (9, 1000, 25)],
+    };
+    compared.ends("arbitrary bytes", least);
+}
+
+#[test]
+fn lengths() {
+    let mut random = Random::new(56);
+    let mut compared = Compared::default();
+    let full = full_size_planned(&mut random).pair();
+    let long_file = [b'1'; FILE_BYTES + 1];
+    // 65,536 and a little: a length kept in 16 bits would look short.
+    let lengths = [
+        0,
+        TIMETABLE_BYTES - 1,
+        TIMETABLE_BYTES,
+        TIMETABLE_BYTES + 1,
+        8192,
+        65_536,
+    ];
+    for (file, timetable) in [(FILE_A, TIMETABLE_A), (&full.file, &full.timetable)] {
+        for byte in [0, b'\n', b' ', b'0', b'1', b'x', 255] {
+            for length in lengths.into_iter().chain([65_536 + timetable.len()]) {
+                let mut long = timetable.to_vec();
+                long.resize(length, byte);
+                compared.pair(file, &long);
+                compared.pair(file, &vec![byte; length]);
+                compared.pair(&long_file, &long);
+                compared.pair(b"", &long);
+            }
+        }
+    }
+    let least = Least {
+        pairs: LENGTHS,
+        passed: 0,
+        numbers: &[(1, 98, 1), (2, 98, 1), (7, 112, 1), (8, 80, 3)],
+    };
+    compared.ends("lengths", least);
+}
