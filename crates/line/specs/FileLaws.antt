@@ -1,6 +1,6 @@
--- Laws of reading the line file: what a field of the code tells, and each line's refusals and its value.
+-- Laws of reading the line file: each line's refusals and its value.
 use Prim.Native.Nat.{ℕ, _<_}
-use mathlib.Core.Path.{_≡_, refl, sym, ap, _∙_}
+use mathlib.Core.Path.{_≡_, refl, ap, _∙_}
 use mathlib.Core.Bool.{Bool, true, false}
 use mathlib.Core.List.{List}
 use native.Mathlib.Omega.{arith}
@@ -9,30 +9,17 @@ use lib.Dec.{eqb}
 use lib.ListN.{length}
 use Rattle.text.specs.declared.Cursor.{Cursor}
 use Rattle.text.specs.declared.Ending.{Ending}
-use Rattle.text.specs.declared.Faults.{Faults}
-use Rattle.text.specs.declared.Field.{Field}
-use Rattle.text.specs.declared.Limits.{Limits}
 use Rattle.text.specs.Choice.{pick}
 use Rattle.text.specs.Bytes.{byteAt}
 use Rattle.text.specs.BytesLaws.{inside}
-use Rattle.text.specs.Parsed.{Parsed, rangedAt}
-use Rattle.text.specs.Told.{toldField, toldEnding}
+use Rattle.text.specs.Parsed.{Parsed}
+use Rattle.text.specs.Told.{toldEnding}
 use Rattle.line.specs.declared.Kind.{Kind}
 use Rattle.line.specs.declared.reading.Letter.{Letter}
 use Rattle.line.specs.declared.reading.Path.{Path}
 use Rattle.line.specs.Ranges.{gap, station, time, weight}
 use Rattle.line.specs.Spell.{letterByte}
-use Rattle.line.specs.File.{faultsOn, number, letterOf, kindAt, segmentLine, pathAt, headAt}
-
--- ---- a field of the code
-
--- with the faults x and the limits l that the code was given, a field tells what the number of the file is
-pub number-told : (r : Limits) {l : Limits} {x : Faults} (b p : ℕ) (s : List ℕ) (c : Cursor) {f y : Field} → l ≡ r → x ≡ faultsOn p → toldField f ≡ rangedAt (x .form) (x .range) (l .min) (l .max) b (x .line) s c → f ≡ y → number r b p s c ≡ toldField y
-number-told r {l} {x} b p s c {f} {y} same faults told is =
-    ap (λ (k : Limits). number k b p s c) (sym same)
-    ∙ ap (λ (k : Faults). rangedAt (k .form) (k .range) (l .min) (l .max) b (k .line) s c) (sym faults)
-    ∙ sym told
-    ∙ ap toldField is
+use Rattle.line.specs.File.{number, letterOf, kindAt, segmentLine, pathAt, headAt}
 
 -- what a part tells whose ending is known
 pub ended-told : {A : Type 0} {e y : Ending} (x : A) → e ≡ y → toldEnding e x ≡ toldEnding y x

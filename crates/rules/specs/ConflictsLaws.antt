@@ -9,7 +9,7 @@ use native.Mathlib.Numerals.{add-one}
 use native.Mathlib.Omega.{arith}
 use lib.ListN.{getD}
 use lib.Dec.{eqb}
-use Rattle.text.specs.Decide.{Decides, is-true, is-false, decides-and, decides-not, decides-lt, decides-eq}
+use Rattle.text.specs.Decide.{Decides, is-true, is-false, decides-and, decides-not, decides-lt, decides-eq, decides-self}
 use Rattle.text.specs.Below.{EachBelow, first-found, first-none}
 use Rattle.line.specs.declared.Kind.{Kind}
 use Rattle.line.specs.declared.Segment.{Segment}
@@ -81,8 +81,7 @@ module _ (g : Segment) (ds m : List ℕ) (p : ℕ) where
       Decides ((i < j) × ((way ds p i ≡ 0 → ⊥) × ((way ds p j ≡ 0 → ⊥) × (neitherFirst g (passage ds m p i) (passage ds m p j) ≡ true)))) (clash g ds m p i j)
   unfolding clash
   decides-clash i j =
-      decides-and (decides-lt i j) (decides-and (decides-not (decides-eq _ _)) (decides-and (decides-not (decides-eq _ _))
-      record { yea = λ e. e; nay = λ e h. true≢false (sym h ∙ e) }))
+      decides-and (decides-lt i j) (decides-and (decides-not (decides-eq _ _)) (decides-and (decides-not (decides-eq _ _)) (decides-self _)))
 
   -- for the code: what it compares, with both passages
   pub clash-below : (i j : ℕ) → j ≤ i → clash g ds m p i j ≡ false

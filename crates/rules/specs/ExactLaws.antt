@@ -9,11 +9,10 @@ use native.Mathlib.Decide.{decLt}
 use native.Mathlib.Omega.{arith}
 use lib.Dec.{leb}
 use Rattle.text.specs.Decide.{Decides, by-test, is-true, is-false, decides-lt, decides-le, decides-and, decides-or, decides-not, decides-as}
-use Rattle.text.specs.Below.{EachBelow, first, count, first-none, none-first}
+use Rattle.text.specs.Below.{EachBelow, count, first-none, none-first}
 use Rattle.text.specs.BelowLaws.{count-same}
 use Rattle.line.specs.declared.Kind.{Kind}
 use Rattle.line.specs.declared.Segment.{Segment}
-use Rattle.line.specs.declared.Train.{Train}
 use Rattle.line.specs.declared.Line.{Line}
 use Rattle.line.specs.Within.{Within, Arrays}
 use Rattle.rules.specs.declared.conflicts.Conflict.{Conflict}
@@ -22,12 +21,13 @@ use Rattle.rules.specs.declared.conflicts.Passage.{Passage}
 use Rattle.rules.specs.declared.rules.Breach.{Breach}
 use Rattle.rules.specs.Paths.{train, segmentCount, segment, tracksAt, outbound, sameWay, Uses, Middle, EachTrain}
 use Rattle.rules.specs.Minutes.{departsOn, arrivesOn}
-use Rattle.rules.specs.Rules.{InDays, NotEarly, Runs, Stops, NotLate, GapBy, Before, Apart, middle, stands, standing, Room, Lawful}
+use Rattle.rules.specs.Rules.{InDays, NotEarly, Runs, Stops, NotLate, GapBy, Before, Apart, stands, standing, Room, Lawful}
 use Rattle.rules.specs.Directions.{directionsOf, on}
 use Rattle.rules.specs.DirectionsLaws.{decides-on, same-way, outbound-way}
 use Rattle.rules.specs.Conflicts.{gapBy, passage, keepsAfter, neitherFirst, clash, trainFound, partnerOf, pairWith, pairOn, segmentConflict, standsIn, standsAt, standingAt, crowdAt, crowdOn, stationConflict, orConflict, conflictOf}
 use Rattle.rules.specs.StationLaws.{conflict-none, none-conflict, never-crowded, crowded-never, crowd-middle, crowd-first, crowd-last}
-use Rattle.rules.specs.RulesLaws.{train-within, decides-10, decides-11, decides-12, decides-13}
+use Rattle.rules.specs.PathsLaws.{decides-middle, train-within}
+use Rattle.rules.specs.RulesLaws.{decides-10, decides-11, decides-12, decides-13}
 use Rattle.rules.specs.Breaches.{trainBreach, conflictBreach, breachOf}
 use Rattle.rules.specs.BreachesLaws.{or-none, breach-none, none-breach}
 
@@ -58,12 +58,12 @@ module _ (l : Line) (few : l .«train_count» ≤ 12) (m : List ℕ) (p : ℕ) (
   decides-before i j a b u v = rw (same-way l few p short i j a b u v) (decides-gap (segment l p .kind) (sameWay l i j) (segment l p) _ _ _ _)
 
   -- two trains that share the segment and of which neither goes first
-  abbrev Clash : ℕ → ℕ → Type 0
+  abbrev pub Clash : ℕ → ℕ → Type 0
   Clash i j = (i < j) × (Uses (train l i) p × (Uses (train l j) p × (Before l m p i j ⊎ Before l m p j i → ⊥)))
 
-  decides-clash : (i j : ℕ) → i < l .«train_count» → j < l .«train_count» → Decides (Clash i j) (clash (segment l p) (directionsOf l) m p i j)
+  pub decides-conflict : (i j : ℕ) → i < l .«train_count» → j < l .«train_count» → Decides (Clash i j) (clash (segment l p) (directionsOf l) m p i j)
   unfolding clash neitherFirst
-  decides-clash i j a b =
+  decides-conflict i j a b =
       decides-and (decides-lt i j)
       (decides-then (decides-on l few p short i a) (λ u.
       decides-then (decides-on l few p short j b) (λ v.
@@ -73,10 +73,10 @@ module _ (l : Line) (few : l .«train_count» ≤ 12) (m : List ℕ) (p : ℕ) (
   apart-of h i a j b o u v =
       by-test (decides-before i j a b u v) inl
       (λ x. by-test (decides-before j i b a v u) inr
-      (λ y. absurd (decides-clash i j a b .nay (h i a j b) (o, (u, (v, λ q. ⊎-elim x y q))))))
+      (λ y. absurd (decides-conflict i j a b .nay (h i a j b) (o, (u, (v, λ q. ⊎-elim x y q))))))
 
   of-apart : Apart l m p → EachTrain l (λ i. EachTrain l (λ j. clash (segment l p) (directionsOf l) m p i j ≡ false))
-  of-apart h i a j b = is-false (decides-clash i j a b) (λ c. c .1 .1 .1 (h i a j b (c .0) (c .1 .0) (c .1 .1 .0)))
+  of-apart h i a j b = is-false (decides-conflict i j a b) (λ c. c .1 .1 .1 (h i a j b (c .0) (c .1 .0) (c .1 .1 .0)))
 
   -- no pair is found exactly when the rule is kept
   pair-clear : pairOn (segment l p) (directionsOf l) m (l .«train_count») p ≡ Conflict.Nothing → Apart l m p
@@ -93,10 +93,6 @@ module _ (l : Line) (few : l .«train_count» ≤ 12) (m : List ℕ) (p : ℕ) (
 
 -- ---- rule 15
 
-pub decides-middle : (t : Train) (s : ℕ) → Decides (Middle t s) (middle t s)
-unfolding middle
-decides-middle t s = decides-and (decides-lt _ _) (decides-lt _ _)
-
 module _ (l : Line) (few : l .«train_count» ≤ 12) (m : List ℕ) (s : ℕ) (low : 0 < s) (short : s < 11) where
   -- a train goes over the segments on both sides of its middle stations
   decides-passes : (i : ℕ) → i < l .«train_count» → Decides (Middle (train l i) s) (on (directionsOf l) s i && on (directionsOf l) (s - 1) i)
@@ -104,9 +100,10 @@ module _ (l : Line) (few : l .«train_count» ≤ 12) (m : List ℕ) (s : ℕ) (
       decides-as (λ h. (omega (arith, h .0, h .1), omega (arith, h .0, h .1))) (λ h. ((omega (arith, h .0, h .1), omega (arith, h .0, h .1)), (omega (arith, h .0, h .1), omega (arith, h .0, h .1))))
       (decides-and (decides-on l few s short i a) (decides-on l few (s - 1) (omega arith) i a))
 
-  stands-same : (t i : ℕ) → i < l .«train_count» → standsAt (directionsOf l) m s t i ≡ stands l m s t i
+  -- the test of the table of directions is the rule's
+  pub stands-at : (t i : ℕ) → i < l .«train_count» → standsAt (directionsOf l) m s t i ≡ stands l m s t i
   unfolding standsIn stands
-  stands-same t i a =
+  stands-at t i a =
       by-test (decides-passes i a)
       (λ h.
       let over : Uses (train l i) s = (omega (arith, h .0, h .1), h .1) in
@@ -118,16 +115,16 @@ module _ (l : Line) (few : l .«train_count» ≤ 12) (m : List ℕ) (s : ℕ) (
       turned true = refl
       turned false = refl
 
-  standing-same : (t : ℕ) → standingAt (directionsOf l) m (l .«train_count») s t ≡ standing l m s t
+  standing-at : (t : ℕ) → standingAt (directionsOf l) m (l .«train_count») s t ≡ standing l m s t
   unfolding standingAt standing
-  standing-same t = count-same _ _ (l .«train_count») (λ i a. stands-same t i a)
+  standing-at t = count-same _ _ (l .«train_count») (λ i a. stands-at t i a)
 
   -- no crowd is found exactly when the rule is kept
   room-clear : (tracks : ℕ) → tracks ≡ tracksAt l s → EachBelow 2880 (λ t. standingAt (directionsOf l) m (l .«train_count») s t ≤ tracks) → Room l m s
-  room-clear tracks e h t b = omega (arith, h t b, standing-same t)
+  room-clear tracks e h t b = omega (arith, h t b, standing-at t)
 
   clear-room : (tracks : ℕ) → tracks ≡ tracksAt l s → Room l m s → EachBelow 2880 (λ t. standingAt (directionsOf l) m (l .«train_count») s t ≤ tracks)
-  clear-room tracks e h t b = omega (arith, h t b, standing-same t)
+  clear-room tracks e h t b = omega (arith, h t b, standing-at t)
 
 count-never : (n : ℕ) → count (λ i. false) n ≡ 0
 unfolding count
@@ -214,22 +211,27 @@ module _ (l : Line) (w : Within l) (a : Arrays l) (m : List ℕ) where
 
   -- ---- the theorem
 
+  -- where there is no conflict rules 14 and 15 are kept
+  pub clear-of : conflictOf l m ≡ Conflict.Nothing → EachBelow (segmentCount l) (Apart l m) × EachBelow (l .«station_count») (Room l m)
+  unfolding conflictOf
+  clear-of e = let c = or-nothing _ _ e in (segments-clear (c .0), stations-clear (c .1))
+
   -- where no breach is found every rule is kept
   pub kept-of : breachOf l m ≡ Breach.None → Kept l m
-  unfolding breachOf conflictOf
+  unfolding breachOf
   kept-of e =
       let r10 = or-none (trainBreach 10 l m) _ e in
       let r11 = or-none (trainBreach 11 l m) _ (r10 .1) in
       let r12 = or-none (trainBreach 12 l m) _ (r11 .1) in
       let r13 = or-none (trainBreach 13 l m) _ (r12 .1) in
-      let c = or-nothing _ _ (no-conflict _ (r13 .1)) in
+      let c = clear-of (no-conflict _ (r13 .1)) in
       record {
         rule10 = λ i b. decides-10 l m i .yea (none-breach 10 l m (r10 .0) i b);
         rule11 = λ i b. decides-11 l m i .yea (none-breach 11 l m (r11 .0) i b);
         rule12 = λ i b. decides-12 l m i .yea (none-breach 12 l m (r12 .0) i b);
         rule13 = λ i b. decides-13 l m i .yea (none-breach 13 l m (r13 .0) i b);
-        rule14 = segments-clear (c .0);
-        rule15 = stations-clear (c .1);
+        rule14 = c .0;
+        rule15 = c .1;
       }
 
   -- where every rule is kept no breach is found

@@ -8,6 +8,7 @@ pub mod Directions
 pub mod Conflicts
 pub mod Orders
 pub mod Breaches
+pub mod PathsLaws
 pub mod DirectionsLaws
 pub mod ConflictsLaws
 pub mod Standing

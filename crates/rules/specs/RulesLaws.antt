@@ -1,14 +1,13 @@
--- Laws of paths, of free arrival and weighted delay, and of the tests of rules 10 to 13: each test decides its rule.
-use Prim.Native.Nat.{ℕ, suc, _+_, _*_, _-_, _≤_, _<_}
+-- Laws of free arrival and weighted delay, and of the tests of rules 10 to 13: each test decides its rule.
+use Prim.Native.Nat.{ℕ, suc, _+_, _*_, _-_, _≤_}
 use mathlib.Core.Path.{_≡_, refl, sym, _∙_, ap}
-use mathlib.Core.Logic.{_⊎_, ⊎-elim}
+use mathlib.Core.Logic.{⊎-elim}
 use mathlib.Core.Bool.{Bool}
 use mathlib.Core.List.{List}
-use native.Mathlib.Decide.{decLt}
 use native.Mathlib.Nat.{mul-zero, mul-le-mul}
 use native.Mathlib.Omega.{arith}
-use borrow.Author.Tests.{lt-ltb, le-ltb, eq-eqb, ne-eqb}
-use lib.ListN.{length, getD}
+use borrow.Author.Tests.{eq-eqb, ne-eqb}
+use lib.ListN.{getD}
 use lib.Dec.{leb}
 use Rattle.text.specs.Decide.{Decides, decides-le, decides-eq}
 use Rattle.text.specs.Below.{EachBelow, sum, sum-more, decides-all}
@@ -16,65 +15,12 @@ use Rattle.text.specs.BelowLaws.{sum-most}
 use Rattle.line.specs.declared.Train.{Train}
 use Rattle.line.specs.declared.Line.{Line}
 use Rattle.line.specs.Record.{legsOf}
-use Rattle.line.specs.Within.{TrainWithin, Within}
-use Rattle.text.specs.EachLaws.{each-at, each-or}
-use Rattle.rules.specs.Paths.{pastTrain, train, legs, segmentBetween, segmentOf, Routed, EachTrain}
+use Rattle.line.specs.Within.{Within}
+use Rattle.rules.specs.Paths.{train, legs, EachTrain}
+use Rattle.rules.specs.PathsLaws.{routed-within, legs-few, train-or-past}
 use Rattle.rules.specs.Delay.{freeAfter, freeArrival, delay, weightedDelay}
 use Rattle.rules.specs.Rules.{InDays, NotEarly, Runs, Stops, NotLate}
 use Rattle.rules.specs.Tests.{departureOf, arrivalOf, startsRight, runsRight, stopsRight, endsRight, keepsRule}
-
--- ---- paths
-
-pub train-within : (l : Line) (i : ℕ) → Within l → length (l .trains) ≡ 12 → i < l .«train_count» → TrainWithin (l .«station_count») (train l i)
-train-within l i w size h =
-    each-at (TrainWithin (l .«station_count»)) (l .«train_count») (l .trains) i pastTrain (omega (arith, w .trains)) h (w .each-train)
-
-pub routed-within : (n : ℕ) (t : Train) → TrainWithin n t → n ≤ 12 → Routed t
-routed-within n t w h =
-    record { origin = (omega (arith, w .origin), omega (arith, w .origin)); destination = (omega (arith, w .destination), omega (arith, w .destination)); apart = w .apart }
-
-pub routed : (l : Line) (i : ℕ) → Within l → length (l .trains) ≡ 12 → i < l .«train_count» → Routed (train l i)
-routed l i w size h = routed-within _ _ (train-within l i w size h) (w .stations .1)
-
-pub legs-few : (t : Train) → Routed t → (1 ≤ legsOf t) × (legsOf t ≤ 11)
-legs-few t r = (omega (arith, r .apart), omega (arith, r .origin, r .destination))
-
--- whatever the length of its array of trains, a line within the limits has a train at each index below its count, or the one past the last, which
--- has no leg and no weight
-module _ (l : Line) (i : ℕ) (w : Within l) (h : i < l .«train_count») where
-  train-or-past : TrainWithin (l .«station_count») (train l i) ⊎ (train l i ≡ pastTrain)
-  train-or-past = each-or (TrainWithin (l .«station_count»)) (l .«train_count») (l .trains) i pastTrain h (w .each-train)
-
-  pub routed-leg : 1 ≤ legs l i → Routed (train l i)
-  routed-leg some = ⊎-elim (λ t. routed-within _ _ t (w .stations .1)) (λ e. absurd (omega (arith, ap legsOf e))) train-or-past
-
-  pub legs-most : legs l i ≤ 11
-  legs-most = ⊎-elim (λ t. legs-few (train l i) (routed-within _ _ t (w .stations .1)) .1) (λ e. omega (arith, ap legsOf e)) train-or-past
-
-module _ (o d k : ℕ) where
-  pub segment-out : o < d → o - 1 + k ≡ segmentBetween o d k
-  unfolding segmentBetween
-  segment-out h = rw (lt-ltb o d h) refl
-
-  pub segment-in : d ≤ o → o - 2 - k ≡ segmentBetween o d k
-  unfolding segmentBetween
-  segment-in h = rw (le-ltb o d h) (omega arith)
-
--- the segments of a path are below 11, and no two legs have the same
-module _ (t : Train) (r : Routed t) where
-  pub segment-below : (k : ℕ) → k < legsOf t → segmentOf t k < 11
-  segment-below k h = elim (decLt (t .origin) (t .destination)) [
-    | yes o ↦ omega (arith, segment-out (t .origin) (t .destination) k o, r .destination)
-    | no o ↦ omega (arith, segment-in (t .origin) (t .destination) k (omega arith), r .origin)
-  ]
-
-  pub segment-apart : (j k : ℕ) → j < k → k < legsOf t → segmentOf t j ≡ segmentOf t k → ⊥
-  segment-apart j k l h e = elim (decLt (t .origin) (t .destination)) [
-    | yes o ↦ omega (arith, segment-out (t .origin) (t .destination) j o, segment-out (t .origin) (t .destination) k o)
-    | no o ↦
-        let back : t .destination ≤ t .origin = omega arith in
-        omega (arith, segment-in (t .origin) (t .destination) j back, segment-in (t .origin) (t .destination) k back, r .destination)
-  ]
 
 -- ---- free arrival
 

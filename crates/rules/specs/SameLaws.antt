@@ -1,20 +1,17 @@
 -- Only the minutes of legs matter: two timetables that are the same have the same weighted delay and the same order lists, and one keeps the rules where
--- the other does. A segment that a train uses is that of one of its legs, and the segments beside a middle station are used.
+-- the other does.
 use Prim.Native.Nat.{ℕ, _+_, _*_, _-_, _≤_, _<_}
 use mathlib.Core.Path.{_≡_, refl, sym, _∙_, ap}
 use mathlib.Core.Logic.{inl, inr, ⊎-elim}
-use mathlib.Core.Bool.{Bool, true, false, cond}
+use mathlib.Core.Bool.{true}
 use mathlib.Core.List.{List, [], _∷_}
-use native.Mathlib.Decide.{decLt}
 use native.Mathlib.Omega.{arith}
 use Rattle.text.specs.Decide.{by-test, is-true, is-false, decides-not, decides-eq}
 use Rattle.text.specs.BelowLaws.{count-same, sum-same, gather-same}
-use Rattle.line.specs.declared.Train.{Train}
 use Rattle.line.specs.declared.Line.{Line}
-use Rattle.line.specs.Record.{legsBetween, legsOf}
 use Rattle.line.specs.Within.{Within, Arrays}
 use Rattle.rules.specs.declared.orders.Lane.{Lane}
-use Rattle.rules.specs.Paths.{train, segmentCount, segment, legs, outbound, Uses, segmentBetween, segmentOf, Middle, into, outOf}
+use Rattle.rules.specs.Paths.{train, segmentCount, segment, legs, Uses}
 use Rattle.rules.specs.Minutes.{departsOn, arrivesOn, lastArrival}
 use Rattle.rules.specs.Rules.{Before, stands, standing, Lawful}
 use Rattle.rules.specs.Delay.{freeArrival, weightedDelay, Same}
@@ -22,43 +19,13 @@ use Rattle.rules.specs.Directions.{directionsOf, way}
 use Rattle.rules.specs.DirectionsLaws.{decides-on}
 use Rattle.rules.specs.Orders.{inLane, lanesOf, listsOn, orderList, orderLists}
 use Rattle.rules.specs.OrdersLaws.{ordered-same}
-use Rattle.rules.specs.RulesLaws.{routed, legs-few, segment-out, segment-in}
-use Rattle.rules.specs.ExactLaws.{decides-middle}
+use Rattle.rules.specs.PathsLaws.{uses-leg, decides-middle, middle-legs, legs-few, routed}
 
 pub same-sym : (l : Line) (m m′ : List ℕ) → Same l m m′ → Same l m′ m
 same-sym l m m′ s i n k r = (sym (s i n k r .0), sym (s i n k r .1))
 
 pub same-trans : (l : Line) (a b c : List ℕ) → Same l a b → Same l b c → Same l a c
 same-trans l a b c s t i n k r = (s i n k r .0 ∙ t i n k r .0, s i n k r .1 ∙ t i n k r .1)
-
--- ---- paths
-
--- a segment that a train uses is that of one of its legs
-leg-on : (t : Train) (p : ℕ) → Uses t p → (k : ℕ) × (k < legsOf t) × (segmentOf t k ≡ p)
-leg-on t p u = elim (decLt (t .origin) (t .destination)) [
-  | yes o ↦ out (t .origin) (t .destination) o (omega (arith, u .0)) (omega (arith, u .1))
-  | no o ↦ back (t .origin) (t .destination) (omega arith) (omega (arith, u .0)) (omega (arith, u .1))
-]
-  where
-    out : (o d : ℕ) → o < d → o - 1 ≤ p → p < d - 1 → (k : ℕ) × (k < legsBetween o d) × (segmentBetween o d k ≡ p)
-    out o d l a b = (p - (o - 1), omega arith, sym (segment-out o d (p - (o - 1)) l) ∙ omega arith)
-
-    back : (o d : ℕ) → d ≤ o → d - 1 ≤ p → p < o - 1 → (k : ℕ) × (k < legsBetween o d) × (segmentBetween o d k ≡ p)
-    back o d l a b = (o - 2 - p, omega arith, sym (segment-in o d (o - 2 - p) l) ∙ omega arith)
-
--- it comes to a middle station and leaves it on segments that it uses
-beside : (t : Train) (s : ℕ) → Middle t s → Uses t (into t s) × Uses t (outOf t s)
-beside t s h = go (outbound t)
-  where
-    before : Uses t (s - 1)
-    before = (omega (arith, h .0, h .1), omega (arith, h .0, h .1))
-
-    after : Uses t s
-    after = (omega (arith, h .0, h .1), h .1)
-
-    go : (b : Bool) → Uses t (cond b (s - 1) s) × Uses t (cond b s (s - 1))
-    go true = (before, after)
-    go false = (after, before)
 
 -- a train in a lane of a segment has a way there
 lane-way : (lane : Lane) (w : ℕ) → inLane lane w ≡ true → inLane Lane.Both w ≡ true
@@ -70,7 +37,7 @@ lane-way Lane.Inbound w e = is-true (decides-not (decides-eq w 0)) (λ z. omega 
 
 module _ (l : Line) (m m′ : List ℕ) (s : Same l m m′) where
   pub same-on : (p i : ℕ) → i < l .«train_count» → Uses (train l i) p → (departsOn m p i ≡ departsOn m′ p i) × (arrivesOn m p i ≡ arrivesOn m′ p i)
-  same-on p i n u = let k = leg-on (train l i) p u in rw (k .2) at (s i n (k .0) (k .1))
+  same-on p i n u = let k = uses-leg (train l i) p u in rw (k .2) at (s i n (k .0) (k .1))
 
   before-same : (p i j : ℕ) → i < l .«train_count» → j < l .«train_count» → Uses (train l i) p → Uses (train l j) p → Before l m p i j → Before l m′ p i j
   before-same p i j a b u v h = let x = same-on p i a u in let y = same-on p j b v in rw (← x .0, ← x .1, ← y .0, ← y .1) h
@@ -79,7 +46,11 @@ module _ (l : Line) (m m′ : List ℕ) (s : Same l m m′) where
   unfolding stands
   stands-same q t i n =
       by-test (decides-middle (train l i) q)
-      (λ h. let b = beside (train l i) q h in rw (same-on _ i n (b .0) .1, same-on _ i n (b .1) .0) refl)
+      (λ h.
+      let (k, r, e, f) = middle-legs (train l i) q h in
+      let came-same = rw e at (s i n k (omega arith) .1) in
+      let goes-same = rw f at (s i n (k + 1) r .0) in
+      rw (came-same, goes-same) refl)
       (λ h. rw (is-false (decides-middle (train l i) q) h) refl)
 
   standing-same : (q t : ℕ) → standing l m q t ≡ standing l m′ q t

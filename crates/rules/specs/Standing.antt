@@ -6,7 +6,8 @@ use mathlib.Core.Bool.{Bool, true, false, true≢false}
 use native.Mathlib.Decide.{decLe}
 use native.Mathlib.Omega.{arith}
 use Rattle.text.specs.Decide.{Decides, is-true}
-use Rattle.text.specs.Below.{EachBelow, each-more, count, count-grows, count-some}
+use Rattle.text.specs.Below.{EachBelow, each-more, count, count-grows}
+use Rattle.text.specs.BelowLaws.{count-nth}
 
 -- one of those below n that pass the test, with the largest `a` among them
 pub record Largest (a : ℕ → ℕ) (f : ℕ → Bool) (n : ℕ) : Type 0 where
@@ -59,7 +60,7 @@ module _ (P : ℕ → Type 0) (came gone : ℕ → ℕ) (stands : ℕ → ℕ �
   -- whoever stands at t stands when the last of them came
   pub crowd-arrives : (n t k : ℕ) → k < count (stands t) n → (i : ℕ) × (i < n) × P i × (came i ≤ t) × (k < count (stands (came i)) n)
   crowd-arrives n t k h =
-      let s = count-some (stands t) n (omega arith) in
+      let s = count-nth (stands t) n 0 (omega arith) in
       let r = largest came (stands t) n (s .0) (s .1) (s .2) in
       let w = d t (r .who) .yea (r .passes) in
       let g = count-grows (stands t) (stands (came (r .who))) n (λ j l u.

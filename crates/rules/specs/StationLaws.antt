@@ -2,7 +2,7 @@
 -- a conflict. Assumes nothing.
 use Prim.Native.Nat.{ℕ, zero, suc, _+_, _-_, _*_, _^_, _≤_, _<_}
 use mathlib.Core.Path.{_≡_, refl, sym, _∙_, ap, subst}
-use mathlib.Core.Bool.{Bool, true, false, _&&_, true≢false}
+use mathlib.Core.Bool.{Bool, true, false, _&&_}
 use mathlib.Core.Option.{Option, some, none}
 use mathlib.Core.List.{List}
 use native.Mathlib.Nat.{pow-suc}
@@ -13,7 +13,7 @@ use lib.Dec.{leb, ltb}
 use lib.Pow.{pow-mono}
 use borrow.Author.Count.{below-more}
 use borrow.Author.Tests.{lt-ltb, le-ltb, le-leb, lt-leb, eq-eqb, ne-eqb, ltb-false}
-use Rattle.text.specs.Decide.{Decides, is-false, decides-as, decides-and, decides-lt, decides-le}
+use Rattle.text.specs.Decide.{Decides, is-false, decides-as, decides-and, decides-lt, decides-le, decides-self}
 use Rattle.text.specs.Below.{EachBelow, each-more, first-found, first-none, none-first, count, sum, sum-more}
 use Rattle.text.specs.BelowLaws.{table-size}
 use Rattle.line.specs.declared.Line.{Line}
@@ -77,9 +77,6 @@ module _ (x : Stay) (t : ℕ) where
   decides-stands =
       decides-as (λ h. (h .0, h .1 .0, h .1 .1)) (λ h. (h .0, (h .1, h .2)))
       (decides-and (decides-self (x .passes)) (decides-and (decides-le (x .came) t) (decides-le t (x .leaves))))
-    where
-      decides-self : (b : Bool) → Decides (b ≡ true) b
-      decides-self b = record { yea = λ e. e; nay = λ e h. true≢false (sym h ∙ e) }
 
 pub stands-here : (x y : Stay) (t : ℕ) (r : Bool) → x ≡ y → r ≡ standsIn x t → standsIn y t ≡ r
 stands-here x y t r e h = ap (λ (z : Stay). standsIn z t) (sym e) ∙ sym h

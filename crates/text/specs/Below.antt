@@ -1,7 +1,6 @@
 -- What a loop over the numbers below n finds: the first at which a test holds, whether it holds at all of them, at how many, and a sum.
 use Prim.Native.Nat.{ℕ, zero, suc, _+_, _≤_, _<_}
 use mathlib.Core.Path.{_≡_, refl, sym, _∙_, ap, subst}
-use mathlib.Core.Logic.{_⊎_, inl, inr, ⊎-elim}
 use mathlib.Core.Bool.{Bool, true, false, cond, _&&_, true≢false, false≢true}
 use mathlib.Core.Option.{Option, some, none}
 use mathlib.Core.List.{List, [], _∷_, _++_}
@@ -63,6 +62,11 @@ count f (suc n) = count f n + cond (f n) 1 0
 unfoldable pub sum : (ℕ → ℕ) → ℕ → ℕ
 sum f zero = 0
 sum f (suc n) = sum f n + f n
+
+-- what one number adds to a count
+pub one-most : (b : Bool) → cond b 1 0 ≤ 1
+one-most true = omega arith
+one-most false = omega arith
 
 -- what an answer of `first` says
 abbrev pub First : (ℕ → Bool) → ℕ → Option ℕ → Type 0
@@ -127,10 +131,6 @@ module _ (f : ℕ → Bool) where
   unfolding count
   count-most zero = omega arith
   count-most (suc n) = omega (arith, count-most n, one-most (f n))
-    where
-      one-most : (b : Bool) → cond b 1 0 ≤ 1
-      one-most true = omega arith
-      one-most false = omega arith
 
 pub sum-more : (f : ℕ → ℕ) (i : ℕ) → sum f (i + 1) ≡ sum f i + f i
 unfolding sum
@@ -162,13 +162,3 @@ count-grows f g (suc n) h = omega (arith, count-grows f g n (λ i l. h i (omega 
     here true true k = omega arith
     here true false k = absurd (false≢true (k refl))
     here false b k = omega arith
-
--- where it is counted at all, it holds somewhere
-pub count-some : (f : ℕ → Bool) (n : ℕ) → 0 < count f n → (i : ℕ) × (i < n) × (f i ≡ true)
-unfolding count
-count-some f zero h = absurd (omega arith)
-count-some f (suc n) h =
-    (elim (f n) as (λ b. f n ≡ b → 0 < count f n + cond b 1 0 → (i : ℕ) × (i < suc n) × (f i ≡ true)) [
-      | true ↦ λ e k. (n, omega arith, e)
-      | false ↦ λ e k. let r = count-some f n (omega arith) in (r .0, omega arith, r .2)
-    ]) refl h

@@ -1,8 +1,8 @@
 -- A test that decides a statement, and how tests of parts make a test of the whole.
 use Prim.Native.Nat.{ℕ, _≤_, _<_}
-use mathlib.Core.Path.{_≡_, refl}
+use mathlib.Core.Path.{_≡_, refl, sym, _∙_}
 use mathlib.Core.Logic.{_⊎_, inl, inr, ⊎-elim}
-use mathlib.Core.Bool.{Bool, true, false, cond, not, _&&_, _||_, true≢false, false≢true}
+use mathlib.Core.Bool.{Bool, true, false, not, _&&_, _||_, true≢false, false≢true}
 use lib.Dec.{ltb, leb, eqb}
 use borrow.Author.Tests.{ltb-true, ltb-false, leb-true, leb-false, eqb-true, eqb-false}
 use native.Mathlib.Omega.{arith}
@@ -37,6 +37,9 @@ decides-le a b = record { yea = leb-true a b; nay = λ e h. omega (arith, leb-fa
 
 pub decides-eq : (a b : ℕ) → Decides (a ≡ b) (eqb a b)
 decides-eq a b = record { yea = eqb-true a b; nay = eqb-false a b }
+
+pub decides-self : (b : Bool) → Decides (b ≡ true) b
+decides-self b = record { yea = λ e. e; nay = λ e h. true≢false (sym h ∙ e) }
 
 pub decides-never : Decides ⊥ false
 decides-never = record { yea = λ e. absurd (false≢true e); nay = λ e h. h }

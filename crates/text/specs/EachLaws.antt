@@ -1,8 +1,8 @@
 -- Laws of what holds of each element of a list.
 use Prim.Native.Nat.{ℕ, zero, suc, _<_, _≤_}
-use mathlib.Core.Path.{_≡_, refl}
-use mathlib.Core.Logic.{_⊎_, inl, inr}
-use mathlib.Core.List.{List, [], _∷_, _++_, map}
+use mathlib.Core.Path.{_≡_, refl, sym, subst}
+use mathlib.Core.Logic.{_⊎_, inl, inr, ⊎-elim}
+use mathlib.Core.List.{List, [], _∷_, _++_, map, List·Memᴰ, List·Memᴰ·cases-cons, List·Memᴰ·not-nil}
 use native.Mathlib.Omega.{arith}
 use lib.ListN.{length, getD, take}
 use Rattle.text.specs.Each.{Each}
@@ -31,6 +31,14 @@ each-image P f (x ∷ xs) v = (v .0, each-image P f xs (v .1))
 pub each-append : {A : Type 0} (P : A → Type 0) (xs ys : List A) → Each P xs → Each P ys → Each P (xs ++ ys)
 each-append P [] ys v w = w
 each-append P (x ∷ xs) ys v w = (v .0, each-append P xs ys (v .1) w)
+
+pub each-parts : {A : Type 0} (P : A → Type 0) (xs ys : List A) → Each P (xs ++ ys) → Each P xs × Each P ys
+each-parts P [] ys v = (tt, v)
+each-parts P (x ∷ xs) ys v = let w = each-parts P xs ys (v .1) in ((v .0, w .0), w .1)
+
+pub each-mem : {A : Type 0} (P : A → Type 0) (z : A) (xs : List A) → Each P xs → List·Memᴰ z xs → P z
+each-mem P z [] v m = absurd (List·Memᴰ·not-nil m)
+each-mem P z (x ∷ xs) v m = ⊎-elim (λ e. subst P (sym e) (v .0)) (each-mem P z xs (v .1)) (List·Memᴰ·cases-cons m)
 
 -- what holds of each of the first n holds of element i
 pub each-at : {A : Type 0} (P : A → Type 0) (n : ℕ) (xs : List A) (i : ℕ) (d : A) → n ≤ length xs → i < n → Each P (take n xs) → P (getD xs i d)

@@ -16,6 +16,7 @@ pub mod BytesLaws
 pub mod NumbersLaws
 pub mod DigitsLaws
 pub mod ParsedLaws
+pub mod ToldLaws
 pub mod LayLaws
 pub mod SpliceLaws
 pub mod LendLaws

@@ -66,6 +66,15 @@ module _ {A : Type 0} (part : ℕ → List ℕ → Cursor → Parsed A) (k j i :
   unfolding many
   many-stop z n p e = rw (z, e) refl
 
+-- parts in a row are as many as were to be read
+pub many-length : {A : Type 0} (part : ℕ → List ℕ → Cursor → Parsed A) (k i : ℕ) (s : List ℕ) (c : Cursor) (xs : List A) (next : Cursor) → many k part i s c ≡ Parsed.got xs next → length xs ≡ k
+unfolding many
+many-length part zero i s c xs next e = got-is (λ ys end. length ys ≡ 0) e refl
+many-length part (suc k) i s c xs next e =
+    let a = then-got (part i s c) _ xs next e in
+    let b = then-got (many k part (i + 1) s (a .next)) _ xs next (a .after) in
+    got-is (λ ys end. length ys ≡ suc k) (b .after) (ap suc (many-length part k (i + 1) s (a .next) (b .value) (b .next) (b .first)))
+
 -- ---- a number in its range
 
 -- what a value within limits is

@@ -1,7 +1,7 @@
 -- Laws of the check of lists and total as its loops and returns go.
-use Prim.Native.Nat.{ℕ, suc, _+_, _<_, _≤_}
+use Prim.Native.Nat.{ℕ, _+_, _<_, _≤_}
 use mathlib.Core.Path.{_≡_, refl, sym, ap, _∙_}
-use mathlib.Core.Bool.{Bool, true, false, not}
+use mathlib.Core.Bool.{true, false, not}
 use mathlib.Core.List.{List, [], map}
 use native.Mathlib.Omega.{arith}
 use borrow.Author.Tests.{eq-eqb, ne-eqb}
@@ -11,7 +11,7 @@ use Rattle.text.specs.declared.Cursor.{Cursor}
 use Rattle.text.specs.declared.Ending.{Ending}
 use Rattle.text.specs.Told.{toldEnding}
 use Rattle.text.specs.Decide.{Decides, decides-and, decides-eq}
-use Rattle.text.specs.Below.{EachBelow, first, decides-all, first-found, first-none}
+use Rattle.text.specs.Below.{EachBelow, decides-all, first-found, first-none}
 use Rattle.text.specs.Parsed.{Parsed}
 use Rattle.line.specs.declared.Answer.{Answer}
 use Rattle.line.specs.declared.Line.{Line}
@@ -23,11 +23,11 @@ use Rattle.rules.specs.declared.rules.Breach.{Breach}
 use Rattle.rules.specs.declared.orders.OrderList.{OrderList}
 use Rattle.rules.specs.Orders.{listCount, orderLists, listed}
 use Rattle.rules.specs.Delay.{weightedDelay}
-use Rattle.rules.specs.Breaches.{orBreach, breachOf}
+use Rattle.rules.specs.Breaches.{breachOf}
 use Rattle.rules.specs.BreachesLaws.{breach-first, breach-later}
 use Rattle.timetable.specs.Reading.{Rest, Timetable, timetableFile}
 use Rattle.timetable.specs.declared.checking.Verdict.{Verdict}
-use Rattle.timetable.specs.Check.{sameList, atList, listsBreach, totalBreach, restBreach, timetableBreach, verdictOf, endingVerdict, answerVerdict, judged, checked, checkOf}
+use Rattle.timetable.specs.Check.{sameList, atList, listsBreach, restBreach, timetableBreach, verdictOf, endingVerdict, answerVerdict, judged, checked, checkOf}
 
 -- ---- one list
 

@@ -22,7 +22,8 @@ use Rattle.rules.specs.Tests.{departureOf, arrivalOf}
 use Rattle.rules.specs.Delay.{weightedDelay}
 use Rattle.rules.specs.Orders.{listCount, orderLists}
 use Rattle.rules.specs.OrdersLaws.{lists-few, lists-count, TrainsOnly, lists-trains}
-use Rattle.rules.specs.RulesLaws.{legs-most, cost-most}
+use Rattle.rules.specs.PathsLaws.{legs-most}
+use Rattle.rules.specs.RulesLaws.{cost-most}
 use Rattle.timetable.specs.Reading.{afterField}
 use Rattle.timetable.specs.Spell.{legsText, trainsText, minutesText, namesText, listText, restText, numbers, listNumbers, timetableText}
 use Rattle.timetable.specs.SpeltLaws.{DaysAt}

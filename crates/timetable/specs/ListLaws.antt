@@ -1,12 +1,12 @@
 -- Laws of reading an order list's line: each way out of its own count, and the numbers of its trains laid into an array.
-use Prim.Native.Nat.{ℕ, zero, suc, _+_, _-_, _≤_}
+use Prim.Native.Nat.{ℕ, _-_, _≤_}
 use mathlib.Core.Path.{_≡_, refl, sym, ap, _∙_}
 use mathlib.Core.Bool.{cond}
 use mathlib.Core.List.{List}
 use native.Mathlib.Omega.{arith}
 use borrow.Author.Tests.{eq-eqb, ne-eqb}
 use lib.Dec.{eqb}
-use lib.ListN.{length, take, replicate}
+use lib.ListN.{take, replicate}
 use Rattle.text.specs.declared.Cursor.{Cursor}
 use Rattle.text.specs.declared.Number.{Number}
 use Rattle.text.specs.declared.Step.{Step}
@@ -17,7 +17,7 @@ use Rattle.text.specs.Numbers.{numberAt}
 use Rattle.text.specs.Limits.{boundedOf}
 use Rattle.text.specs.Lists.{padded, take-padded}
 use Rattle.text.specs.Parsed.{Parsed, mapParsed, many, rangedAt}
-use Rattle.text.specs.ParsedLaws.{then-got, got-is, bounded-within}
+use Rattle.text.specs.ParsedLaws.{many-length, bounded-within}
 use Rattle.text.specs.LayLaws.{layMany}
 use Rattle.timetable.specs.Reading.{afterField, ownCountAt, listAt}
 
@@ -76,15 +76,6 @@ own-within n p s c v next e = number (numberAt 4 s c) e
     number Number.Malformed g = let z : _≡_ {A = ℕ} 0 1 = cc in absurd (omega arith)
 
 -- ---- the trains of a list
-
--- parts in a row are as many as were to be read
-pub many-length : {A : Type 0} (part : ℕ → List ℕ → Cursor → Parsed A) (k i : ℕ) (s : List ℕ) (c : Cursor) (xs : List A) (next : Cursor) → many k part i s c ≡ Parsed.got xs next → length xs ≡ k
-unfolding many
-many-length part zero i s c xs next e = got-is (λ ys end. length ys ≡ 0) e refl
-many-length part (suc k) i s c xs next e =
-    let a = then-got (part i s c) _ xs next e in
-    let b = then-got (many k part (i + 1) s (a .next)) _ xs next (a .after) in
-    got-is (λ ys end. length ys ≡ suc k) (b .after) (ap suc (many-length part k (i + 1) s (a .next) (b .value) (b .next) (b .first)))
 
 -- laid into an array of twelve, they are its first entries
 lay-take : (part : ℕ → List ℕ → Cursor → Parsed ℕ) (k i : ℕ) (s : List ℕ) (c : Cursor) → k ≤ 12 → many k part i s c ≡ mapParsed (take k) (layMany k part i s c (replicate 12 0) 0)

@@ -1,30 +1,16 @@
--- Laws of reading the minutes of a timetable's text: what a field of the code tells, and the legs of a train and the lines of the trains a step at a
--- time.
+-- Laws of reading the minutes of a timetable's text: the legs of a train and the lines of the trains a step at a time.
 use Prim.Native.Nat.{ℕ, suc, _+_, _*_}
-use mathlib.Core.Path.{_≡_, refl, sym, ap, _∙_}
+use mathlib.Core.Path.{_≡_, refl, ap}
 use mathlib.Core.List.{List}
 use native.Mathlib.Omega.{arith}
 use lib.ListN.{set, replicate}
 use Rattle.text.specs.declared.Cursor.{Cursor}
-use Rattle.text.specs.declared.Faults.{Faults}
-use Rattle.text.specs.declared.Field.{Field}
-use Rattle.text.specs.Parsed.{Parsed, rangedAt}
+use Rattle.text.specs.Parsed.{Parsed}
 use Rattle.text.specs.ParsedLaws.{ranged-spelt}
-use Rattle.text.specs.Told.{toldField}
 use Rattle.line.specs.declared.Train.{Train}
 use Rattle.line.specs.declared.Line.{Line}
 use Rattle.rules.specs.Paths.{train, legs, segmentOf}
-use Rattle.timetable.specs.Reading.{afterField, faultsOn, timeAt, countAt, legsAt, trainsAt, minutesAt}
-
--- ---- a field of the code
-
--- with the faults x and the byte y after it that the code was given, a field f, which is g, tells what the number of the text is
-pub field-told : (lo hi b p : ℕ) (s : List ℕ) (c : Cursor) {y : ℕ} {x : Faults} {f g : Field} → y ≡ b → x ≡ faultsOn p → toldField f ≡ rangedAt (x .form) (x .range) lo hi y (x .line) s c → f ≡ g → rangedAt 8 9 lo hi b p s c ≡ toldField g
-field-told lo hi b p s c {y} {x} {f} {g} byte faults told is =
-    ap (λ (k : ℕ). rangedAt 8 9 lo hi k p s c) (sym byte)
-    ∙ ap (λ (k : Faults). rangedAt (k .form) (k .range) lo hi y (k .line) s c) (sym faults)
-    ∙ sym told
-    ∙ ap toldField is
+use Rattle.timetable.specs.Reading.{afterField, timeAt, countAt, legsAt, trainsAt, minutesAt}
 
 -- a count that was read is the line's
 pub count-is : (n p : ℕ) (s : List ℕ) (c : Cursor) (v : ℕ) (next : Cursor) → countAt n p s c ≡ Parsed.got v next → v ≡ n

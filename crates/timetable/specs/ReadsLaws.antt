@@ -29,7 +29,7 @@ use Rattle.rules.specs.Rules.{InDays}
 use Rattle.rules.specs.Delay.{Same}
 use Rattle.rules.specs.Orders.{listCount}
 use Rattle.rules.specs.OrdersLaws.{lists-few}
-use Rattle.rules.specs.RulesLaws.{routed-leg}
+use Rattle.rules.specs.PathsLaws.{routed-leg}
 use Rattle.timetable.specs.Reading.{afterField, withLeg, legsAt, trainsAt, minutesAt, ownCountAt, listAt, totalAt, restAt, timetableFile}
 use Rattle.timetable.specs.ReadingLaws.{legs-step, trains-step, minutes-counted}
 use Rattle.timetable.specs.ListLaws.{own-value, listPart}

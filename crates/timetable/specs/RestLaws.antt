@@ -1,9 +1,7 @@
 -- Laws of reading the second part of a timetable's text, and of the whole: a step at a time.
 use Prim.Native.Nat.{ℕ, suc, _+_, _<_, _≤_}
 use mathlib.Core.Path.{_≡_, refl, sym, ap, _∙_}
-use mathlib.Core.Bool.{Bool}
 use mathlib.Core.List.{List, [], _∷_, _++_, append-nil, append-assoc}
-use native.Mathlib.Omega.{arith}
 use borrow.Author.Tests.{lt-ltb, le-ltb}
 use lib.ListN.{length}
 use Rattle.text.specs.declared.Cursor.{Cursor}
@@ -15,7 +13,7 @@ use Rattle.text.specs.Told.{toldEnding}
 use Rattle.text.specs.ParsedLaws.{many-done, many-step, many-stop}
 use Rattle.line.specs.declared.Line.{Line}
 use Rattle.rules.specs.Orders.{listCount}
-use Rattle.timetable.specs.Reading.{countAt, listAt, totalAt, Rest, restAt, Timetable, minutesAt, timetableFile}
+use Rattle.timetable.specs.Reading.{countAt, listAt, totalAt, Rest, restAt, minutesAt, timetableFile}
 use Rattle.timetable.specs.ReadingLaws.{count-is}
 
 -- ---- parts in a row, after those read so far

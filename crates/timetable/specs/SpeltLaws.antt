@@ -23,7 +23,7 @@ use Rattle.text.specs.Limits.{boundedOf}
 use Rattle.text.specs.Each.{eachThen}
 use Rattle.text.specs.Below.{EachFrom, each-first}
 use Rattle.text.specs.Parsed.{Parsed, many}
-use Rattle.text.specs.ParsedLaws.{then-got, pick-got, got-is, bounded-within, ranged-spelt, PartSpelt, many-spelt}
+use Rattle.text.specs.ParsedLaws.{then-got, pick-got, got-is, bounded-within, ranged-spelt, PartSpelt, many-spelt, many-length}
 use Rattle.line.specs.declared.Train.{Train}
 use Rattle.line.specs.declared.Line.{Line}
 use Rattle.line.specs.Record.{legsOf}
@@ -34,10 +34,10 @@ use Rattle.rules.specs.Minutes.{departs, arrives}
 use Rattle.rules.specs.Tests.{departureOf, arrivalOf}
 use Rattle.rules.specs.Rules.{InDays}
 use Rattle.rules.specs.Orders.{listCount}
-use Rattle.rules.specs.RulesLaws.{routed-leg}
+use Rattle.rules.specs.PathsLaws.{routed-leg}
 use Rattle.timetable.specs.Reading.{afterField, timeAt, countAt, withLeg, legsAt, trainsAt, minutesAt, ownCountAt, listAt, totalAt, Rest, restAt, Timetable, timetableFile}
 use Rattle.timetable.specs.ReadingLaws.{count-is, minutes-counted}
-use Rattle.timetable.specs.ListLaws.{own-malformed, own-unended, own-over, own-value, many-length, listPart}
+use Rattle.timetable.specs.ListLaws.{own-malformed, own-unended, own-over, own-value, listPart}
 use Rattle.timetable.specs.Spell.{legsText, trainsText, minutesText, namesText, listText, restText}
 use Rattle.timetable.specs.StoresLaws.{departure-stored, arrival-stored, leg-stored, legs-stored, trains-stored}
 

@@ -15,7 +15,7 @@ use Rattle.line.specs.Record.{legsOf}
 use Rattle.rules.specs.Paths.{train, legs, segmentOf, Routed}
 use Rattle.rules.specs.Minutes.{departs, arrives}
 use Rattle.rules.specs.Tests.{departureOf, arrivalOf}
-use Rattle.rules.specs.RulesLaws.{segment-below, segment-apart}
+use Rattle.rules.specs.PathsLaws.{segment-below, segment-apart}
 use Rattle.timetable.specs.Reading.{afterField, timeAt, withLeg, legsAt, trainsAt}
 
 -- ---- the legs of a train, which is train i

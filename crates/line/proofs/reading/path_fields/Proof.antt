@@ -1,9 +1,10 @@
 -- `line::reading::path_fields` meets its contract: each `return` follows from the fields that led there, by the law of that case. Assumes nothing.
-use mathlib.Core.Path.{_∙_, sym, ap}
+use mathlib.Core.Path.{_∙_, refl, sym, ap}
 use denote.Ref.{now}
 use Rattle.text.specs.Told.{stoppedBy}
+use Rattle.text.specs.ToldLaws.{ranged-told}
 use Rattle.line.specs.Ranges.{station}
-use Rattle.line.specs.FileLaws.{number-told, ended-told, path-no-origin, path-no-destination, path-nowhere, path-got}
+use Rattle.line.specs.FileLaws.{ended-told, path-no-origin, path-no-destination, path-nowhere, path-got}
 use borrow.Author.Needs.{needs}
 use Rattle.line.proofs.reading.path_fields.Statement.{statement}
 use Rattle.line.proofs.reading.path_fields.Tie as tie
@@ -34,7 +35,7 @@ returns c =
     let o = c .before .before in
     let a = o .before .before .before .before .before .before .args in
     let refused = o .enum-told .given .1 in
-    let origin = number-told (station (a .stations)) 32 (a .line) (now (a .s)) _ (o .before .before .before .before .numbers .ensures) (o .before .before .before .faults-on .ensures) (o .before .before .ranged .ensures) refused in
+    let origin = ranged-told 2 3 (station (a .stations)) 32 (a .line) (now (a .s)) _ (o .before .before .before .before .numbers .ensures) refl (o .before .before .before .faults-on .ensures) (o .before .before .ranged .ensures) refused in
     ended-told _ (c .no-path .ensures ∙ c .before .stopped .ensures ∙ ap stoppedBy refused) ∙ sym (path-no-origin _ _ _ _ origin)
 
 numbers-requires-2 : tie.Need-numbers-requires-2
@@ -63,9 +64,9 @@ returns-2 c =
     let d = c .before .before in
     let o = d .before .before .before .before .before .before in
     let a = o .before .before .before .before .before .before .args in
-    let origin = number-told (station (a .stations)) 32 (a .line) (now (a .s)) _ (o .before .before .before .before .numbers .ensures) (o .before .before .before .faults-on .ensures) (o .before .before .ranged .ensures) (o .o .given .1) in
+    let origin = ranged-told 2 3 (station (a .stations)) 32 (a .line) (now (a .s)) _ (o .before .before .before .before .numbers .ensures) refl (o .before .before .before .faults-on .ensures) (o .before .before .ranged .ensures) (o .o .given .1) in
     let refused = d .enum-told2 .given .1 in
-    let destination = number-told (station (a .stations)) 32 (a .line) (now (a .s)) _ (d .before .before .before .before .numbers2 .ensures) (d .before .before .before .faults-on2 .ensures) (d .before .before .ranged2 .ensures) refused in
+    let destination = ranged-told 2 3 (station (a .stations)) 32 (a .line) (now (a .s)) _ (d .before .before .before .before .numbers2 .ensures) refl (d .before .before .before .faults-on2 .ensures) (d .before .before .ranged2 .ensures) refused in
     ended-told _ (c .no-path2 .ensures ∙ c .before .stopped2 .ensures ∙ ap stoppedBy refused) ∙ sym (path-no-destination _ _ _ _ origin destination)
 
 no-path-requires-3 : tie.Need-no-path-requires-3
@@ -76,8 +77,8 @@ returns-3 c =
     let d = c .before .before .before in
     let o = d .before .before .before .before .before .before in
     let a = o .before .before .before .before .before .before .args in
-    let origin = number-told (station (a .stations)) 32 (a .line) (now (a .s)) _ (o .before .before .before .before .numbers .ensures) (o .before .before .before .faults-on .ensures) (o .before .before .ranged .ensures) (o .o .given .1) in
-    let destination = number-told (station (a .stations)) 32 (a .line) (now (a .s)) _ (d .before .before .before .before .numbers2 .ensures) (d .before .before .before .faults-on2 .ensures) (d .before .before .ranged2 .ensures) (d .d .given .1) in
+    let origin = ranged-told 2 3 (station (a .stations)) 32 (a .line) (now (a .s)) _ (o .before .before .before .before .numbers .ensures) refl (o .before .before .before .faults-on .ensures) (o .before .before .ranged .ensures) (o .o .given .1) in
+    let destination = ranged-told 2 3 (station (a .stations)) 32 (a .line) (now (a .s)) _ (d .before .before .before .before .numbers2 .ensures) refl (d .before .before .before .faults-on2 .ensures) (d .before .before .ranged2 .ensures) (d .d .given .1) in
     ended-told _ (c .no-path3 .ensures) ∙ sym (path-nowhere _ _ _ _ origin destination (c .before .if1 .taken))
 
 returns-4 : tie.Need-returns-4
@@ -85,8 +86,8 @@ returns-4 c =
     let d = c .before .before in
     let o = d .before .before .before .before .before .before in
     let a = o .before .before .before .before .before .before .args in
-    let origin = number-told (station (a .stations)) 32 (a .line) (now (a .s)) _ (o .before .before .before .before .numbers .ensures) (o .before .before .before .faults-on .ensures) (o .before .before .ranged .ensures) (o .o .given .1) in
-    let destination = number-told (station (a .stations)) 32 (a .line) (now (a .s)) _ (d .before .before .before .before .numbers2 .ensures) (d .before .before .before .faults-on2 .ensures) (d .before .before .ranged2 .ensures) (d .d .given .1) in
+    let origin = ranged-told 2 3 (station (a .stations)) 32 (a .line) (now (a .s)) _ (o .before .before .before .before .numbers .ensures) refl (o .before .before .before .faults-on .ensures) (o .before .before .ranged .ensures) (o .o .given .1) in
+    let destination = ranged-told 2 3 (station (a .stations)) 32 (a .line) (now (a .s)) _ (d .before .before .before .before .numbers2 .ensures) refl (d .before .before .before .faults-on2 .ensures) (d .before .before .ranged2 .ensures) (d .d .given .1) in
     sym (path-got _ _ _ _ origin destination (c .if1 .left))
 
 pub path-fields-spec : {M : Type 1} → statement M

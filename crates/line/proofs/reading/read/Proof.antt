@@ -4,8 +4,9 @@ use mathlib.Core.Path.{_∙_, sym, ap, refl}
 use native.Mathlib.Omega.{arith}
 use Rattle.text.specs.ParsedLaws.{ranged-spelt}
 use Rattle.text.specs.Told.{stoppedBy}
+use Rattle.text.specs.ToldLaws.{ranged-told}
 use Rattle.line.specs.File.{answered}
-use Rattle.line.specs.FileLaws.{number-told, ended-told}
+use Rattle.line.specs.FileLaws.{ended-told}
 use Rattle.line.specs.Ranges.{stationCount}
 use Rattle.line.specs.SectionLaws.{section-no-count, section-refused, section-read, refusal, file-long, stations-section}
 use borrow.Author.Needs.{needs}
@@ -38,7 +39,7 @@ refused-requires-2 c κs = search needs
 
 returns-2 : tie.Need-returns-2
 returns-2 c =
-    let count = number-told stationCount 10 _ _ _ refl (c .before .before .before .before .before .faults-on .ensures) (c .before .before .before .before .ranged .ensures) (c .before .before .enum-told .given .1) in
+    let count = ranged-told 2 3 stationCount 10 _ _ _ refl refl (c .before .before .before .before .before .faults-on .ensures) (c .before .before .before .before .ranged .ensures) (c .before .before .enum-told .given .1) in
     refusal (c .refused2 .ensures) (c .before .stopped .ensures ∙ ap stoppedBy (c .before .before .enum-told .given .1)) (section-no-count (stations-section _ (c .before .before .before .before .before .before .if1 .left)) count)
 
 cast-station-lines : tie.Need-cast-station-lines
@@ -46,7 +47,7 @@ cast-station-lines c = search needs
 
 station-lines-requires : tie.Need-station-lines-requires
 station-lines-requires c κs =
-    let count = number-told stationCount 10 _ _ _ refl (c .before .before .before .before .faults-on .ensures) (c .before .before .before .ranged .ensures) (c .before .field .given .1) in
+    let count = ranged-told 2 3 stationCount 10 _ _ _ refl refl (c .before .before .before .before .faults-on .ensures) (c .before .before .before .ranged .ensures) (c .before .field .given .1) in
     ranged-spelt _ _ _ _ _ _ _ _ _ _ (omega arith) count .high
 
 enum-known-ending : tie.Need-enum-known-ending
@@ -60,19 +61,19 @@ refused-requires-3 c κs = search needs
 
 returns-3 : tie.Need-returns-3
 returns-3 c =
-    let count = number-told stationCount 10 _ _ _ refl (c .before .before .before .before .before .before .before .before .faults-on .ensures) (c .before .before .before .before .before .before .before .ranged .ensures) (c .before .before .before .before .before .field .given .1) in
+    let count = ranged-told 2 3 stationCount 10 _ _ _ refl refl (c .before .before .before .before .before .before .before .before .faults-on .ensures) (c .before .before .before .before .before .before .before .ranged .ensures) (c .before .before .before .before .before .field .given .1) in
     let lines = sym (c .before .before .before .station-lines .ensures) ∙ ended-told _ (c .before .enum-told2 .given .1) in
     refusal (c .refused3 .ensures) (c .before .enum-told2 .given .1) (section-refused (stations-section _ (c .before .before .before .before .before .before .before .before .before .if1 .left)) count lines)
 
 segment-part-requires : tie.Need-segment-part-requires
 segment-part-requires c κs =
-    let count = number-told stationCount 10 _ _ _ refl (c .before .before .before .before .before .before .before .before .before .faults-on .ensures) (c .before .before .before .before .before .before .before .before .ranged .ensures) (c .before .before .before .before .before .before .field .given .1) in
+    let count = ranged-told 2 3 stationCount 10 _ _ _ refl refl (c .before .before .before .before .before .before .before .before .before .faults-on .ensures) (c .before .before .before .before .before .before .before .before .ranged .ensures) (c .before .before .before .before .before .before .field .given .1) in
     let within = ranged-spelt _ _ _ _ _ _ _ _ _ _ (omega arith) count in
     (within .low, within .high)
 
 returns-4 : tie.Need-returns-4
 returns-4 c =
-    let count = number-told stationCount 10 _ _ _ refl (c .before .before .before .before .before .before .before .before .before .before .faults-on .ensures) (c .before .before .before .before .before .before .before .before .before .ranged .ensures) (c .before .before .before .before .before .before .before .field .given .1) in
+    let count = ranged-told 2 3 stationCount 10 _ _ _ refl refl (c .before .before .before .before .before .before .before .before .before .before .faults-on .ensures) (c .before .before .before .before .before .before .before .before .before .ranged .ensures) (c .before .before .before .before .before .before .before .field .given .1) in
     let lines = sym (c .before .before .before .before .before .station-lines .ensures) ∙ ended-told _ (c .before .before .before .ending .given .1) in
     c .segment-part .ensures ∙ sym (ap answered (section-read (stations-section _ (c .before .before .before .before .before .before .before .before .before .before .before .if1 .left)) count lines))
 

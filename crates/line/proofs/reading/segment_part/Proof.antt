@@ -2,8 +2,9 @@
 -- at the count, at a line, or after the lines, where the trains follow. Assumes nothing.
 use mathlib.Core.Path.{_∙_, sym, ap, refl}
 use Rattle.text.specs.Told.{stoppedBy}
+use Rattle.text.specs.ToldLaws.{ranged-told}
 use Rattle.line.specs.File.{answered}
-use Rattle.line.specs.FileLaws.{number-told, ended-told}
+use Rattle.line.specs.FileLaws.{ended-told}
 use Rattle.line.specs.SectionLaws.{section-no-count, section-refused, section-read, refusal, segments-section}
 use borrow.Author.Needs.{needs}
 use Rattle.line.proofs.reading.segment_part.Statement.{statement}
@@ -38,7 +39,7 @@ refused-requires c κs = search needs
 
 returns : tie.Need-returns
 returns c =
-    let count = number-told (record { min = _; max = _ }) 10 _ _ _ refl (c .before .before .before .before .before .faults-on .ensures) (c .before .before .before .before .ranged .ensures) (c .before .before .enum-told .given .1) in
+    let count = ranged-told 2 3 (record { min = _; max = _ }) 10 _ _ _ refl refl (c .before .before .before .before .before .faults-on .ensures) (c .before .before .before .before .ranged .ensures) (c .before .before .enum-told .given .1) in
     refusal (c .refused .ensures) (c .before .stopped .ensures ∙ ap stoppedBy (c .before .before .enum-told .given .1)) (section-no-count (segments-section _ _ _ _) count)
 
 sub-segment-lines : tie.Need-sub-segment-lines
@@ -61,7 +62,7 @@ refused-requires-2 c κs = search needs
 
 returns-2 : tie.Need-returns-2
 returns-2 c =
-    let count = number-told (record { min = _; max = _ }) 10 _ _ _ refl (c .before .before .before .before .before .before .before .before .faults-on .ensures) (c .before .before .before .before .before .before .before .ranged .ensures) (c .before .before .before .before .before .field .given .1) in
+    let count = ranged-told 2 3 (record { min = _; max = _ }) 10 _ _ _ refl refl (c .before .before .before .before .before .before .before .before .faults-on .ensures) (c .before .before .before .before .before .before .before .ranged .ensures) (c .before .before .before .before .before .field .given .1) in
     let lines = sym (c .before .before .before .segment-lines .ensures) ∙ ended-told _ (c .before .enum-told2 .given .1) in
     refusal (c .refused2 .ensures) (c .before .enum-told2 .given .1) (section-refused (segments-section _ _ _ _) count lines)
 
@@ -70,7 +71,7 @@ train-part-requires c κs = search needs
 
 returns-3 : tie.Need-returns-3
 returns-3 c =
-    let count = number-told (record { min = _; max = _ }) 10 _ _ _ refl (c .before .before .before .before .before .before .before .before .before .before .faults-on .ensures) (c .before .before .before .before .before .before .before .before .before .ranged .ensures) (c .before .before .before .before .before .before .before .field .given .1) in
+    let count = ranged-told 2 3 (record { min = _; max = _ }) 10 _ _ _ refl refl (c .before .before .before .before .before .before .before .before .before .before .faults-on .ensures) (c .before .before .before .before .before .before .before .before .before .ranged .ensures) (c .before .before .before .before .before .before .before .field .given .1) in
     let lines = sym (c .before .before .before .before .before .segment-lines .ensures) ∙ ended-told _ (c .before .before .before .ending .given .1) in
     c .train-part .ensures ∙ sym (ap answered (section-read (segments-section _ _ _ _) count lines))
 

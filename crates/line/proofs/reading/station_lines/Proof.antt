@@ -8,9 +8,10 @@ use denote.Ref.{now}
 use Rattle.text.specs.Lists.{padded}
 use Rattle.text.specs.LayLaws.{layMany, lay-done, lay-step, lay-stop}
 use Rattle.text.specs.Told.{stoppedBy}
+use Rattle.text.specs.ToldLaws.{ranged-told}
 use Rattle.line.specs.Ranges.{tracks}
 use Rattle.line.specs.File.{stationLine}
-use Rattle.line.specs.FileLaws.{number-told, ended-told}
+use Rattle.line.specs.FileLaws.{ended-told}
 use borrow.Author.Needs.{needs}
 use Rattle.line.proofs.reading.station_lines.Statement.{statement}
 use Rattle.line.proofs.reading.station_lines.Tie as tie
@@ -59,7 +60,7 @@ lines-again : tie.Need-lines-again Inv-lines μ-lines
 lines-again c =
     let w = c .before .before .before .before .before .before .lines in
     let a = c .before .before .before .before .before .before .before .before .args in
-    let field = number-told tracks 10 (w .i + 2) (now (a .s)) _ refl (c .before .before .before .before .faults-on .ensures) (c .before .before .before .ranged .ensures) (c .before .field .given .1) in
+    let field = ranged-told 2 3 tracks 10 (w .i + 2) (now (a .s)) _ refl refl (c .before .before .before .before .faults-on .ensures) (c .before .before .before .ranged .ensures) (c .before .field .given .1) in
     let k : a .count - w .i ≡ suc (a .count - (w .i + 1)) = omega arith in
     let next : w .i + 1 + 2 ≡ w .i + 2 + 1 = omega arith in
     (sym (lay-step stationLine _ _ _ _ _ _ _ _ k next _ _ field) ∙ w .inv .0, omega arith)
@@ -78,7 +79,7 @@ returns-2 c =
     let w = c .before .before .before .before .before .before .lines in
     let a = c .before .before .before .before .before .before .before .before .args in
     let refused = c .before .enum-told .given .1 in
-    let field = number-told tracks 10 (w .i + 2) (now (a .s)) _ refl (c .before .before .before .before .faults-on .ensures) (c .before .before .before .ranged .ensures) refused in
+    let field = ranged-told 2 3 tracks 10 (w .i + 2) (now (a .s)) _ refl refl (c .before .before .before .before .faults-on .ensures) (c .before .before .before .ranged .ensures) refused in
     let k : a .count - w .i ≡ suc (a .count - (w .i + 1)) = omega arith in
     ended-told _ (c .stopped .ensures ∙ ap stoppedBy refused) ∙ sym (lay-stop stationLine _ _ _ 0 _ _ _ _ k _ _ field) ∙ w .inv .0
 

@@ -2,8 +2,9 @@
 use mathlib.Core.Path.{_∙_, sym, ap, refl}
 use denote.Ref.{now}
 use Rattle.text.specs.Told.{stoppedBy}
+use Rattle.text.specs.ToldLaws.{ranged-told}
 use Rattle.line.specs.Ranges.{time, weight}
-use Rattle.line.specs.FileLaws.{number-told, ended-told, head-no-path, head-no-earliest, head-no-latest, head-no-weight, head-got}
+use Rattle.line.specs.FileLaws.{ended-told, head-no-path, head-no-earliest, head-no-latest, head-no-weight, head-got}
 use borrow.Author.Needs.{needs}
 use Rattle.line.proofs.reading.train_head.Statement.{statement}
 use Rattle.line.proofs.reading.train_head.Tie as tie
@@ -50,7 +51,7 @@ returns-2 c =
     let a = p .before .before .before .before .args in
     let path = sym (p .before .before .path-fields .ensures) ∙ ended-told _ (p .ending .given .1) in
     let refused = e .enum-told2 .given .1 in
-    let earliest = number-told time 32 (a .line) (now (a .s)) _ refl (e .before .before .before .faults-on .ensures) (e .before .before .ranged .ensures) refused in
+    let earliest = ranged-told 2 3 time 32 (a .line) (now (a .s)) _ refl refl (e .before .before .before .faults-on .ensures) (e .before .before .ranged .ensures) refused in
     ended-told _ (c .no-head2 .ensures ∙ c .before .stopped .ensures ∙ ap stoppedBy refused) ∙ sym (head-no-earliest _ _ _ _ path earliest)
 
 faults-on-requires-2 : tie.Need-faults-on-requires-2
@@ -78,9 +79,9 @@ returns-3 c =
     let p = e .before .before .before .before .before in
     let a = p .before .before .before .before .args in
     let path = sym (p .before .before .path-fields .ensures) ∙ ended-told _ (p .ending .given .1) in
-    let earliest = number-told time 32 (a .line) (now (a .s)) _ refl (e .before .before .before .faults-on .ensures) (e .before .before .ranged .ensures) (e .e .given .1) in
+    let earliest = ranged-told 2 3 time 32 (a .line) (now (a .s)) _ refl refl (e .before .before .before .faults-on .ensures) (e .before .before .ranged .ensures) (e .e .given .1) in
     let refused = l .enum-told3 .given .1 in
-    let latest = number-told time 32 (a .line) (now (a .s)) _ refl (l .before .before .before .faults-on2 .ensures) (l .before .before .ranged2 .ensures) refused in
+    let latest = ranged-told 2 3 time 32 (a .line) (now (a .s)) _ refl refl (l .before .before .before .faults-on2 .ensures) (l .before .before .ranged2 .ensures) refused in
     ended-told _ (c .no-head3 .ensures ∙ c .before .stopped2 .ensures ∙ ap stoppedBy refused) ∙ sym (head-no-latest _ _ _ _ path earliest latest)
 
 faults-on-requires-3 : tie.Need-faults-on-requires-3
@@ -109,10 +110,10 @@ returns-4 c =
     let p = e .before .before .before .before .before in
     let a = p .before .before .before .before .args in
     let path = sym (p .before .before .path-fields .ensures) ∙ ended-told _ (p .ending .given .1) in
-    let earliest = number-told time 32 (a .line) (now (a .s)) _ refl (e .before .before .before .faults-on .ensures) (e .before .before .ranged .ensures) (e .e .given .1) in
-    let latest = number-told time 32 (a .line) (now (a .s)) _ refl (l .before .before .before .faults-on2 .ensures) (l .before .before .ranged2 .ensures) (l .l .given .1) in
+    let earliest = ranged-told 2 3 time 32 (a .line) (now (a .s)) _ refl refl (e .before .before .before .faults-on .ensures) (e .before .before .ranged .ensures) (e .e .given .1) in
+    let latest = ranged-told 2 3 time 32 (a .line) (now (a .s)) _ refl refl (l .before .before .before .faults-on2 .ensures) (l .before .before .ranged2 .ensures) (l .l .given .1) in
     let refused = w .enum-told4 .given .1 in
-    let weighed = number-told weight 32 (a .line) (now (a .s)) _ refl (w .before .before .before .faults-on3 .ensures) (w .before .before .ranged3 .ensures) refused in
+    let weighed = ranged-told 2 3 weight 32 (a .line) (now (a .s)) _ refl refl (w .before .before .before .faults-on3 .ensures) (w .before .before .ranged3 .ensures) refused in
     ended-told _ (c .no-head4 .ensures ∙ c .before .stopped3 .ensures ∙ ap stoppedBy refused) ∙ sym (head-no-weight _ _ _ _ path earliest latest weighed)
 
 returns-5 : tie.Need-returns-5
@@ -123,9 +124,9 @@ returns-5 c =
     let p = e .before .before .before .before .before in
     let a = p .before .before .before .before .args in
     let path = sym (p .before .before .path-fields .ensures) ∙ ended-told _ (p .ending .given .1) in
-    let earliest = number-told time 32 (a .line) (now (a .s)) _ refl (e .before .before .before .faults-on .ensures) (e .before .before .ranged .ensures) (e .e .given .1) in
-    let latest = number-told time 32 (a .line) (now (a .s)) _ refl (l .before .before .before .faults-on2 .ensures) (l .before .before .ranged2 .ensures) (l .l .given .1) in
-    let weighed = number-told weight 32 (a .line) (now (a .s)) _ refl (w .before .before .before .faults-on3 .ensures) (w .before .before .ranged3 .ensures) (w .w .given .1) in
+    let earliest = ranged-told 2 3 time 32 (a .line) (now (a .s)) _ refl refl (e .before .before .before .faults-on .ensures) (e .before .before .ranged .ensures) (e .e .given .1) in
+    let latest = ranged-told 2 3 time 32 (a .line) (now (a .s)) _ refl refl (l .before .before .before .faults-on2 .ensures) (l .before .before .ranged2 .ensures) (l .l .given .1) in
+    let weighed = ranged-told 2 3 weight 32 (a .line) (now (a .s)) _ refl refl (w .before .before .before .faults-on3 .ensures) (w .before .before .ranged3 .ensures) (w .w .given .1) in
     sym (head-got _ _ _ _ path earliest latest weighed)
 
 pub train-head-spec : {M : Type 1} → statement M

@@ -11,10 +11,11 @@ use Rattle.text.specs.Parsed.{Parsed, mapParsed}
 use Rattle.text.specs.Lists.{padded}
 use Rattle.text.specs.Told.{stoppedBy}
 use Rattle.text.specs.LayLaws.{layMany, lay-done}
+use Rattle.text.specs.ToldLaws.{ranged-told}
 use Rattle.line.specs.Record.{noTrain}
 use Rattle.line.specs.File.{Journey, trainLine}
 use Rattle.line.specs.Ranges.{run, stop}
-use Rattle.line.specs.FileLaws.{number-told, ended-told}
+use Rattle.line.specs.FileLaws.{ended-told}
 use Rattle.line.specs.TrainLaws.{layJourney, trainOf, journey-stop-run, journey-stop-stop, journey-step, journey-last-read, journey-last-stop, train-stop-head, train-from, lines-begin, lines-read, lines-stop, head-legs}
 use borrow.Author.Needs.{needs}
 use Rattle.line.proofs.reading.train_lines.Statement.{statement}
@@ -136,8 +137,8 @@ loop-again : tie.Need-loop-again Inv-loop μ-loop Inv-lines μ-lines
 loop-again c =
     let l = c .before .before .before .before .before .before .before .before .before .before .before in
     let m : l .before .legs-between .result - 1 - l .loop .k ≡ suc (l .before .legs-between .result - 1 - (l .loop .k + 1)) = omega (arith, l .loop .inv .1, c .before .before .before .before .before .before .before .before .before .before .loop-test .taken) in
-    let r = number-told run 32 _ _ _ refl (c .before .before .before .before .before .before .before .before .before .faults-on .ensures) (c .before .before .before .before .before .before .before .before .ranged .ensures) (c .before .before .before .before .before .before .r .given .1) in
-    let t = number-told stop 32 _ _ _ refl (c .before .before .before .before .faults-on2 .ensures) (c .before .before .before .ranged2 .ensures) (c .before .t .given .1) in
+    let r = ranged-told 2 3 run 32 _ _ _ refl refl (c .before .before .before .before .before .before .before .before .before .faults-on .ensures) (c .before .before .before .before .before .before .before .before .ranged .ensures) (c .before .before .before .before .before .before .r .given .1) in
+    let t = ranged-told 2 3 stop 32 _ _ _ refl refl (c .before .before .before .before .faults-on2 .ensures) (c .before .before .before .ranged2 .ensures) (c .before .t .given .1) in
     (sym (journey-step _ _ _ _ _ _ _ _ m _ _ r _ _ t) ∙ l .loop .inv .0, omega (arith, m), l .loop .inv .2)
 
 faults-on-requires-3 : tie.Need-faults-on-requires-3 Inv-loop μ-loop Inv-lines μ-lines
@@ -180,7 +181,7 @@ lines-again : tie.Need-lines-again Inv-loop μ-loop Inv-lines μ-lines
 lines-again c =
     let l = c .before .before .before .before .before .before .before in
     let m : l .before .legs-between .result - 1 - l .loop .k ≡ 0 = omega (arith, l .loop .inv .1, c .before .before .before .before .before .before .loop-test .left) in
-    let r = number-told run 10 _ _ _ refl (c .before .before .before .before .before .faults-on3 .ensures) (c .before .before .before .before .ranged3 .ensures) (c .before .before .last .given .1) in
+    let r = ranged-told 2 3 run 10 _ _ _ refl refl (c .before .before .before .before .before .faults-on3 .ensures) (c .before .before .before .before .ranged3 .ensures) (c .before .before .last .given .1) in
     let train = line-yet l _ (journey-last-read _ _ _ _ _ _ _ m _ _ r) in
     (lines-read _ _ _ _ _ _ _ _ (l .before .before .before .before .before .before .before .before .lines .inv .0) (left l) _ _ _ train (c .train-of .ensures), omega (arith, left l))
 
@@ -204,7 +205,7 @@ unfolding padded
 returns-3 c =
     let l = c .before .before .before .before .before .before in
     let m : l .before .legs-between .result - 1 - l .loop .k ≡ suc (l .before .legs-between .result - 1 - (l .loop .k + 1)) = omega (arith, l .loop .inv .1, c .before .before .before .before .before .loop-test .taken) in
-    let r = number-told run 32 _ _ _ refl (c .before .before .before .before .faults-on .ensures) (c .before .before .before .ranged .ensures) (c .before .enum-told2 .given .1) in
+    let r = ranged-told 2 3 run 32 _ _ _ refl refl (c .before .before .before .before .faults-on .ensures) (c .before .before .before .ranged .ensures) (c .before .enum-told2 .given .1) in
     let train = line-yet l _ (journey-stop-run _ _ _ _ _ _ _ _ m _ _ r) in
     lines-stop _ _ _ _ _ _ _ _ (l .before .before .before .before .before .before .before .before .lines .inv .0) (left l) _ _ _ train (ended-told _ (c .stopped .ensures ∙ ap stoppedBy (c .before .enum-told2 .given .1)))
 
@@ -213,8 +214,8 @@ unfolding padded
 returns-4 c =
     let l = c .before .before .before .before .before .before .before .before .before .before .before in
     let m : l .before .legs-between .result - 1 - l .loop .k ≡ suc (l .before .legs-between .result - 1 - (l .loop .k + 1)) = omega (arith, l .loop .inv .1, c .before .before .before .before .before .before .before .before .before .before .loop-test .taken) in
-    let r = number-told run 32 _ _ _ refl (c .before .before .before .before .before .before .before .before .before .faults-on .ensures) (c .before .before .before .before .before .before .before .before .ranged .ensures) (c .before .before .before .before .before .before .r .given .1) in
-    let t = number-told stop 32 _ _ _ refl (c .before .before .before .before .faults-on2 .ensures) (c .before .before .before .ranged2 .ensures) (c .before .enum-told3 .given .1) in
+    let r = ranged-told 2 3 run 32 _ _ _ refl refl (c .before .before .before .before .before .before .before .before .before .faults-on .ensures) (c .before .before .before .before .before .before .before .before .ranged .ensures) (c .before .before .before .before .before .before .r .given .1) in
+    let t = ranged-told 2 3 stop 32 _ _ _ refl refl (c .before .before .before .before .faults-on2 .ensures) (c .before .before .before .ranged2 .ensures) (c .before .enum-told3 .given .1) in
     let train = line-yet l _ (journey-stop-stop _ _ _ _ _ _ _ _ m _ _ r _ _ t) in
     lines-stop _ _ _ _ _ _ _ _ (l .before .before .before .before .before .before .before .before .lines .inv .0) (left l) _ _ _ train (ended-told _ (c .stopped2 .ensures ∙ ap stoppedBy (c .before .enum-told3 .given .1)))
 
@@ -223,7 +224,7 @@ unfolding padded
 returns-5 c =
     let l = c .before .before .before .before .before .before in
     let m : l .before .legs-between .result - 1 - l .loop .k ≡ 0 = omega (arith, l .loop .inv .1, c .before .before .before .before .before .loop-test .left) in
-    let r = number-told run 10 _ _ _ refl (c .before .before .before .before .faults-on3 .ensures) (c .before .before .before .ranged3 .ensures) (c .before .enum-told4 .given .1) in
+    let r = ranged-told 2 3 run 10 _ _ _ refl refl (c .before .before .before .before .faults-on3 .ensures) (c .before .before .before .ranged3 .ensures) (c .before .enum-told4 .given .1) in
     let train = line-yet l _ (journey-last-stop _ _ _ _ _ _ _ m _ _ r) in
     lines-stop _ _ _ _ _ _ _ _ (l .before .before .before .before .before .before .before .before .lines .inv .0) (left l) _ _ _ train (ended-told _ (c .stopped3 .ensures ∙ ap stoppedBy (c .before .enum-told4 .given .1)))
 

@@ -4,8 +4,9 @@ use mathlib.Core.Path.{_∙_, sym, ap, refl}
 use native.Mathlib.Omega.{arith}
 use Rattle.text.specs.ParsedLaws.{ranged-spelt}
 use Rattle.text.specs.Told.{stoppedBy}
+use Rattle.text.specs.ToldLaws.{ranged-told}
 use Rattle.line.specs.File.{answered}
-use Rattle.line.specs.FileLaws.{number-told, ended-told}
+use Rattle.line.specs.FileLaws.{ended-told}
 use Rattle.line.specs.Ranges.{trainCount}
 use Rattle.line.specs.SectionLaws.{section-no-count, section-refused, section-read, refusal, trains-section, trains-more, trains-done}
 use borrow.Author.Needs.{needs}
@@ -38,7 +39,7 @@ refused-requires c κs = search needs
 
 returns : tie.Need-returns
 returns c =
-    let count = number-told trainCount 10 _ _ _ refl (c .before .before .before .before .before .faults-on .ensures) (c .before .before .before .before .ranged .ensures) (c .before .before .enum-told .given .1) in
+    let count = ranged-told 2 3 trainCount 10 _ _ _ refl refl (c .before .before .before .before .before .faults-on .ensures) (c .before .before .before .before .ranged .ensures) (c .before .before .enum-told .given .1) in
     refusal (c .refused .ensures) (c .before .stopped .ensures ∙ ap stoppedBy (c .before .before .enum-told .given .1)) (section-no-count (trains-section _ _ _ _ _) count)
 
 cast-train-lines : tie.Need-cast-train-lines
@@ -52,7 +53,7 @@ add-train-lines-2 c = search needs
 
 train-lines-requires : tie.Need-train-lines-requires
 train-lines-requires c κs =
-    let count = number-told trainCount 10 _ _ _ refl (c .before .before .before .before .faults-on .ensures) (c .before .before .before .ranged .ensures) (c .before .field .given .1) in
+    let count = ranged-told 2 3 trainCount 10 _ _ _ refl refl (c .before .before .before .before .faults-on .ensures) (c .before .before .before .ranged .ensures) (c .before .field .given .1) in
     (ranged-spelt _ _ _ _ _ _ _ _ _ _ (omega arith) count .high, c .before .before .before .before .before .before .pre, omega arith)
 
 enum-known-ending : tie.Need-enum-known-ending
@@ -66,7 +67,7 @@ refused-requires-2 c κs = search needs
 
 returns-2 : tie.Need-returns-2
 returns-2 c =
-    let count = number-told trainCount 10 _ _ _ refl (c .before .before .before .before .before .before .before .before .faults-on .ensures) (c .before .before .before .before .before .before .before .ranged .ensures) (c .before .before .before .before .before .field .given .1) in
+    let count = ranged-told 2 3 trainCount 10 _ _ _ refl refl (c .before .before .before .before .before .before .before .before .faults-on .ensures) (c .before .before .before .before .before .before .before .ranged .ensures) (c .before .before .before .before .before .field .given .1) in
     let lines = sym (c .before .before .before .train-lines .ensures) ∙ ended-told _ (c .before .enum-told2 .given .1) in
     refusal (c .refused2 .ensures) (c .before .enum-told2 .given .1) (section-refused (trains-section _ _ _ _ _) count lines)
 
@@ -87,13 +88,13 @@ refused-requires-3 c κs = search needs
 
 returns-3 : tie.Need-returns-3
 returns-3 c =
-    let count = number-told trainCount 10 _ _ _ refl (c .before .before .before .before .before .before .before .before .before .before .before .faults-on .ensures) (c .before .before .before .before .before .before .before .before .before .before .ranged .ensures) (c .before .before .before .before .before .before .before .before .field .given .1) in
+    let count = ranged-told 2 3 trainCount 10 _ _ _ refl refl (c .before .before .before .before .before .before .before .before .before .before .before .faults-on .ensures) (c .before .before .before .before .before .before .before .before .before .before .ranged .ensures) (c .before .before .before .before .before .before .before .before .field .given .1) in
     let lines = sym (c .before .before .before .before .before .before .train-lines .ensures) ∙ ended-told _ (c .before .before .before .before .ending .given .1) in
     refusal (c .refused3 .ensures) refl (section-read (trains-section _ _ _ _ _) count lines ∙ trains-more _ _ _ _ _ _ _ (c .before .if1 .taken))
 
 returns-4 : tie.Need-returns-4
 returns-4 c =
-    let count = number-told trainCount 10 _ _ _ refl (c .before .before .before .before .before .before .before .before .before .before .before .faults-on .ensures) (c .before .before .before .before .before .before .before .before .before .before .ranged .ensures) (c .before .before .before .before .before .before .before .before .field .given .1) in
+    let count = ranged-told 2 3 trainCount 10 _ _ _ refl refl (c .before .before .before .before .before .before .before .before .before .before .before .faults-on .ensures) (c .before .before .before .before .before .before .before .before .before .before .ranged .ensures) (c .before .before .before .before .before .before .before .before .field .given .1) in
     let lines = sym (c .before .before .before .before .before .before .train-lines .ensures) ∙ ended-told _ (c .before .before .before .before .ending .given .1) in
     sym (ap answered (section-read (trains-section _ _ _ _ _) count lines ∙ trains-done _ _ _ _ _ _ _ (c .before .if1 .left)))
 

@@ -8,7 +8,7 @@ use borrow.Author.Count.{below-none, below-more}
 use borrow.Author.Tests.{not-true, not-false}
 use lib.ListN.{length, length-map}
 use Rattle.text.specs.Below.{EachBelow}
-use Rattle.rules.specs.RulesLaws.{routed}
+use Rattle.rules.specs.PathsLaws.{routed}
 use Rattle.rules.specs.BreachesLaws.{Kept, breach-at, breach-none}
 use Rattle.rules.proofs.rules.train_breach.Statement.{statement}
 use Rattle.rules.proofs.rules.train_breach.Tie as tie

@@ -1,5 +1,4 @@
 -- `timetable::checking::check` meets its contract: a file that is refused, or an accepted one, whose line is within the limits.
-use mathlib.Core.Path.{_≡_}
 use borrow.Author.Needs.{needs}
 use Rattle.timetable.specs.CheckLoops.{file-refused, file-within, file-accepted}
 use Rattle.timetable.proofs.checking.check.Statement.{statement}

@@ -1,5 +1,5 @@
 -- `timetable::checking::check_line` meets its contract: a text that is refused, one whose minutes break a rule, or else what its lists and total give.
-use mathlib.Core.Path.{_≡_, _∙_, sym, ap}
+use mathlib.Core.Path.{_∙_, ap}
 use borrow.Author.Needs.{needs}
 use Rattle.timetable.specs.Check.{verdictOf}
 use Rattle.timetable.specs.Told.{timetableOf}

@@ -1,5 +1,4 @@
 -- `timetable::checking::rest_breach` meets its contract: the lists are judged first, then the total.
-use mathlib.Core.Path.{_≡_, _∙_, sym}
 use borrow.Author.Needs.{needs}
 use Rattle.timetable.specs.CheckLoops.{lists-told, rest-list, rest-none, rest-total}
 use Rattle.timetable.proofs.checking.rest_breach.Statement.{statement}

@@ -7,8 +7,8 @@ use native.Mathlib.Nat.{sub-zero}
 use lib.ListN.{replicate}
 use Rattle.text.specs.LayLaws.{layMany, lay-done, lay-step, lay-stop}
 use Rattle.text.specs.Told.{toldField, stoppedBy}
+use Rattle.text.specs.ToldLaws.{ranged-told}
 use Rattle.line.specs.FileLaws.{ended-told}
-use Rattle.timetable.specs.ReadingLaws.{field-told}
 use Rattle.timetable.specs.ListLaws.{own-within, listPart, list-no-count, list-from}
 use borrow.Author.Needs.{needs}
 use Rattle.timetable.proofs.reading.list_line.Statement.{statement}
@@ -88,7 +88,7 @@ fields-again c =
     let w = c .before .before .before .before .before .before .before .fields in
     let a = c .before .before .before .before .before .before .before .before .before .before .before .before .before .args in
     let count = c .before .before .before .before .before .before .before .before .before .field .given .0 .0 in
-    let number = field-told 1 _ _ _ _ _ (c .before .before .before .before .before .after-field .ensures) (c .before .before .before .before .faults-on .ensures) (c .before .before .before .ranged .ensures) (c .before .number .given .1) in
+    let number = ranged-told 8 9 (record { min = 1; max = _ }) _ _ _ _ refl (c .before .before .before .before .before .after-field .ensures) (c .before .before .before .before .faults-on .ensures) (c .before .before .before .ranged .ensures) (c .before .number .given .1) in
     let m : count - w .k ≡ suc (count - (w .k + 1)) = omega (arith, w .inv .1, c .before .before .before .before .before .before .if1 .left) in
     (sym (lay-step (listPart (a .n) count (a .line)) _ _ _ _ _ _ _ _ m refl _ _ number) ∙ w .inv .0, omega (arith, m), w .inv .2)
 
@@ -107,7 +107,7 @@ returns-3 c =
     let a = c .before .before .before .before .before .before .before .before .before .before .before .before .before .args in
     let count = c .before .before .before .before .before .before .before .before .before .field .given .0 .0 in
     let refused = c .before .enum-told2 .given .1 in
-    let number = field-told 1 _ _ _ _ _ (c .before .before .before .before .before .after-field .ensures) (c .before .before .before .before .faults-on .ensures) (c .before .before .before .ranged .ensures) refused in
+    let number = ranged-told 8 9 (record { min = 1; max = _ }) _ _ _ _ refl (c .before .before .before .before .before .after-field .ensures) (c .before .before .before .before .faults-on .ensures) (c .before .before .before .ranged .ensures) refused in
     let m : count - w .k ≡ suc (count - (w .k + 1)) = omega (arith, w .inv .1, c .before .before .before .before .before .before .if1 .left) in
     let own = sym (c .before .before .before .before .before .before .before .before .before .before .before .own-count .ensures) ∙ ap toldField (c .before .before .before .before .before .before .before .before .before .field .given .1) in
     ended-told _ (c .stopped2 .ensures ∙ ap stoppedBy refused)

@@ -1,8 +1,9 @@
 -- `timetable::reading::read_minutes` meets its contract: refused at the count, or the lines of as many trains as the line has. Assumes nothing.
 use mathlib.Core.Path.{_∙_, sym, ap, refl}
 use Rattle.text.specs.Told.{stoppedBy}
+use Rattle.text.specs.ToldLaws.{ranged-told}
 use Rattle.line.specs.FileLaws.{ended-told}
-use Rattle.timetable.specs.ReadingLaws.{field-told, minutes-no-count, minutes-counted}
+use Rattle.timetable.specs.ReadingLaws.{minutes-no-count, minutes-counted}
 use borrow.Author.Needs.{needs}
 use Rattle.timetable.proofs.reading.read_minutes.Statement.{statement}
 use Rattle.timetable.proofs.reading.read_minutes.Tie as tie
@@ -25,7 +26,7 @@ stopped-requires c κs = search needs
 returns : tie.Need-returns
 returns c =
     let refused = c .before .enum-told .given .1 in
-    let count = field-told _ _ 10 1 _ _ refl (c .before .before .before .before .faults-on .ensures) (c .before .before .before .ranged .ensures) refused in
+    let count = ranged-told 8 9 (record { min = _; max = _ }) 10 1 _ _ refl refl (c .before .before .before .before .faults-on .ensures) (c .before .before .before .ranged .ensures) refused in
     ended-told _ (c .stopped .ensures ∙ ap stoppedBy refused) ∙ sym (minutes-no-count _ _ _ count)
 
 train-lines-requires : tie.Need-train-lines-requires
@@ -33,7 +34,7 @@ train-lines-requires c κs = search needs
 
 returns-2 : tie.Need-returns-2
 returns-2 c =
-    let count = field-told _ _ 10 1 _ _ refl (c .before .before .before .before .before .faults-on .ensures) (c .before .before .before .before .ranged .ensures) (c .before .before .count .given .1) in
+    let count = ranged-told 8 9 (record { min = _; max = _ }) 10 1 _ _ refl refl (c .before .before .before .before .before .faults-on .ensures) (c .before .before .before .before .ranged .ensures) (c .before .before .count .given .1) in
     c .train-lines .ensures ∙ sym (minutes-counted _ _ _ count)
 
 pub read-minutes-spec : {M : Type 1} → statement M

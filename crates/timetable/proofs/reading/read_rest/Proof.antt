@@ -1,15 +1,15 @@
 -- `timetable::reading::read_rest` meets its contract: each refusal is that of the definition at the same place, and the lists and the total are those read.
 use Prim.Native.Nat.{ℕ}
-use mathlib.Core.Path.{_≡_, _∙_, sym, ap, refl}
+use mathlib.Core.Path.{_∙_, sym, ap, refl}
 use mathlib.Core.List.{map}
 use native.Mathlib.Omega.{arith}
 use borrow.Author.Needs.{needs}
 use lib.ListN.{take}
 use Rattle.text.specs.Parsed.{Parsed}
 use Rattle.text.specs.Told.{stoppedBy}
+use Rattle.text.specs.ToldLaws.{ranged-told}
 use Rattle.line.specs.FileLaws.{ended-told}
 use Rattle.rules.specs.Orders.{listed}
-use Rattle.timetable.specs.ReadingLaws.{field-told}
 use Rattle.timetable.specs.RestLaws.{rest-no-count, rest-no-lists, rest-no-total, rest-more, rest-whole}
 use Rattle.timetable.proofs.reading.read_rest.Statement.{statement}
 use Rattle.timetable.proofs.reading.read_rest.Tie as tie
@@ -39,7 +39,7 @@ returns : tie.Need-returns
 returns c =
     let a = c .before .before .before .before .before .before .before .before .args in
     let refused = c .before .before .enum-told .given .1 in
-    let count = field-told _ _ 10 (a .first) _ _ refl (c .before .before .before .before .before .faults-on .ensures) (c .before .before .before .before .ranged .ensures) refused in
+    let count = ranged-told 8 9 (record { min = _; max = _ }) 10 (a .first) _ _ refl refl (c .before .before .before .before .before .faults-on .ensures) (c .before .before .before .before .ranged .ensures) refused in
     ended-told _ (c .no-rest .ensures ∙ c .before .stopped .ensures ∙ ap stoppedBy refused) ∙ sym (rest-no-count _ _ _ _ (c .before .before .before .before .before .before .list-count .ensures .0) count)
 
 cast-count : tie.Need-cast-count
@@ -64,7 +64,7 @@ no-rest-requires-2 c κs = search needs
 returns-2 : tie.Need-returns-2
 returns-2 c =
     let a = c .before .before .before .before .before .before .before .before .before .before .before .args in
-    let count = field-told _ _ 10 (a .first) _ _ refl (c .before .before .before .before .before .before .before .before .faults-on .ensures) (c .before .before .before .before .before .before .before .ranged .ensures) (c .before .before .before .before .before .field .given .1) in
+    let count = ranged-told 8 9 (record { min = _; max = _ }) 10 (a .first) _ _ refl refl (c .before .before .before .before .before .before .before .before .faults-on .ensures) (c .before .before .before .before .before .before .before .ranged .ensures) (c .before .before .before .before .before .field .given .1) in
     let refused = c .before .enum-told2 .given .1 in
     let lists = sym (c .before .before .before .list-lines .ensures) ∙ ended-told _ refused in
     ended-told _ (c .no-rest2 .ensures ∙ refused) ∙ sym (rest-no-lists _ _ _ _ (c .before .before .before .before .before .before .before .before .before .list-count .ensures .0) count lists)
@@ -90,7 +90,7 @@ no-rest-requires-3 c κs = search needs
 returns-3 : tie.Need-returns-3
 returns-3 c =
     let a = c .before .before .before .before .before .before .before .before .before .before .before .before .before .before .before .args in
-    let count = field-told _ _ 10 (a .first) _ _ refl (c .before .before .before .before .before .before .before .before .before .before .before .before .faults-on .ensures) (c .before .before .before .before .before .before .before .before .before .before .before .ranged .ensures) (c .before .before .before .before .before .before .before .before .before .field .given .1) in
+    let count = ranged-told 8 9 (record { min = _; max = _ }) 10 (a .first) _ _ refl refl (c .before .before .before .before .before .before .before .before .before .before .before .before .faults-on .ensures) (c .before .before .before .before .before .before .before .before .before .before .before .ranged .ensures) (c .before .before .before .before .before .before .before .before .before .field .given .1) in
     let lists = sym (c .before .before .before .before .before .before .before .list-lines .ensures) ∙ ended-told _ (c .before .before .before .before .before .ended .given .1) in
     let total = sym (c .before .before .before .number-field .ensures) ∙ c .before .enum-told3 .given .1 in
     ended-told _ (c .no-rest3 .ensures) ∙ sym (rest-no-total _ _ _ _ (c .before .before .before .before .before .before .before .before .before .before .before .before .before .list-count .ensures .0) count lists total)
@@ -107,7 +107,7 @@ no-rest-requires-4 c κs = search needs
 returns-4 : tie.Need-returns-4
 returns-4 c =
     let a = c .before .before .before .before .before .before .before .before .before .before .before .before .before .before .before .before .before .before .args in
-    let count = field-told _ _ 10 (a .first) _ _ refl (c .before .before .before .before .before .before .before .before .before .before .before .before .before .before .before .faults-on .ensures) (c .before .before .before .before .before .before .before .before .before .before .before .before .before .before .ranged .ensures) (c .before .before .before .before .before .before .before .before .before .before .before .before .field .given .1) in
+    let count = ranged-told 8 9 (record { min = _; max = _ }) 10 (a .first) _ _ refl refl (c .before .before .before .before .before .before .before .before .before .before .before .before .before .before .before .faults-on .ensures) (c .before .before .before .before .before .before .before .before .before .before .before .before .before .before .ranged .ensures) (c .before .before .before .before .before .before .before .before .before .before .before .before .field .given .1) in
     let lists = sym (c .before .before .before .before .before .before .before .before .before .before .list-lines .ensures) ∙ ended-told _ (c .before .before .before .before .before .before .before .before .ended .given .1) in
     let total = sym (c .before .before .before .before .before .before .number-field .ensures) ∙ c .before .before .before .before .total .given .1 in
     ended-told _ (c .no-rest4 .ensures) ∙ sym (rest-more _ _ _ _ (c .before .before .before .before .before .before .before .before .before .before .before .before .before .before .before .before .list-count .ensures .0) count lists total (c .before .if1 .taken))
@@ -116,7 +116,7 @@ returns-5 : tie.Need-returns-5
 returns-5 c =
     let a = c .before .before .before .before .before .before .before .before .before .before .before .before .before .before .before .before .before .before .args in
     let own = c .before .before .before .before .before .before .before .before .before .before .before .before .before .before .before .before .list-count .ensures .0 in
-    let count = field-told _ _ 10 (a .first) _ _ refl (c .before .before .before .before .before .before .before .before .before .before .before .before .before .before .before .faults-on .ensures) (c .before .before .before .before .before .before .before .before .before .before .before .before .before .before .ranged .ensures) (c .before .before .before .before .before .before .before .before .before .before .before .before .field .given .1) in
+    let count = ranged-told 8 9 (record { min = _; max = _ }) 10 (a .first) _ _ refl refl (c .before .before .before .before .before .before .before .before .before .before .before .before .before .before .before .faults-on .ensures) (c .before .before .before .before .before .before .before .before .before .before .before .before .before .before .ranged .ensures) (c .before .before .before .before .before .before .before .before .before .before .before .before .field .given .1) in
     let lists = sym (c .before .before .before .before .before .before .before .before .before .before .list-lines .ensures) ∙ ended-told _ (c .before .before .before .before .before .before .before .before .ended .given .1) in
     let total = sym (c .before .before .before .before .before .before .number-field .ensures) ∙ c .before .before .before .before .total .given .1 in
     ap (λ (k : ℕ). Parsed.got (record { lists = map listed (take k (c .before .before .before .before .before .before .before .before .before .before .list-lines .result .lists)); total = c .before .before .before .before .total .given .0 .0 }) (c .before .before .before .before .total .given .0 .1 .0)) (sym own)

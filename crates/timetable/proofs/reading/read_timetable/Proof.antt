@@ -1,5 +1,5 @@
 -- `timetable::reading::read_timetable` meets its contract: refused for its length or in its first part, or else what the second part gives.
-use mathlib.Core.Path.{_≡_, _∙_, sym}
+use mathlib.Core.Path.{_∙_, sym}
 use native.Mathlib.Omega.{arith}
 use borrow.Author.Needs.{needs}
 use Rattle.line.specs.FileLaws.{ended-told}

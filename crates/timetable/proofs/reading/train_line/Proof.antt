@@ -6,10 +6,11 @@ use native.Mathlib.Omega.{arith}
 use native.Mathlib.Nat.{sub-zero}
 use denote.Ref.{now}
 use Rattle.text.specs.Told.{stoppedBy}
+use Rattle.text.specs.ToldLaws.{ranged-told}
 use Rattle.line.specs.Record.{legsOf}
 use Rattle.line.specs.FileLaws.{ended-told}
 use Rattle.timetable.specs.Reading.{afterField, legsAt}
-use Rattle.timetable.specs.ReadingLaws.{field-told, legs-done, legs-no-departure, legs-no-arrival, legs-step}
+use Rattle.timetable.specs.ReadingLaws.{legs-done, legs-no-departure, legs-no-arrival, legs-step}
 use borrow.Author.Needs.{needs}
 use Rattle.timetable.proofs.reading.train_line.Statement.{statement}
 use Rattle.timetable.proofs.reading.train_line.Tie as tie
@@ -111,8 +112,8 @@ fields-again c =
     let a = c .before .before .before .before .before .before .before .before .before .before .before .before .before .before .before .before .args in
     let legs = c .before .before .before .before .before .before .before .before .before .before .before .before .before .before .legs-between .result in
     let k : legs - w .j ≡ suc (legs - (w .j + 1)) = omega (arith, w .inv .1, c .before .before .before .before .before .before .before .before .before .before .before .before .if1 .left) in
-    let departure = field-told 0 2879 32 (a .line) (now (a .s)) _ refl (c .before .before .before .before .before .before .before .before .before .before .before .faults-on .ensures) (c .before .before .before .before .before .before .before .before .before .before .ranged .ensures) (c .before .before .before .before .before .before .before .before .d .given .1) in
-    let arrival = field-told 0 2879 (afterField (legs - (w .j + 1))) (a .line) (now (a .s)) _ (c .before .before .before .before .before .before .after-field .ensures) (c .before .before .before .before .before .faults-on2 .ensures) (c .before .before .before .before .ranged2 .ensures) (c .before .before .a .given .1) in
+    let departure = ranged-told 8 9 (record { min = 0; max = 2879 }) 32 (a .line) (now (a .s)) _ refl refl (c .before .before .before .before .before .before .before .before .before .before .before .faults-on .ensures) (c .before .before .before .before .before .before .before .before .before .before .ranged .ensures) (c .before .before .before .before .before .before .before .before .d .given .1) in
+    let arrival = ranged-told 8 9 (record { min = 0; max = 2879 }) (afterField (legs - (w .j + 1))) (a .line) (now (a .s)) _ refl (c .before .before .before .before .before .before .after-field .ensures) (c .before .before .before .before .before .faults-on2 .ensures) (c .before .before .before .before .ranged2 .ensures) (c .before .before .a .given .1) in
     (sym (legs-step _ _ _ _ _ _ _ _ _ k departure _ arrival (c .segment-between .ensures .0)) ∙ w .inv .0, omega (arith, k))
 
 returns : tie.Need-returns Inv-fields μ-fields
@@ -129,7 +130,7 @@ returns-2 c =
     let legs = c .before .before .before .before .before .before .before .legs-between .result in
     let k : legs - w .j ≡ suc (legs - (w .j + 1)) = omega (arith, w .inv .1, c .before .before .before .before .before .if1 .left) in
     let refused = c .before .enum-told .given .1 in
-    let departure = field-told 0 2879 32 (a .line) (now (a .s)) _ refl (c .before .before .before .before .faults-on .ensures) (c .before .before .before .ranged .ensures) refused in
+    let departure = ranged-told 8 9 (record { min = 0; max = 2879 }) 32 (a .line) (now (a .s)) _ refl refl (c .before .before .before .before .faults-on .ensures) (c .before .before .before .ranged .ensures) refused in
     ended-told _ (c .stopped .ensures ∙ ap stoppedBy refused) ∙ sym (legs-no-departure _ _ _ _ _ _ _ _ _ k departure) ∙ w .inv .0
 
 returns-3 : tie.Need-returns-3 Inv-fields μ-fields
@@ -139,8 +140,8 @@ returns-3 c =
     let legs = c .before .before .before .before .before .before .before .before .before .before .before .before .before .legs-between .result in
     let k : legs - w .j ≡ suc (legs - (w .j + 1)) = omega (arith, w .inv .1, c .before .before .before .before .before .before .before .before .before .before .before .if1 .left) in
     let refused = c .before .enum-told2 .given .1 in
-    let departure = field-told 0 2879 32 (a .line) (now (a .s)) _ refl (c .before .before .before .before .before .before .before .before .before .before .faults-on .ensures) (c .before .before .before .before .before .before .before .before .before .ranged .ensures) (c .before .before .before .before .before .before .before .d .given .1) in
-    let arrival = field-told 0 2879 (afterField (legs - (w .j + 1))) (a .line) (now (a .s)) _ (c .before .before .before .before .before .after-field .ensures) (c .before .before .before .before .faults-on2 .ensures) (c .before .before .before .ranged2 .ensures) refused in
+    let departure = ranged-told 8 9 (record { min = 0; max = 2879 }) 32 (a .line) (now (a .s)) _ refl refl (c .before .before .before .before .before .before .before .before .before .before .faults-on .ensures) (c .before .before .before .before .before .before .before .before .before .ranged .ensures) (c .before .before .before .before .before .before .before .d .given .1) in
+    let arrival = ranged-told 8 9 (record { min = 0; max = 2879 }) (afterField (legs - (w .j + 1))) (a .line) (now (a .s)) _ refl (c .before .before .before .before .before .after-field .ensures) (c .before .before .before .before .faults-on2 .ensures) (c .before .before .before .ranged2 .ensures) refused in
     ended-told _ (c .stopped2 .ensures ∙ ap stoppedBy refused) ∙ sym (legs-no-arrival _ _ _ _ _ _ _ _ _ k departure arrival) ∙ w .inv .0
 
 pub train-line-spec : {M : Type 1} → statement M

@@ -6,7 +6,7 @@ use native.Mathlib.Omega.{arith}
 use native.Mathlib.Nat.{sub-zero}
 use lib.ListN.{length, length-map, replicate}
 use Rattle.line.specs.FileLaws.{ended-told}
-use Rattle.rules.specs.RulesLaws.{routed}
+use Rattle.rules.specs.PathsLaws.{routed}
 use Rattle.timetable.specs.Reading.{trainsAt}
 use Rattle.timetable.specs.ReadingLaws.{trains-done, trains-refused, trains-step}
 use borrow.Author.Needs.{needs}

@@ -1,0 +1,1 @@
+// The least minutes under a set of choices. Its mathematics is in specs/.

@@ -1,0 +1,1 @@
+// The search for the best timetable. Its mathematics is in specs/.
