@@ -13,7 +13,7 @@ use Rattle.orders.specs.SettleLaws.{Raises}
 use Rattle.orders.specs.Arcs.{Arc, KeepsArc, KeepsArcs, AllIn, due, pull, pullAll}
 
 -- an entry after a store is the old one, or the one stored
-stored : (m : List ℕ) (i v e : ℕ) → (getD (set m i v) e 0 ≡ getD m e 0) ⊎ ((e ≡ i) × (getD (set m i v) e 0 ≡ v))
+pub stored : (m : List ℕ) (i v e : ℕ) → (getD (set m i v) e 0 ≡ getD m e 0) ⊎ ((e ≡ i) × (getD (set m i v) e 0 ≡ v))
 stored [] i v e = inl refl
 stored (x ∷ m) zero v zero = inr (refl, refl)
 stored (x ∷ m) zero v (suc e) = inl refl

@@ -1,14 +1,16 @@
 -- Laws of bits and changed entries, and the bits of a mask that is a sum of powers.
 use Prim.Native.Nat.{ℕ, zero, suc, _+_, _*_, _/_, _%_, _^_, _≤_, _<_}
-use mathlib.Core.Path.{_≡_, refl, _∙_, ap}
+use mathlib.Core.Path.{_≡_, refl, sym, _∙_, ap}
 use mathlib.Core.Logic.{_⊎_, inl, inr, ⊎-elim}
 use mathlib.Core.Bool.{Bool, true, false, cond}
 use mathlib.Core.List.{List, [], _∷_}
-use native.Mathlib.Nat.{pow-succ'}
+use native.Mathlib.Nat.{div-div-eq-div-mul, pow-succ'}
 use native.Mathlib.Omega.{arith}
-use lib.ListN.{getD}
+use lib.Bits.{bitOr, or-step, or-zero-r}
+use lib.ListN.{length, getD, set}
 use lib.Dec.{eqb}
 use Rattle.text.specs.Below.{sum, one-most}
+use Rattle.text.specs.Decide.{decides-eq, is-true, is-false}
 use Rattle.orders.specs.Bits.{bit, inMask, withBit, change}
 
 pub bit-zero : (j : ℕ) → bit j 0 ≡ 0
@@ -33,6 +35,39 @@ bit-other (suc j) zero x n = omega arith
 bit-other (suc j) (suc k) x n =
     let e : (withBit j (x / 2) * 2 + x % 2) / 2 ≡ withBit j (x / 2) = omega arith in
     rw e (bit-other j k (x / 2) (λ q. n (ap suc q)))
+
+-- ---- as a program writes them: `(x >> j) % 2`, and `x | (1 << j)`
+
+pub bit-shift : (j x : ℕ) → bit j x ≡ x / 2 ^ j % 2
+unfolding bit
+bit-shift zero x = omega arith
+bit-shift (suc j) x =
+    bit-shift j (x / 2) ∙ ap (λ (y : ℕ). y % 2) (div-div-eq-div-mul x 2 (2 ^ j) ∙ ap (λ (n : ℕ). x / n) (sym (pow-succ' 2 j)))
+
+pub withBit-or : (j x : ℕ) → withBit j x ≡ bitOr x (2 ^ j)
+unfolding withBit
+withBit-or zero x = omega (arith, or-step x 1, or-zero-r (x / 2))
+withBit-or (suc j) x =
+    let e : 2 ^ suc j / 2 ≡ 2 ^ j = omega (arith, pow-succ' 2 j) in
+    let f : 2 ^ suc j % 2 ≡ 0 = omega (arith, pow-succ' 2 j) in
+    omega (arith, or-step x (2 ^ suc j), ap (bitOr (x / 2)) e, withBit-or j (x / 2))
+
+-- where the entry is there, a change is a store: what a program does to its array
+pub change-set : (f : ℕ → ℕ) (e : ℕ) (p : List ℕ) → e < length p → change f e p ≡ set p e (f (getD p e 0))
+unfolding change
+change-set f e [] l = absurd (omega arith)
+change-set f zero (x ∷ p) l = refl
+change-set f (suc e) (x ∷ p) l = ap (λ (q : List ℕ). x ∷ q) (change-set f e p (omega arith))
+
+-- the test of a bit
+pub mask-on : (x j : ℕ) → x / 2 ^ j % 2 ≡ 1 → inMask x j ≡ true
+mask-on x j p = is-true (decides-eq (bit j x) 1) (bit-shift j x ∙ p)
+
+pub on-mask : (x j : ℕ) → inMask x j ≡ true → x / 2 ^ j % 2 ≡ 1
+on-mask x j p = sym (bit-shift j x) ∙ decides-eq (bit j x) 1 .yea p
+
+pub mask-none : (x j : ℕ) → x ≡ 0 → inMask x j ≡ false
+mask-none x j p = is-false (decides-eq (bit j x) 1) (λ q. omega (arith, bit-zero j, ap (bit j) p))
 
 -- ---- a mask of those below n that pass a test, as a sum
 

@@ -1,1 +1,6 @@
-// The least minutes under a set of choices. Its mathematics is in specs/.
+// The least minutes under a set of choices.
+pub mod arcs;
+pub mod first;
+pub mod raising;
+pub mod tables;
+pub mod times;

@@ -11,6 +11,7 @@ use Rattle.line.specs.declared.Segment.{Segment}
 use Rattle.line.specs.declared.Line.{Line}
 use Rattle.line.specs.Record.{noSegment}
 use Rattle.rules.specs.declared.conflicts.Conflict.{Conflict}
+use Rattle.rules.specs.declared.conflicts.Layout.{Layout}
 use Rattle.rules.specs.declared.conflicts.Passage.{Passage}
 use Rattle.rules.specs.declared.conflicts.Stay.{Stay}
 use Rattle.rules.specs.declared.conflicts.TrainFound.{TrainFound}
@@ -131,3 +132,12 @@ unfoldable pub conflictOf : Line → List ℕ → Conflict
 conflictOf l m =
     orConflict (segmentConflict (l .segments) (directionsOf l) m (segmentCount l) (l .«train_count»))
     (stationConflict (l .tracks) (directionsOf l) m (l .«station_count») (l .«train_count»))
+
+-- the same by what the scan looks at, and by a table of directions
+abbrev pub layoutOf : Line → Layout
+layoutOf l = record { stations = l .«station_count»; trains = l .«train_count»; segments = l .segments; tracks = l .tracks }
+
+unfoldable pub conflictIn : Layout → List ℕ → List ℕ → Conflict
+conflictIn y ds m =
+    orConflict (segmentConflict (y .segments) ds m (y .stations - 1) (y .trains))
+    (stationConflict (y .tracks) ds m (y .stations) (y .trains))

@@ -13,12 +13,14 @@ use Rattle.text.specs.Decide.{Decides, is-true, is-false, decides-and, decides-
 use Rattle.text.specs.Below.{EachBelow, first-found, first-none}
 use Rattle.line.specs.declared.Kind.{Kind}
 use Rattle.line.specs.declared.Segment.{Segment}
+use Rattle.line.specs.declared.Line.{Line}
 use Rattle.line.specs.Record.{noSegment}
 use Rattle.rules.specs.declared.conflicts.Conflict.{Conflict}
+use Rattle.rules.specs.declared.conflicts.Layout.{Layout}
 use Rattle.rules.specs.declared.conflicts.Passage.{Passage}
 use Rattle.rules.specs.declared.conflicts.TrainFound.{TrainFound}
-use Rattle.rules.specs.Directions.{way}
-use Rattle.rules.specs.Conflicts.{orConflict, firstConflict, gapBy, passage, keepsAfter, neitherFirst, clash, trainFound, partnerOf, pairWith, pairOn, segmentConflict}
+use Rattle.rules.specs.Directions.{directionsOf, way}
+use Rattle.rules.specs.Conflicts.{orConflict, firstConflict, gapBy, passage, keepsAfter, neitherFirst, clash, trainFound, partnerOf, pairWith, pairOn, segmentConflict, conflictOf, layoutOf, conflictIn}
 
 -- ---- a search: nothing among the first i, and then at i nothing, or the conflict x
 
@@ -148,3 +150,13 @@ module _ (gs : List Segment) (ds m : List ℕ) (n : ℕ) where
   pub segment-none : (segments p : ℕ) → p ≡ segments → NoSegment p → Conflict.Nothing ≡ segmentConflict gs ds m segments n
   unfolding segmentConflict
   segment-none segments p q e = sym e ∙ ap (firstConflict (λ k. pairOn (getD gs k noSegment) ds m n k)) q
+
+-- ---- by the layout of a line and its table of directions
+
+pub conflict-in : (l : Line) (m : List ℕ) → conflictIn (layoutOf l) (directionsOf l) m ≡ conflictOf l m
+unfolding conflictIn conflictOf
+conflict-in l m = refl
+
+-- for the code, which makes both first
+pub conflict-told : (l : Line) (m ds : List ℕ) (y : Layout) (x : Conflict) → y ≡ layoutOf l → ds ≡ directionsOf l → x ≡ conflictIn y ds m → x ≡ conflictOf l m
+conflict-told l m ds y x e f h = h ∙ ap₂ (λ (y : Layout) (ds : List ℕ). conflictIn y ds m) e f ∙ conflict-in l m

@@ -101,6 +101,10 @@ filled-all l t k h q =
 
 -- ---- what an entry says of the train's path
 
+pub way-past : (l : Line) (e : ℕ) → e < 176 → l .«train_count» ≤ e % 16 → getD (directionsOf l) e 0 ≡ 0
+unfolding directionsOf
+way-past l e b h = table-at (directionEntry l) 176 e b ∙ entry-past l e h
+
 module _ (l : Line) (few : l .«train_count» ≤ 12) (p : ℕ) (short : p < 11) where
   pub way-is : (i : ℕ) → i < l .«train_count» → way (directionsOf l) p i ≡ directionBetween (train l i .origin) (train l i .destination) p
   unfolding directionsOf

@@ -89,7 +89,7 @@ module _ (t : Train) (r : Routed t) where
       back : (o d x : ℕ) → 1 ≤ d → d + k < o → x + k + 2 ≡ o → (min (o - 1) (d - 1) ≤ x) × (x < max (o - 1) (d - 1))
       back o d x low far e = (omega arith, omega arith)
 
-  uses-few : (p : ℕ) → Uses t p → p < 11
+  pub uses-few : (p : ℕ) → Uses t p → p < 11
   uses-few p u = omega (arith, u .1, r .origin .1, r .destination .1)
 
   pub segment-below : (k : ℕ) → k < legsOf t → segmentOf t k < 11

@@ -5,6 +5,7 @@ use mathlib.Core.Logic.{⊎-elim}
 use mathlib.Core.Bool.{Bool}
 use mathlib.Core.List.{List}
 use native.Mathlib.Nat.{mul-zero, mul-le-mul}
+use native.Mathlib.Numerals.{add-one}
 use native.Mathlib.Omega.{arith}
 use borrow.Author.Tests.{eq-eqb, ne-eqb}
 use lib.ListN.{getD}
@@ -27,6 +28,11 @@ use Rattle.rules.specs.Tests.{departureOf, arrivalOf, startsRight, runsR
 pub free-start : (t : Train) {x y : ℕ} → x ≡ t .earliest → y ≡ getD (t .runs) 0 0 → x + y ≡ freeAfter t 0
 unfolding freeAfter
 free-start t e r = omega (arith, e, r)
+
+-- the stop after leg k and the run over the next
+pub free-next : (t : Train) (k : ℕ) → freeAfter t (k + 1) ≡ freeAfter t k + getD (t .stops) k 0 + getD (t .runs) (k + 1) 0
+unfolding freeAfter
+free-next t k = rw add-one refl
 
 -- the stop after leg k - 1 and the run over leg k
 pub free-step : (t : Train) (k : ℕ) {a x y : ℕ} {runs stops : List ℕ} → 1 ≤ k → runs ≡ t .runs → stops ≡ t .stops → a ≡ freeAfter t (k - 1) → x ≡ getD stops (k - 1) 0 → y ≡ getD runs k 0 → a + x + y ≡ freeAfter t (k + 1 - 1)

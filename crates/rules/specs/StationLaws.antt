@@ -18,12 +18,12 @@ use Rattle.text.specs.Below.{EachBelow, each-more, first-found, first-none, non
 use Rattle.text.specs.BelowLaws.{table-size}
 use Rattle.line.specs.declared.Line.{Line}
 use Rattle.rules.specs.declared.conflicts.Conflict.{Conflict}
+use Rattle.rules.specs.declared.conflicts.Layout.{Layout}
 use Rattle.rules.specs.declared.conflicts.Stay.{Stay}
 use Rattle.rules.specs.declared.conflicts.MinuteFound.{MinuteFound}
-use Rattle.rules.specs.Paths.{segmentCount}
 use Rattle.rules.specs.Minutes.{departsOn, arrivesOn}
 use Rattle.rules.specs.Directions.{directionEntry, directionsOf, way, on}
-use Rattle.rules.specs.Conflicts.{orConflict, firstConflict, cameTo, leavesFrom, stay, standsIn, standsAt, standingAt, minuteFound, earliestCrowd, inCrowd, crowdMask, crowdAt, crowdOn, stationConflict, segmentConflict, conflictOf}
+use Rattle.rules.specs.Conflicts.{orConflict, firstConflict, cameTo, leavesFrom, stay, standsIn, standsAt, standingAt, minuteFound, earliestCrowd, inCrowd, crowdMask, crowdAt, crowdOn, stationConflict, segmentConflict, conflictIn}
 use Rattle.rules.specs.ConflictsLaws.{conflict-start, conflict-on, conflict-hit}
 use Rattle.rules.specs.Standing.{crowd-arrives}
 
@@ -221,11 +221,11 @@ pub directions-size : (l : Line) (ds : List ℕ) → ds ≡ directionsOf l → l
 unfolding directionsOf
 directions-size l ds e = ap length e ∙ table-size (directionEntry l) 176
 
-module _ (l : Line) (ds m : List ℕ) (segments : ℕ) (x : Conflict) (e : ds ≡ directionsOf l) (q : segments ≡ segmentCount l) where
-  pub lowest-segment : x ≡ segmentConflict (l .segments) ds m segments (l .«train_count») → ((c : Conflict) → orConflict x c ≡ x) → x ≡ conflictOf l m
-  unfolding conflictOf
-  lowest-segment h k = rw (← e, ← q, ← h) (sym (k _))
+module _ (y : Layout) (ds m : List ℕ) (x : Conflict) (e : x ≡ segmentConflict (y .segments) ds m (y .stations - 1) (y .trains)) where
+  pub lowest-segment : ((c : Conflict) → orConflict x c ≡ x) → x ≡ conflictIn y ds m
+  unfolding conflictIn
+  lowest-segment k = rw (← e) (sym (k _))
 
-  pub lowest-station : (r : Conflict) → x ≡ segmentConflict (l .segments) ds m segments (l .«train_count») → x ≡ Conflict.Nothing → r ≡ stationConflict (l .tracks) ds m (l .«station_count») (l .«train_count») → r ≡ conflictOf l m
-  unfolding conflictOf
-  lowest-station r h k f = rw (← e, ← q, ← h, k) f
+  pub lowest-station : (r : Conflict) → x ≡ Conflict.Nothing → r ≡ stationConflict (y .tracks) ds m (y .stations) (y .trains) → r ≡ conflictIn y ds m
+  unfolding conflictIn
+  lowest-station r k f = rw (← e, k) f

@@ -4,8 +4,7 @@ ghost use Prim.Native.Nat.{ℕ, _+_, _*_, _≤_, _<_};
 ghost use lib.ListN.{length};
 ghost use lib.Dec.{leb};
 ghost use Rattle.rules.specs.Minutes.{departsOn, arrivesOn};
-ghost use Rattle.rules.specs.Directions.{directionsOf};
-ghost use Rattle.rules.specs.Conflicts.{keepsAfter, neitherFirst, passage, partnerOf, pairOn, segmentConflict, stay, standsIn, standingAt, earliestCrowd, crowdMask, crowdAt, stationConflict, conflictOf};
+ghost use Rattle.rules.specs.Conflicts.{keepsAfter, neitherFirst, passage, partnerOf, pairOn, segmentConflict, stay, standsIn, standingAt, earliestCrowd, crowdMask, crowdAt, stationConflict, layoutOf, conflictIn};
 use crate::directions::way_on;
 use line::Kind;
 use line::Line;
@@ -336,18 +335,37 @@ pub fn station_conflict(
     Conflict::Nothing
 }
 
-// The lowest conflict of the minutes of a line within the limits, by its table of directions.
-pub fn lowest_conflict(line: Line, ds: &[u16], m: &[u16]) -> Conflict
-    requires { ⌜ (now ds ≡ directionsOf line) × (length (now m) ≡ 352) × (2 ≤ line .«station_count») × (line .«station_count» ≤ 12) × (line .«train_count» ≤ 12) ⌝ }
-    ensures { λ r. ⌜ r ≡ conflictOf line (now (m .entry)) ⌝ }
+// What of a line the scan looks at: how many stations and trains there are, the segments, and the tracks of the stations.
+pub struct Layout {
+    pub stations: usize,
+    pub trains: usize,
+    pub segments: [Segment; 11],
+    pub tracks: [u16; 12],
+}
+
+pub fn layout_of(line: Line) -> Layout
+    ensures { λ r. ⌜ r ≡ layoutOf line ⌝ }
 {
-    let stations = line.station_count as usize;
-    let n = line.train_count as usize;
     let segments = line.segments;
-    let found = segment_conflict(segments, ds, m, stations - 1, n);
+    let tracks = line.tracks;
+    Layout {
+        stations: line.station_count as usize,
+        trains: line.train_count as usize,
+        segments,
+        tracks,
+    }
+}
+
+// The lowest conflict of the minutes of a line within the limits, by its layout and its table of directions.
+pub fn lowest_conflict(layout: Layout, ds: &[u16], m: &[u16]) -> Conflict
+    requires { ⌜ (length (now ds) ≡ 176) × (length (now m) ≡ 352) × (2 ≤ layout .stations) × (layout .stations ≤ 12) × (layout .trains ≤ 12) ⌝ }
+    ensures { λ r. ⌜ r ≡ conflictIn layout (now (ds .entry)) (now (m .entry)) ⌝ }
+{
+    let segments = layout.segments;
+    let found = segment_conflict(segments, ds, m, layout.stations - 1, layout.trains);
     let Conflict::Nothing = found else {
         return found;
     };
-    let tracks = line.tracks;
-    station_conflict(tracks, ds, m, stations, n)
+    let tracks = layout.tracks;
+    station_conflict(tracks, ds, m, layout.stations, layout.trains)
 }

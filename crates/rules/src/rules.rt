@@ -10,6 +10,7 @@ ghost use Rattle.rules.specs.Breaches.{trainBreach, placeOf, conflictBre
 use crate::conflicts::Conflict;
 use crate::conflicts::arrives_on;
 use crate::conflicts::departs_on;
+use crate::conflicts::layout_of;
 use crate::conflicts::lowest_conflict;
 use crate::conflicts::wide;
 use crate::directions::directions_of;
@@ -157,5 +158,5 @@ pub fn breach_of(line: Line, m: &[u16]) -> Breach
         return late;
     };
     let directions = directions_of(line);
-    conflict_breach(lowest_conflict(line, &directions, m))
+    conflict_breach(lowest_conflict(layout_of(line), &directions, m))
 }

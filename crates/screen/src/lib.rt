@@ -4,10 +4,12 @@ ghost use mathlib.Core.Path.{_≡_};
 ghost use Rattle.line.specs.File.{lineFile, answered};
 ghost use Rattle.screen.specs.Packing.{packed, packedAnswer, packedVerdict, packedWritten};
 ghost use Rattle.screen.specs.Rewriting.{Rewritten};
+ghost use Rattle.screen.specs.Solved.{Solved};
 ghost use Rattle.timetable.specs.Check.{checkOf};
 use line::Answer;
 use line::reading::read;
 use line::writing::write;
+use solver::solving::solve;
 use text::Written;
 use timetable::checking::Verdict;
 use timetable::checking::check;
@@ -66,4 +68,12 @@ pub extern "C" fn gaugeviolet_check(file: &[u8], timetable: &[u8]) -> u64
         Verdict::Passed => 0,
         Verdict::Refused(number, place) => pack(number, place),
     }
+}
+
+// Solves a line file: the length of its best timetable's text, written to the front of the lent bytes; or a refusal and no byte changed.
+#[no_mangle]
+pub extern "C" fn gaugeviolet_solve(file: &[u8], out: &mut [u8]) -> u64
+    ensures { λ r. ⌜ Solved (now (file .entry)) (now (out .entry)) (now (out .exit)) r ⌝ }
+{
+    pack_written(solve(file, out))
 }

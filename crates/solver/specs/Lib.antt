@@ -1,6 +1,7 @@
 -- The mathematics of the search: its modules, definitions before their laws.
 pub mod Ranking
 pub mod Problem
+pub mod ProblemLaws
 pub mod Walk
 pub mod Ways
 pub mod Planning
@@ -15,3 +16,20 @@ pub mod PlanningLaws
 pub mod PreferredLaws
 pub mod TidyMinutesLaws
 pub mod Solved
+pub mod Tallies
+pub mod WaysTold
+pub mod Keys
+pub mod KeysLaws
+pub mod WaysToldLaws
+pub mod Taking
+pub mod TakingLaws
+pub mod ChoosingLaws
+pub mod NextPlansLaws
+pub mod WalksLaws
+pub mod TryingLaws
+pub mod GivenLaws
+pub mod Finding
+pub mod FindingLaws
+pub mod Solving
+pub mod SolvingLaws
+pub mod Demand

@@ -54,7 +54,7 @@ module _ (l : Line) where
 -- ---- the departures, by train and leg
 
 module _ (l : Line) where
-  decides-leg : (i k : ℕ) → Decides ((i < l .«train_count») × (k < legs l i)) (isLeg l i k)
+  pub decides-leg : (i k : ℕ) → Decides ((i < l .«train_count») × (k < legs l i)) (isLeg l i k)
   unfolding isLeg
   decides-leg i k = decides-and (decides-lt _ _) (decides-lt _ _)
 

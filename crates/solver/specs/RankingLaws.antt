@@ -1,13 +1,13 @@
--- Laws of the ranking: it is transitive and total, the test decides it, and what is nowhere later is not ranked behind.
+-- Laws of the ranking: it is transitive and total, the test decides it, what is nowhere later is not ranked behind, and how a loop does the test.
 use Prim.Native.Nat.{ℕ, zero, suc, _+_, _≤_, _<_}
-use mathlib.Core.Path.{_≡_, refl, sym}
+use mathlib.Core.Path.{_≡_, refl, sym, ap}
 use mathlib.Core.Bool.{Bool, true, false, cond, false≢true}
-use mathlib.Core.List.{List}
+use mathlib.Core.List.{List, _∷_}
 use native.Mathlib.Decide.{decLe, decLt}
 use native.Mathlib.Omega.{arith}
 use lib.ListN.{length, getD, List·getD-eq-default}
 use lib.Dec.{ltb, eqb}
-use borrow.Author.Tests.{ltb-true, ltb-false, eqb-true, eqb-false}
+use borrow.Author.Tests.{ltb-true, ltb-false, eqb-true, eqb-false, eq-eqb, ne-eqb}
 use Rattle.orders.specs.NoLater.{_⊑_}
 use Rattle.solver.specs.Ranking.{Alike, Ahead, aheadFrom, ahead}
 
@@ -104,3 +104,24 @@ later-ahead a b c h p = go (ahead a c) refl (ahead c a) refl
     go true s y t = ahead-true a c s
     go false s true t = absurd (ahead-not-later a b h (ahead-trans b c a p (ahead-true c a t)))
     go false s false t = absurd (ahead-not-later c b (λ e. omega (arith, h e, ahead-total a c (ahead-false a c s) (ahead-false c a t) e)) p)
+
+-- ---- the test, entry by entry, as a loop goes on with it
+
+module _ (n i : ℕ) (a b : List ℕ) where
+  pub from-apart : (getD a i 0 ≡ getD b i 0 → ⊥) → ltb (getD a i 0) (getD b i 0) ≡ aheadFrom (suc n) i a b
+  unfolding aheadFrom
+  from-apart h = rw (ne-eqb (getD a i 0) (getD b i 0) h) refl
+
+  pub from-alike : getD a i 0 ≡ getD b i 0 → aheadFrom n (suc i) a b ≡ aheadFrom (suc n) i a b
+  unfolding aheadFrom
+  from-alike h = rw (eq-eqb (getD a i 0) (getD b i 0) h) refl
+
+from-rest : (n i x y : ℕ) (a b : List ℕ) → aheadFrom n (suc i) (x ∷ a) (y ∷ b) ≡ aheadFrom n i a b
+unfolding aheadFrom
+from-rest zero i x y a b = refl
+from-rest (suc n) i x y a b =
+    ap (λ (t : Bool). cond (eqb (getD a i 0) (getD b i 0)) t (ltb (getD a i 0) (getD b i 0))) (from-rest n (suc i) x y a b)
+
+pub ahead-first : (n x y : ℕ) (a b : List ℕ) → length b ≡ n → cond (eqb x y) (aheadFrom n 0 a b) (ltb x y) ≡ ahead (x ∷ a) (y ∷ b)
+unfolding aheadFrom ahead
+ahead-first n x y a b e = rw (e, from-rest n 0 x y a b) refl

@@ -1,1 +1,7 @@
-// The search for the best timetable. Its mathematics is in specs/.
+// The search for the best timetable.
+pub mod finding;
+pub mod ranking;
+pub mod solving;
+pub mod tally;
+pub mod walk;
+pub mod ways;

@@ -15,3 +15,4 @@ pub mod ReadsLaws
 pub mod FitsLaws
 pub mod WritingLaws
 pub mod Exact
+pub mod SameText

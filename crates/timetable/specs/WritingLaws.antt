@@ -11,7 +11,7 @@ use borrow.Author.Tests.{not-false}
 use lib.Dec.{eqb}
 use lib.ListN.{length, getD, drop, length-append, length-drop, length-map, length-take}
 use lib.Seq.{drop-cons, drop-length, getD-take}
-use Rattle.text.specs.Decide.{Decides, decides-and, decides-le}
+use Rattle.text.specs.Decide.{Decides, is-true, decides-and, decides-le}
 use Rattle.text.specs.Below.{EachBelow, decides-all, first-found, first-none, none-first}
 use Rattle.text.specs.Digits.{fieldText}
 use Rattle.text.specs.Each.{eachThen}
@@ -65,6 +65,10 @@ module _ (l : Line) (m : List ℕ) where
       nobody : (o : Option ℕ) → onLine o ≡ Fault.None → o ≡ none
       nobody none g = refl
       nobody (some j) g = let z : _≡_ {A = ℕ} 0 1 = cc in absurd (omega arith)
+
+  -- and the other way
+  pub days-clean : EachTrain l (InDays l m) → minutesFault l m ≡ Fault.None
+  days-clean h = sym (late-none (λ i b. is-true (decides-times (train l i) m i) (h i b)))
 
   -- of a line and minutes in which the checks f and g found no fault, the line is within the limits, the times in the two days, and the text fits
   pub clean-fits : {f g : Fault} → f ≡ faultOf l → f ≡ Fault.None → g ≡ minutesFault l m → g ≡ Fault.None →

@@ -1,16 +1,25 @@
 //! How long the proved library takes to read and to rewrite a full-size line file, and to check
 //! full-size timetables, beside the independent implementation: same bytes, same process, rounds in
-//! turn, so that both meet the same machine. It prints times and their ratio and judges nothing.
+//! turn, so that both meet the same machine. It prints times and their ratio and judges nothing. Of
+//! the walk through plans there is the independent one alone as yet.
 
 use std::hint::black_box;
 use std::time::Instant;
 
-use inputs::{full_size, full_size_planned, Fields, Pair, Random};
+use independent::walk::plan_by_walk;
+use inputs::{dense_walk, full_size, full_size_planned, Fields, LineWalk, Pair, Random};
 
 const ROUNDS: usize = 400;
 const CALLS: u32 = 200;
 /// How many timetables are checked in turn, each with its own line file.
 const PAIRS: usize = 10;
+/// How many dense lines of each size are planned.
+const WALKS: usize = 5;
+/// How often each of them is planned.
+const WALK_ROUNDS: usize = 5;
+/// The fewest and the most plans of their walks.
+const LEAST_PLANS: u64 = 200_000;
+const MOST_PLANS: u64 = 1_000_000;
 
 /// Nanoseconds per call, one entry for each round.
 #[derive(Default)]
@@ -100,6 +109,35 @@ fn checking(pairs: &[Pair]) {
     report("check", library, independent);
 }
 
+/// Plans dense lines, from the bytes of the file to those of the timetable.
+fn walking(random: &mut Random, size: (u16, u16)) {
+    println!("{} stations, {} trains:", size.0, size.1);
+    for _ in 0..WALKS {
+        let LineWalk { line, walked } = dense_walk(random, size, LEAST_PLANS, MOST_PLANS);
+        let file = Fields::of(&line).text();
+        let mut seconds = Vec::new();
+        for _ in 0..WALK_ROUNDS {
+            let start = Instant::now();
+            let timetable = black_box(plan_by_walk(black_box(&file)));
+            seconds.push(start.elapsed().as_secs_f64());
+            assert_eq!(timetable.is_ok(), walked.best.is_some());
+        }
+        report_walk(walked.plans, seconds);
+    }
+}
+
+fn report_walk(plans: u64, mut seconds: Vec<f64>) {
+    seconds.sort_by(f64::total_cmp);
+    let (best, median) = (seconds[0], seconds[seconds.len() / 2]);
+    let each = |seconds: f64| seconds * 1e6 / plans as f64;
+    println!(
+        "walk     independent  best {:8.3} µs  median {:8.3} µs a plan  {plans:8} plans, {:4.1} million a second",
+        each(best),
+        each(median),
+        1.0 / each(best)
+    );
+}
+
 fn main() {
     let file = Fields::of(&full_size(&mut Random::new(1))).text();
     println!(
@@ -123,4 +161,10 @@ fn main() {
         mean(|pair| pair.file.len())
     );
     checking(&pairs);
+
+    println!("Dense lines planned, each {WALK_ROUNDS} times.");
+    let mut random = Random::new(3);
+    for size in [(6, 8), (8, 9)] {
+        walking(&mut random, size);
+    }
 }

@@ -89,6 +89,15 @@ pub fn check(file: &[u8], timetable: &[u8]) -> Result<(), Refusal> {
     unpacked(screen::check(file, timetable)).map(|_| ())
 }
 
+/// Solves a line file: writes the text of its best timetable to the front of `lent` and returns its
+/// length; the bytes past it keep their former content. Refused as in [`read`], then with 5 where no
+/// timetable keeps every rule, then with 6 where `lent` has fewer bytes than the text.
+///
+/// The search is recursive: it needs some kilobytes of stack for each choice that a plan can have.
+pub fn solve(file: &[u8], lent: &mut [u8]) -> Result<usize, Refusal> {
+    unpacked(screen::solve(file, lent)).map(|length| length as usize)
+}
+
 /// Takes a returned number apart: number · 2³² + value. Number 0 is success with its value, any
 /// other is a refusal and the value is its place.
 fn unpacked(returned: u64) -> Result<u32, Refusal> {

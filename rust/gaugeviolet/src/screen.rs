@@ -17,6 +17,7 @@ extern "C" {
         timetable: *const u8,
         timetable_len: usize,
     ) -> u64;
+    fn gaugeviolet_solve(file: *const u8, file_len: usize, out: *mut u8, out_len: usize) -> u64;
 }
 
 pub(crate) fn read(file: &[u8]) -> u64 {
@@ -41,4 +42,9 @@ pub(crate) fn check(file: &[u8], timetable: &[u8]) -> u64 {
             timetable.len(),
         )
     }
+}
+
+pub(crate) fn solve(file: &[u8], out: &mut [u8]) -> u64 {
+    // SAFETY: as for `rewrite`.
+    unsafe { gaugeviolet_solve(file.as_ptr(), file.len(), out.as_mut_ptr(), out.len()) }
 }

@@ -1,8 +1,9 @@
 //! Examples E1 to E12 of the scope document, and that of source document 003: what the samples hold,
-//! what the check says of it and of worse timetables, and what trying every order finds.
+//! what the check says of it and of worse timetables, and what trying every order and the walk find.
 
 use crate::exhaustive::{best, plan, Unplanned, WorkLimit};
 use crate::rules::{first_breach, weighted_delay, Minutes};
+use crate::walk::{plan_by_walk, solve};
 use crate::{check, read, timetable, Line, Refusal, FILE_BYTES};
 
 const WORK: u64 = 1_000_000;
@@ -42,6 +43,8 @@ fn plans(file: &[u8], sample: &[u8], total: u32, rows: &[&[u16]]) {
     assert_eq!(best(&line(file), WORK), Ok(Some(expected)));
     assert_eq!(weighted_delay(&line(file), &expected), total);
     assert_eq!(plan(file, WORK).as_deref(), Ok(sample));
+    assert_eq!(solve(&line(file)).best, Some(expected));
+    assert_eq!(plan_by_walk(file).as_deref(), Ok(sample));
     assert_eq!(timetable::write(&line(file), &expected), sample);
     assert_eq!(check(file, sample), Ok(()));
 }
@@ -54,6 +57,8 @@ fn has_none(file: &[u8], sample: &[u8]) {
     };
     assert_eq!(best(&line(file), WORK), Ok(None));
     assert_eq!(plan(file, WORK), Err(Unplanned::Refused(refusal)));
+    assert_eq!(solve(&line(file)).best, None);
+    assert_eq!(plan_by_walk(file), Err(refusal));
     assert_eq!(format!("{refusal}\n").as_bytes(), sample);
 }
 
@@ -184,6 +189,26 @@ fn document_003() {
         &[146, 166, 181, 198],
     ];
     plans(file, sample!("document-003.timetable"), 61, &rows);
+}
+
+/// Worked by hand: the plan without choices, and the ways out of each conflict.
+#[test]
+fn the_lengths_of_the_walks() {
+    let length = |file| solve(&line(file)).plans;
+    assert_eq!(length(FILE_A), 3);
+    // Train 1 first on segment 1 (2). There train 1 leaves station 2 before train 2 arrives (3), with
+    // its two orders on segment 2 (4, and 5 without least minutes), or train 2 leaves before train 1
+    // arrives (6, without least minutes). Train 2 first on segment 1 (7).
+    assert_eq!(length(sample!("e2.line")), 7);
+    // Both orders, of which the second ends at equal delay (E8) or is the best (E7, E9).
+    assert_eq!(length(sample!("e7.line")), 3);
+    assert_eq!(length(sample!("e8.line")), 3);
+    assert_eq!(length(sample!("e9.line")), 3);
+    assert_eq!(length(sample!("e10.line")), 3);
+    // No conflict, or the plan without choices is late.
+    assert_eq!(length(sample!("e11.line")), 1);
+    assert_eq!(length(sample!("e12-10.line")), 1);
+    assert_eq!(length(sample!("e12-9.line")), 1);
 }
 
 #[test]

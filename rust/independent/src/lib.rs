@@ -1,10 +1,11 @@
 //! Line files and timetables in plain Rust, from the scope document alone: reading and writing, the
-//! rules, the check, and a planner that tries every order.
+//! rules, the check, a planner that tries every order, and one that walks through plans.
 //!
 //! Nothing here comes from the proved crates or calls them: the tests compare the two, so a mistake
 //! has to be made twice to pass. The readers, the writers and the check allocate nothing (only
 //! [`write`] and [`timetable::write`] hand out a vector), so the benchmark can compare times as well.
-//! The planner of [`exhaustive`] is made to be believed, not to be fast.
+//! The planner of [`exhaustive`] is made to be believed, not to be fast; that of [`walk`] takes up the
+//! same plans as the proved solver, and is made to be fast.
 
 #![forbid(unsafe_code)]
 
@@ -14,6 +15,7 @@ use std::ops::Range;
 pub mod exhaustive;
 pub mod rules;
 pub mod timetable;
+pub mod walk;
 
 mod checker;
 mod position;

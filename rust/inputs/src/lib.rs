@@ -1,6 +1,6 @@
-//! Line files and timetables for tests and benchmarks: random lines within the limits, lawful
-//! timetables, texts with fields altered, texts with bytes damaged. Everything comes from a seed, so
-//! a failure can be seen again.
+//! Line files and timetables for tests and benchmarks: random lines within the limits, lines for the
+//! walk through plans, lawful timetables, texts with fields altered, texts with bytes damaged.
+//! Everything comes from a seed, so a failure can be seen again.
 
 #![forbid(unsafe_code)]
 
@@ -9,12 +9,14 @@ mod fields;
 mod planned;
 mod random;
 mod timetable_damage;
+mod walks;
 
 pub use damage::{damage_bytes, damage_lines};
 pub use fields::Fields;
 pub use planned::{full_size_planned, planned, small_line, small_planned, Pair, Planned, Traffic};
 pub use random::Random;
 pub use timetable_damage::{damaged, Damage};
+pub use walks::{dense_line, dense_walk, short_walk, walk_line, LineWalk, Shape};
 
 use independent::{Kind, Limits, Line, Segment, Train, SEGMENTS, STATIONS, TRAINS};
 

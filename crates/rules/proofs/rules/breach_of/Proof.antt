@@ -4,6 +4,8 @@ use mathlib.Core.Path.{_∙_, ap}
 use denote.Ref.{now}
 use borrow.Author.Needs.{needs}
 use Rattle.rules.specs.Breaches.{conflictBreach, breachOf}
+use Rattle.rules.specs.ConflictsLaws.{conflict-told}
+use Rattle.rules.specs.StationLaws.{directions-size}
 use Rattle.rules.specs.BreachesLaws.{breach-first, breach-later, place-fits}
 use Rattle.rules.proofs.rules.breach_of.Statement.{statement}
 use Rattle.rules.proofs.rules.breach_of.Tie as tie
@@ -72,27 +74,41 @@ returns-4 c =
 directions-of-requires : tie.Need-directions-of-requires
 directions-of-requires c κs = c .before .before .before .before .before .before .before .before .before .before .before .before .before .pre .0 .trains .1
 
+layout-of-requires : tie.Need-layout-of-requires
+layout-of-requires c κs = search needs
+
 slice-aggregate-lowest-conflict : tie.Need-slice-aggregate-lowest-conflict
 slice-aggregate-lowest-conflict c = search needs
 
 lowest-conflict-requires : tie.Need-lowest-conflict-requires
 lowest-conflict-requires c κs =
-    let a = c .before .before .before .before .before .before .before .before .before .before .before .before .before .before .before in
-    (c .before .directions-of .ensures, a .pre .1, a .pre .0 .stations .0, a .pre .0 .stations .1, a .pre .0 .trains .1)
+    let a = c .before .before .before .before .before .before .before .before .before .before .before .before .before .before .before .before in
+    let y = c .before .layout-of .ensures in (
+      directions-size (a .args .line) _ (c .before .before .directions-of .ensures),
+      a .pre .1,
+      rw y (a .pre .0 .stations .0),
+      rw y (a .pre .0 .stations .1),
+      rw y (a .pre .0 .trains .1),
+    )
 
 conflict-breach-requires : tie.Need-conflict-breach-requires
 conflict-breach-requires c κs =
-    let a = c .before .before .before .before .before .before .before .before .before .before .before .before .before .before .before .before in
-    rw (c .lowest-conflict .ensures) (place-fits (a .args .line) (now (a .args .m)) (a .pre .0))
+    let a = c .before .before .before .before .before .before .before .before .before .before .before .before .before .before .before .before .before in
+    let y = c .before .before .layout-of .ensures in
+    let ds = c .before .before .before .directions-of .ensures in
+    let x = conflict-told (a .args .line) (now (a .args .m)) _ _ _ y ds (c .lowest-conflict .ensures) in
+    rw x (place-fits (a .args .line) (now (a .args .m)) (a .pre .0))
 
 returns-5 : tie.Need-returns-5
 unfolding breachOf
 returns-5 c =
-    breach-later (c .before .before .before .before .before .before .before .before .before .before .before .before .before .before .before .train-breach .ensures) (c .before .before .before .before .before .before .before .before .before .before .before .before .before .enum-told .given .1)
-    (breach-later (c .before .before .before .before .before .before .before .before .before .before .before .before .train-breach2 .ensures) (c .before .before .before .before .before .before .before .before .before .before .enum-told3 .given .1)
-    (breach-later (c .before .before .before .before .before .before .before .before .before .train-breach3 .ensures) (c .before .before .before .before .before .before .before .enum-told5 .given .1)
-    (breach-later (c .before .before .before .before .before .before .train-breach4 .ensures) (c .before .before .before .before .enum-told7 .given .1)
-    (c .conflict-breach .ensures ∙ ap conflictBreach (c .before .lowest-conflict .ensures)))))
+    let a = c .before .before .before .before .before .before .before .before .before .before .before .before .before .before .before .before .before .before .args in
+    breach-later (c .before .before .before .before .before .before .before .before .before .before .before .before .before .before .before .before .train-breach .ensures) (c .before .before .before .before .before .before .before .before .before .before .before .before .before .before .enum-told .given .1)
+    (breach-later (c .before .before .before .before .before .before .before .before .before .before .before .before .before .train-breach2 .ensures) (c .before .before .before .before .before .before .before .before .before .before .before .enum-told3 .given .1)
+    (breach-later (c .before .before .before .before .before .before .before .before .before .before .train-breach3 .ensures) (c .before .before .before .before .before .before .before .before .enum-told5 .given .1)
+    (breach-later (c .before .before .before .before .before .before .before .train-breach4 .ensures) (c .before .before .before .before .before .enum-told7 .given .1)
+    (c .conflict-breach .ensures ∙ ap conflictBreach (conflict-told (a .line) (now (a .m)) _ _ _
+    (c .before .before .before .layout-of .ensures) (c .before .before .before .before .directions-of .ensures) (c .before .lowest-conflict .ensures))))))
 
 pub breach-of-spec : {M : Type 1} → statement M
 breach-of-spec =
@@ -115,6 +131,7 @@ breach-of-spec =
     enum-told-8
     returns-4
     directions-of-requires
+    layout-of-requires
     slice-aggregate-lowest-conflict
     lowest-conflict-requires
     conflict-breach-requires

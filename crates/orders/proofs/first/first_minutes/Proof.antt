@@ -1,0 +1,22 @@
+-- `orders::first::first_minutes` meets its contract, by the laws of the minutes of the trains alone on the line. Assumes nothing.
+use mathlib.Core.Path.{_≡_, sym, _∙_}
+use lib.ListN.{length, length-map}
+use Rattle.orders.specs.FirstPlanLaws.{first-plan}
+use borrow.Author.Needs.{needs}
+use Rattle.orders.proofs.first.first_minutes.Statement.{statement}
+use Rattle.orders.proofs.first.first_minutes.Tie as tie
+
+free-in-time-requires : tie.Need-free-in-time-requires
+free-in-time-requires c κs = search needs
+
+free-minutes-requires : tie.Need-free-minutes-requires
+free-minutes-requires c κs = search needs
+
+returns : tie.Need-returns
+returns c =
+    let a = c .before .before in
+    let size : length (a .args .line .trains) ≡ 12 = sym (length-map (a .args .line .trains) _) ∙ a .good .0 .1 .1 .1 .1 .1 .1 .0 .1 .0 .1 in
+    first-plan (a .args .line) (a .pre) size _ (c .free-minutes .ensures) (c .before .free-in-time .ensures)
+
+pub first-minutes-spec : {M : Type 1} → statement M
+first-minutes-spec = tie.close (tie.spec free-in-time-requires free-minutes-requires returns)

@@ -1,0 +1,102 @@
+-- `orders::first::free_minutes` meets its contract. The invariant: the first x entries are there. The table of directions tells which are legs of a train.
+-- Assumes nothing.
+use Prim.Native.Nat.{_-_, _%_, _≤_}
+use mathlib.Core.Path.{_≡_, sym, _∙_}
+use mathlib.Core.Logic.{⊎-elim}
+use native.Mathlib.Omega.{arith}
+use lib.ListN.{length, length-map}
+use Rattle.rules.specs.PathsLaws.{train-within}
+use Rattle.orders.specs.FillLaws.{Begun, begun-none, begun-more}
+use Rattle.orders.specs.LegsLaws.{leg-is, leg-not}
+use Rattle.orders.specs.TablesLaws.{within-any}
+use Rattle.orders.specs.FirstPlan.{freeEntry}
+use Rattle.orders.specs.FirstPlanLaws.{minute-leg, minute-none, minutes-made}
+use borrow.Author.Needs.{needs}
+use Rattle.orders.proofs.first.free_minutes.Statement.{statement}
+use Rattle.orders.proofs.first.free_minutes.Tie as tie
+
+abbrev Inv-loop : tie.InvT-loop
+Inv-loop line ds minutes₀ x₀ minutes x = (x ≤ 352) × Begun (freeEntry line) 352 x minutes
+
+abbrev μ-loop : tie.MeasureT-loop
+μ-loop line ds minutes₀ x₀ minutes x = 352 - x
+
+directions-of-requires : tie.Need-directions-of-requires Inv-loop μ-loop
+directions-of-requires c κs = c .pre .trains .1
+
+loop-holds : tie.Need-loop-holds Inv-loop μ-loop
+loop-holds c = (omega arith, begun-none _ 352)
+
+mul-if1 : tie.Need-mul-if1 Inv-loop μ-loop
+mul-if1 c = search needs
+
+array-read-if1 : tie.Need-array-read-if1 Inv-loop μ-loop
+array-read-if1 c = search needs
+
+mul-train : tie.Need-mul-train Inv-loop μ-loop
+mul-train c = search needs
+
+element-copy-out-train : tie.Need-element-copy-out-train Inv-loop μ-loop
+element-copy-out-train c =
+    let a = c .before .before .before .before in
+    let x = c .before .before .loop .x in
+    let leg = leg-is (a .args .t1) (x % 176) _ (a .pre .trains .1) (omega arith) (c .before .before .before .directions-of .ensures) (c .if1 .taken) in
+    omega (arith, leg .0, a .pre .trains .1)
+
+leg-minute-requires : tie.Need-leg-minute-requires Inv-loop μ-loop
+leg-minute-requires c κs =
+    let a = c .before .before .before .before .before in
+    let x = c .before .before .before .loop .x in
+    let ds = c .before .before .before .before .directions-of .ensures in
+    let leg = leg-is (a .args .t1) (x % 176) _ (a .pre .trains .1) (omega arith) ds (c .before .if1 .taken) in
+    let size : length (a .args .t1 .trains) ≡ 12 = sym (length-map (a .args .t1 .trains) _) ∙ a .good .0 .1 .1 .1 .1 .1 .1 .0 .1 .0 .1 in
+    (within-any _ _ (train-within (a .args .t1) _ (a .pre) size (leg .0)) (a .pre .stations .1), c .before .before .loop-test .taken, leg .1)
+
+mul-minutes : tie.Need-mul-minutes Inv-loop μ-loop
+mul-minutes c = search needs
+
+array-write-minutes : tie.Need-array-write-minutes Inv-loop μ-loop
+array-write-minutes c = omega (arith, c .before .before .loop .inv .1 .size, c .before .loop-test .taken)
+
+add-x : tie.Need-add-x Inv-loop μ-loop
+add-x c = search needs
+
+loop-less : tie.Need-loop-less Inv-loop μ-loop
+loop-less c = search needs
+
+loop-again : tie.Need-loop-again Inv-loop μ-loop
+loop-again c =
+    let a = c .before .before .before .before in
+    let w = c .before .before .loop in
+    let x = w .x in
+    let b = c .before .loop-test .taken in
+    let minute = ⊎-elim
+    (λ h. h .3 ∙ h .2 .ensures ∙ minute-leg (a .args .t1) x
+    (leg-is (a .args .t1) (x % 176) _ (a .pre .trains .1) (omega arith) (c .before .before .before .directions-of .ensures) (h .0 .taken)))
+    (λ h. h .1 ∙ minute-none (a .args .t1) x
+    (leg-not (a .args .t1) (x % 176) _ (a .pre .trains .1) (omega arith) (c .before .before .before .directions-of .ensures) (h .0 .left)))
+    (c .if1 .came) in
+    (omega arith, begun-more (freeEntry (a .args .t1)) 352 x _ _ (w .inv .1) b minute)
+
+returns : tie.Need-returns Inv-loop μ-loop
+returns c = minutes-made _ _ _ (c .before .loop .inv .1) (omega (arith, c .before .loop .inv .0, c .loop-test .left))
+
+pub free-minutes-spec : {M : Type 1} → statement M
+free-minutes-spec =
+    tie.close
+    (tie.spec
+    Inv-loop
+    μ-loop
+    directions-of-requires
+    loop-holds
+    mul-if1
+    array-read-if1
+    mul-train
+    element-copy-out-train
+    leg-minute-requires
+    mul-minutes
+    array-write-minutes
+    add-x
+    loop-less
+    loop-again
+    returns)

@@ -1,0 +1,218 @@
+// Raising minutes: a leg that must be later, and all that follows from it, with what the minutes cost. It ends at once where an arrival passes its limit,
+// the cost passes the cut, or the source of the choice itself would rise: then no minutes keep it.
+ghost use mathlib.Core.Path.{_≡_};
+ghost use mathlib.Core.Logic.{_⊎_};
+ghost use mathlib.Core.Bool.{true};
+ghost use Prim.Native.Nat.{_+_, _≤_, _<_};
+ghost use lib.ListN.{getD};
+ghost use Rattle.orders.specs.Bits.{inMask};
+ghost use Rattle.orders.specs.LegGraph.{leaving};
+ghost use Rattle.orders.specs.Lifting.{Ready, Lifted, Followed, Onward, After, Gone, Choosing, Follows, Comes, Chose};
+use crate::arcs::coming_leg;
+use crate::arcs::leaving_row;
+use crate::arcs::source_of;
+use crate::arcs::times_behind;
+use crate::tables::limit_at;
+use crate::tables::next_at;
+use crate::tables::run_at;
+use crate::tables::stop_at;
+use crate::times::arrival_for;
+use crate::times::departure_for;
+use crate::times::more_cost;
+use crate::times::rises;
+use crate::times::source_rises;
+
+// No such minutes.
+pub const DEAD: u32 = 4294967295;
+
+// Raises leg e to depart at v and arrive at w or later, and all that follows.
+fn lift(
+    m: &mut [u16],
+    marks: &[u16],
+    t: &[u16],
+    ds: &[u16],
+    e: usize,
+    v: u16,
+    w: u16,
+    src: usize,
+    cost: u32,
+    cut: u32,
+) -> u32
+    requires { ⌜ Ready (now m) (now marks) (now t) (now ds) e cost cut × ((getD (now m) e 0 < v) ⊎ (getD (now m) (176 + e) 0 < w)) × (v ≤ 20000) × (w ≤ 20000) ⌝ }
+    ensures { λ r. ⌜ Lifted (now (marks .entry)) (now (t .entry)) (now (ds .entry)) src cut e v w (now (m .entry)) (now (m .exit)) r ⌝ }
+{
+    let d = m[e];
+    let a = m[176 + e];
+    let run = run_at(t, e);
+    let departure = departure_for(d, v, w, run);
+    let arrival = arrival_for(a, w, departure, run);
+    if arrival > limit_at(t, e) {
+        return DEAD;
+    }
+    if source_rises(src, e, d, departure, a, arrival) {
+        return DEAD;
+    }
+    let c = cost + more_cost(t, e, a, arrival);
+    if c > cut {
+        return DEAD;
+    }
+    m[e] = departure;
+    m[176 + e] = arrival;
+    let c = onward(m, marks, t, ds, e, src, c, cut);
+    if c == DEAD {
+        return DEAD;
+    }
+    let c = followers(m, marks, t, ds, e, src, c, cut);
+    if c == DEAD {
+        return DEAD;
+    }
+    comers(m, marks, t, ds, e, src, c, cut)
+}
+
+// Raises the next leg of the train of leg e.
+fn onward(
+    m: &mut [u16],
+    marks: &[u16],
+    t: &[u16],
+    ds: &[u16],
+    e: usize,
+    src: usize,
+    cost: u32,
+    cut: u32,
+) -> u32
+    requires { ⌜ Ready (now m) (now marks) (now t) (now ds) e cost cut ⌝ }
+    ensures { λ r. ⌜ Followed (Onward e) (now (marks .entry)) (now (t .entry)) (now (ds .entry)) src cut (now (m .entry)) (now (m .exit)) r ⌝ }
+{
+    let f = next_at(t, e);
+    if f == e {
+        return cost;
+    }
+    let v = m[176 + e] + stop_at(t, e);
+    if m[f] < v {
+        return lift(m, marks, t, ds, f, v, 0, src, cost, cut);
+    }
+    cost
+}
+
+// Raises the trains that go after that of leg e on its segment.
+fn followers(
+    m: &mut [u16],
+    marks: &[u16],
+    t: &[u16],
+    ds: &[u16],
+    e: usize,
+    src: usize,
+    cost: u32,
+    cut: u32,
+) -> u32
+    requires { ⌜ Ready (now m) (now marks) (now t) (now ds) e cost cut ⌝ }
+    ensures { λ r. ⌜ Followed (After e) (now (marks .entry)) (now (t .entry)) (now (ds .entry)) src cut (now (m .entry)) (now (m .exit)) r ⌝ }
+{
+    let s = marks[e];
+    if s == 0 {
+        return cost;
+    }
+    let mut c = cost;
+    let mut j: usize = 0;
+    while j < 12 {
+        if (s >> j) % 2 == 1 {
+            let f = 16 * (e / 16) + j;
+            let b = times_behind(m, t, ds, e, j);
+            let v = b.departure;
+            let w = b.arrival;
+            if rises(m[f], v, m[176 + f], w) {
+                c = lift(m, marks, t, ds, f, v, w, src, c, cut);
+                if c == DEAD {
+                    return DEAD;
+                }
+            }
+        }
+        j = j + 1;
+    }
+    c
+}
+
+// Raises the trains that come to the station of leg e's departure after its train has left.
+fn comers(
+    m: &mut [u16],
+    marks: &[u16],
+    t: &[u16],
+    ds: &[u16],
+    e: usize,
+    src: usize,
+    cost: u32,
+    cut: u32,
+) -> u32
+    requires { ⌜ Ready (now m) (now marks) (now t) (now ds) e cost cut ⌝ }
+    ensures { λ r. ⌜ Followed (Gone e) (now (marks .entry)) (now (t .entry)) (now (ds .entry)) src cut (now (m .entry)) (now (m .exit)) r ⌝ }
+{
+    let row = leaving_row(ds, e);
+    let s = marks[row];
+    if s == 0 {
+        return cost;
+    }
+    let mut c = cost;
+    let mut j: usize = 0;
+    while j < 12 {
+        if (s >> j) % 2 == 1 {
+            let f = coming_leg(ds, e, j);
+            let w = m[e] + 1;
+            if m[176 + f] < w {
+                c = lift(m, marks, t, ds, f, 0, w, src, c, cut);
+                if c == DEAD {
+                    return DEAD;
+                }
+            }
+        }
+        j = j + 1;
+    }
+    c
+}
+
+// The least minutes with the choice, marked already, that train j goes after that of leg e on its segment, and what they cost; DEAD where none are in
+// time for no more than the cut.
+pub fn follow(
+    m: &mut [u16],
+    marks: &[u16],
+    t: &[u16],
+    ds: &[u16],
+    e: usize,
+    j: usize,
+    cost: u32,
+    cut: u32,
+) -> u32
+    requires { ⌜ Choosing (Follows e j) (now m) (now marks) (now t) (now ds) e cost cut × (j < 12) × (inMask (getD (now marks) e 0) j ≡ true) ⌝ }
+    ensures { λ r. ⌜ Chose (now (marks .entry)) (now (t .entry)) (now (ds .entry)) cut (now (m .entry)) (now (m .exit)) r ⌝ }
+{
+    let f = 16 * (e / 16) + j;
+    let b = times_behind(m, t, ds, e, j);
+    let v = b.departure;
+    let w = b.arrival;
+    let src = source_of(t, ds, e, j);
+    if rises(m[f], v, m[176 + f], w) {
+        return lift(m, marks, t, ds, f, v, w, src, cost, cut);
+    }
+    cost
+}
+
+// The same with the choice that train j comes to the station of leg e's departure after its train has left.
+pub fn come_after(
+    m: &mut [u16],
+    marks: &[u16],
+    t: &[u16],
+    ds: &[u16],
+    e: usize,
+    j: usize,
+    cost: u32,
+    cut: u32,
+) -> u32
+    requires { ⌜ Choosing (Comes e j) (now m) (now marks) (now t) (now ds) e cost cut × (j < 12) × (inMask (getD (now marks) (leaving (now ds) e) 0) j ≡ true) ⌝ }
+    ensures { λ r. ⌜ Chose (now (marks .entry)) (now (t .entry)) (now (ds .entry)) cut (now (m .entry)) (now (m .exit)) r ⌝ }
+{
+    let f = coming_leg(ds, e, j);
+    let w = m[e] + 1;
+    if m[176 + f] < w {
+        return lift(m, marks, t, ds, f, 0, w, e, cost, cut);
+    }
+    cost
+}

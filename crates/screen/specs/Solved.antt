@@ -1,0 +1,12 @@
+-- A file solved, its answer packed.
+use Prim.Native.Nat.{ℕ}
+use mathlib.Core.Path.{_≡_}
+use mathlib.Core.List.{List}
+use Rattle.text.specs.declared.Written.{Written}
+use Rattle.solver.specs.Solving.{Solving}
+use Rattle.screen.specs.Packing.{packedWritten}
+
+pub record Solved (file entry exit : List ℕ) (r : ℕ) : Type 0 where
+  pub written : Written
+  pub solving : Solving file entry exit written
+  pub answer : r ≡ packedWritten written

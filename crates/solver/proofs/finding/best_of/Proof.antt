@@ -1,0 +1,101 @@
+-- `solver::finding::best_of` meets its contract: the walk from the first plan is the whole walk, or no minutes of that plan are in time.
+use mathlib.Core.Path.{refl}
+use mathlib.Core.Bool.{false, false≢true}
+use native.Mathlib.Omega.{arith}
+use denote.Ref.{now}
+use borrow.Author.Needs.{needs}
+use borrow.Author.Tests.{not-true, not-false}
+use lib.ListN.{replicate, length-replicate}
+use Prim.Native.Nat.{ℕ}
+use Rattle.orders.specs.Least.{IsLeast}
+use Rattle.orders.specs.Marks.{free}
+use Rattle.orders.specs.Plans.{Keeps}
+use Rattle.solver.specs.Taking.{Given}
+use Rattle.solver.specs.FindingLaws.{first-planned, finds-walked, finds-nothing}
+use Rattle.solver.proofs.finding.best_of.Statement.{statement}
+use Rattle.solver.proofs.finding.best_of.Tie as tie
+
+first-minutes-requires : tie.Need-first-minutes-requires
+first-minutes-requires c κs = search needs
+
+returns : tie.Need-returns
+returns c =
+    let a = c .before .before .before in
+    finds-nothing (a .args .line) (a .pre .0) (a .pre .1) (c .before .before .first-minutes .ensures .none (not-true _ (c .if1 .taken))) _
+
+tables-of-requires : tie.Need-tables-of-requires
+tables-of-requires c κs = search needs
+
+directions-of-requires : tie.Need-directions-of-requires
+directions-of-requires c κs = search needs
+
+key-of-requires : tie.Need-key-of-requires
+key-of-requires c κs = search needs
+
+layout-of-requires : tie.Need-layout-of-requires
+layout-of-requires c κs = search needs
+
+slice-aggregate-take-up : tie.Need-slice-aggregate-take-up
+slice-aggregate-take-up c = search needs
+
+slice-aggregate-take-up-2 : tie.Need-slice-aggregate-take-up-2
+slice-aggregate-take-up-2 c = search needs
+
+slice-aggregate-take-up-3 : tie.Need-slice-aggregate-take-up-3
+slice-aggregate-take-up-3 c = search needs
+
+slice-aggregate-take-up-4 : tie.Need-slice-aggregate-take-up-4
+slice-aggregate-take-up-4 c = search needs
+
+slice-aggregate-take-up-5 : tie.Need-slice-aggregate-take-up-5
+slice-aggregate-take-up-5 c = search needs
+
+slice-aggregate-take-up-6 : tie.Need-slice-aggregate-take-up-6
+slice-aggregate-take-up-6 c = search needs
+
+-- what is known before the walk
+least : (c : tie.After-key) → IsLeast 352 (Keeps (c .before .before .before .before .before .before .before .before .before .before .before .before .before .before .args .line) free) (replicate 352 0) (c .before .before .before .before .before .before .before .before .before .before .before .before .before .first-minutes .result .minutes)
+least c = c .before .before .before .before .before .before .before .before .before .before .before .before .before .first-minutes .ensures .least (not-false _ (c .before .before .before .before .before .before .before .before .before .before .before .if1 .left))
+
+given : (c : tie.After-key) → Given (c .before .before .before .before .before .before .before .before .before .before .before .before .before .before .args .line) (c .before .before .before .before .before .before .before .before .before .before .before .before .before .first-minutes .result .minutes) (replicate 368 0) (replicate 352 0) (c .before .before .before .before .before .before .before .before .before .tables-of .result) (c .before .before .before .before .before .before .before .before .directions-of .result) (c .before .before .before .before .before .before .before .key-of .result) (c .before .before .before .before .before .before .layout-of .result) 0 (record { found = false; delay = 0; steps = 1 })
+unfolding free
+given c =
+    let a = c .before .before .before .before .before .before .before .before .before .before .before .before .before .before in
+    let first = c .before .before .before .before .before .before .before .before .before .before .before .before .before .first-minutes .ensures in
+    let timely = not-false _ (c .before .before .before .before .before .before .before .before .before .before .before .if1 .left) in
+    record {
+      tabled = record { within = a .pre .0; arrays = a .pre .1; tables = c .before .before .before .before .before .before .before .before .before .tables-of .ensures; directions = c .before .before .before .before .before .before .before .before .directions-of .ensures };
+      keys = c .before .before .before .before .before .before .before .key-of .ensures;
+      layout-is = c .before .before .before .before .before .before .layout-of .ensures;
+      planned = first-planned (a .args .line) (a .pre .0) (a .pre .1) _ (least c) (first .rule13 timely) (first .cost timely);
+      tallied = record { size = length-replicate {A = ℕ} 352 0; delay-is = λ e. absurd (false≢true e); delay-low = λ e. absurd (false≢true e); steps-low = omega arith };
+    }
+
+take-up-requires : tie.Need-take-up-requires
+take-up-requires c κs = record { line = c .before .before .before .before .before .before .before .before .before .before .before .before .before .before .args .line; given = given c }
+
+returns-2 : tie.Need-returns-2
+unfolding free
+returns-2 c =
+    let b = c .before .before .before in
+    let a = b .before .before .before .before .before .before .before .before .before .before .before .before .before .before in
+    finds-walked (a .args .line) (a .pre .0) (a .pre .1) (b .before .before .before .before .before .before .before .before .before .before .before .before .before .first-minutes .result .minutes) (least b) (replicate 352 0) refl refl (c .before .before .take-up .ensures (a .args .line) (given b))
+
+pub best-of-spec : {M : Type 1} → statement M
+best-of-spec =
+    tie.close
+    (tie.spec
+    first-minutes-requires
+    returns
+    tables-of-requires
+    directions-of-requires
+    key-of-requires
+    layout-of-requires
+    slice-aggregate-take-up
+    slice-aggregate-take-up-2
+    slice-aggregate-take-up-3
+    slice-aggregate-take-up-4
+    slice-aggregate-take-up-5
+    slice-aggregate-take-up-6
+    take-up-requires
+    returns-2)

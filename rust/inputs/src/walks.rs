@@ -1,0 +1,216 @@
+//! Random lines for the walk through plans.
+
+use independent::rules::free_arrival;
+use independent::walk::{solve_within, Walked};
+use independent::{Kind, Limits, Line, Segment, Train};
+
+use crate::Random;
+
+/// What the trains of a line have to do with each other.
+#[derive(Clone, Copy, Debug, PartialEq, Eq)]
+pub enum Shape {
+    /// Trains over some of the line, spread over some hours: few conflicts.
+    Sparse,
+    /// Trains over the whole line, nearly all at once: many conflicts.
+    Dense,
+    /// As dense, with latest arrivals near the free ones: often no timetable.
+    Tight,
+    /// As dense, with one track at every station.
+    OneTrack,
+    /// As dense, with weight 0 for most trains: many timetables cost the same.
+    ZeroWeights,
+    /// Trains and segments that are all alike: ties everywhere.
+    Ties,
+    /// Numbers over the whole of their ranges and often at the ends; most trains may arrive up to the
+    /// last minute.
+    Wide,
+}
+
+impl Shape {
+    /// All of them.
+    pub const ALL: [Shape; 7] = [
+        Shape::Sparse,
+        Shape::Dense,
+        Shape::Tight,
+        Shape::OneTrack,
+        Shape::ZeroWeights,
+        Shape::Ties,
+        Shape::Wide,
+    ];
+}
+
+/// A random line of this size and shape.
+pub fn walk_line(random: &mut Random, stations: u16, trains: u16, shape: Shape) -> Line {
+    if shape == Shape::Wide {
+        return wide_line(random, stations, trains);
+    }
+    let mut line = Line {
+        station_count: stations,
+        train_count: trains,
+        ..Line::default()
+    };
+    for tracks in &mut line.tracks[..usize::from(stations)] {
+        *tracks = match shape {
+            Shape::OneTrack => 1,
+            _ => random.within(1, 3),
+        };
+    }
+    let alike = segment(random);
+    for place in &mut line.segments[..usize::from(stations) - 1] {
+        *place = match shape {
+            Shape::Ties => alike,
+            _ => segment(random),
+        };
+    }
+    let run = random.within(1, 20);
+    for train in &mut line.trains[..usize::from(trains)] {
+        *train = match shape {
+            Shape::Ties => alike_train(random, stations, run),
+            _ => self::train(random, stations, shape),
+        };
+    }
+    line
+}
+
+fn segment(random: &mut Random) -> Segment {
+    Segment {
+        kind: random.one_of(&[Kind::S, Kind::S, Kind::F, Kind::D]),
+        following: random.within(1, 6),
+        opposing: random.within(1, 6),
+    }
+}
+
+fn train(random: &mut Random, stations: u16, shape: Shape) -> Train {
+    let (density, latest_start) = match shape {
+        Shape::Sparse => (crate::Density::Sparse, 200),
+        _ => (crate::Density::Dense, 30),
+    };
+    let (origin, destination) = crate::path(random, stations, density);
+    let mut train = Train {
+        origin,
+        destination,
+        earliest: random.within(0, latest_start),
+        latest: Limits::MINUTE.most,
+        weight: random.within(1, 9),
+        ..Train::default()
+    };
+    let legs = train.legs();
+    for run in &mut train.runs[..legs] {
+        *run = random.within(1, 20);
+    }
+    for stop in &mut train.stops[..legs - 1] {
+        *stop = random.one_of(&[0, 0, 1, 5]);
+    }
+    match shape {
+        Shape::Tight => train.latest = free_arrival(&train) as u16 + random.within(0, 60),
+        Shape::ZeroWeights => train.weight = random.one_of(&[0, 0, 0, 1]),
+        _ => {}
+    }
+    train
+}
+
+/// A train over the whole line from minute 0, like all others of its line but for its direction.
+fn alike_train(random: &mut Random, stations: u16, run: u16) -> Train {
+    let (origin, destination) = random.one_of(&[(1, stations), (stations, 1)]);
+    let mut train = Train {
+        origin,
+        destination,
+        latest: Limits::MINUTE.most,
+        weight: 1,
+        ..Train::default()
+    };
+    let legs = train.legs();
+    train.runs[..legs].fill(run);
+    train
+}
+
+fn wide_line(random: &mut Random, stations: u16, trains: u16) -> Line {
+    let mut line = crate::line(random, stations, trains, crate::Density::Dense);
+    for train in &mut line.trains[..usize::from(trains)] {
+        if random.below(16) > 0 {
+            train.earliest /= 8;
+            train.latest = Limits::MINUTE.most;
+        }
+    }
+    line
+}
+
+/// A line with its walk.
+#[derive(Clone, Copy, Debug)]
+pub struct LineWalk {
+    /// The line, within the limits.
+    pub line: Line,
+    /// What its walk finds, and the number of plans.
+    pub walked: Walked,
+}
+
+/// A random line of any size and this shape, whose walk takes up no more than `limit` plans.
+pub fn short_walk(random: &mut Random, shape: Shape, limit: u64) -> LineWalk {
+    let (most_stations, most_trains) = match shape {
+        Shape::Sparse => (12, 12),
+        Shape::Wide => (5, 8),
+        _ => (8, 8),
+    };
+    loop {
+        let stations = random.within(2, most_stations);
+        let trains = random.within(0, most_trains);
+        let line = walk_line(random, stations, trains, shape);
+        if let Ok(walked) = solve_within(&line, limit) {
+            return LineWalk { line, walked };
+        }
+    }
+}
+
+/// A line of [`dense_line`] whose walk takes up from `least` to `most` plans.
+pub fn dense_walk(
+    random: &mut Random,
+    (stations, trains): (u16, u16),
+    least: u64,
+    most: u64,
+) -> LineWalk {
+    loop {
+        let line = dense_line(random, stations, trains);
+        match solve_within(&line, most) {
+            Ok(walked) if walked.plans >= least => return LineWalk { line, walked },
+            _ => {}
+        }
+    }
+}
+
+/// A line for the benchmark of the walk: every train over the whole line, each second one the other
+/// way, all of them within an hour, mostly on single track, with two tracks at each station.
+pub fn dense_line(random: &mut Random, stations: u16, trains: u16) -> Line {
+    let mut line = Line {
+        station_count: stations,
+        train_count: trains,
+        ..Line::default()
+    };
+    line.tracks[..usize::from(stations)].fill(2);
+    for segment in &mut line.segments[..usize::from(stations) - 1] {
+        *segment = Segment {
+            kind: random.one_of(&[Kind::S, Kind::S, Kind::S, Kind::F, Kind::D]),
+            following: random.within(2, 5),
+            opposing: random.within(1, 4),
+        };
+    }
+    for (number, train) in line.trains[..usize::from(trains)].iter_mut().enumerate() {
+        let ends = [(1, stations), (stations, 1)];
+        let (origin, destination) = ends[number % 2];
+        *train = Train {
+            origin,
+            destination,
+            earliest: random.within(0, 60),
+            latest: Limits::MINUTE.most,
+            weight: random.within(1, 9),
+            ..Train::default()
+        };
+        let legs = train.legs();
+        for run in &mut train.runs[..legs] {
+            *run = random.within(5, 20);
+        }
+        for stop in &mut train.stops[..legs - 1] {
+            *stop = random.one_of(&[0, 0, 1, 3]);
+        }
+    }
+    line
+}
