@@ -26,12 +26,22 @@ fn solved(file: &[u8]) -> Result<Vec<u8>, (u32, u32)> {
     let mut lent = [0xa5; TIMETABLE_BYTES];
     match solve(file, &mut lent) {
         Ok(length) => {
-            assert!(lent[length..].iter().all(|&byte| byte == 0xa5), "bytes past the text");
-            assert_eq!(check(file, &lent[..length]), Ok(()), "the check of what was printed");
+            assert!(
+                lent[length..].iter().all(|&byte| byte == 0xa5),
+                "bytes past the text"
+            );
+            assert_eq!(
+                check(file, &lent[..length]),
+                Ok(()),
+                "the check of what was printed"
+            );
             Ok(lent[..length].to_vec())
         }
         Err(refusal) => {
-            assert!(lent.iter().all(|&byte| byte == 0xa5), "a byte changed with {refusal}");
+            assert!(
+                lent.iter().all(|&byte| byte == 0xa5),
+                "a byte changed with {refusal}"
+            );
             Err((refusal.number, refusal.place))
         }
     }
@@ -59,8 +69,9 @@ fn as_the_independent_walk() {
 fn as_the_planner_that_tries_every_order() {
     let mut random = Random::new(7);
     let mut without = 0;
-    for _ in 0..3_000 {
-        let file = file_of(&small_line(&mut random));
+    for turn in 0..3_000 {
+        let (stations, trains) = (2 + turn % 3, 1 + turn / 3 % 3);
+        let file = file_of(&small_line(&mut random, stations, trains));
         match exhaustive::plan(&file, u64::MAX) {
             Ok(text) => assert_eq!(solved(&file), Ok(text)),
             Err(Unplanned::Refused(refusal)) => {
