@@ -1,7 +1,7 @@
 //! How long the proved library takes to read and to rewrite a full-size line file, and to check
 //! full-size timetables, beside the independent implementation: same bytes, same process, rounds in
-//! turn, so that both meet the same machine. It prints times and their ratio and judges nothing. Of
-//! the walk through plans there is the independent one alone as yet.
+//! turn, so that both meet the same machine. It prints times and their ratio and judges nothing. For
+//! dense lines it prints the time of a plan, as both take up the same plans.
 
 use std::hint::black_box;
 use std::time::Instant;
@@ -112,30 +112,40 @@ fn checking(pairs: &[Pair]) {
 /// Plans dense lines, from the bytes of the file to those of the timetable.
 fn walking(random: &mut Random, size: (u16, u16)) {
     println!("{} stations, {} trains:", size.0, size.1);
+    let mut lent = [0; gaugeviolet::TIMETABLE_BYTES];
     for _ in 0..WALKS {
         let LineWalk { line, walked } = dense_walk(random, size, LEAST_PLANS, MOST_PLANS);
         let file = Fields::of(&line).text();
-        let mut seconds = Vec::new();
+        let (mut library, mut independent) = (Vec::new(), Vec::new());
         for _ in 0..WALK_ROUNDS {
             let start = Instant::now();
+            let length = black_box(gaugeviolet::solve(black_box(&file), &mut lent));
+            library.push(start.elapsed().as_secs_f64());
+            let start = Instant::now();
             let timetable = black_box(plan_by_walk(black_box(&file)));
-            seconds.push(start.elapsed().as_secs_f64());
-            assert_eq!(timetable.is_ok(), walked.best.is_some());
+            independent.push(start.elapsed().as_secs_f64());
+            assert_eq!(timetable.ok().as_deref(), length.ok().map(|n| &lent[..n]));
         }
-        report_walk(walked.plans, seconds);
+        let library = report_walk("library", walked.plans, library);
+        let independent = report_walk("independent", walked.plans, independent);
+        println!(
+            "walk     ratio        best {:8.2}     median {:8.2}",
+            library.0 / independent.0,
+            library.1 / independent.1
+        );
     }
 }
 
-fn report_walk(plans: u64, mut seconds: Vec<f64>) {
+/// Prints the time of a plan, best and median, and returns both in microseconds.
+fn report_walk(whose: &str, plans: u64, mut seconds: Vec<f64>) -> (f64, f64) {
     seconds.sort_by(f64::total_cmp);
-    let (best, median) = (seconds[0], seconds[seconds.len() / 2]);
     let each = |seconds: f64| seconds * 1e6 / plans as f64;
+    let (best, median) = (each(seconds[0]), each(seconds[seconds.len() / 2]));
     println!(
-        "walk     independent  best {:8.3} µs  median {:8.3} µs a plan  {plans:8} plans, {:4.1} million a second",
-        each(best),
-        each(median),
-        1.0 / each(best)
+        "walk     {whose:11}  best {best:8.3} µs  median {median:8.3} µs a plan  {plans:8} plans, {:4.1} million a second",
+        1.0 / best
     );
+    (best, median)
 }
 
 fn main() {
