@@ -6,7 +6,7 @@ use mathlib.Core.List.{List}
 use lib.ListN.{length, getD}
 use lib.Dec.{eqb}
 use Rattle.orders.specs.Bits.{inMask}
-use Rattle.orders.specs.Tables.{runIn, stopIn, nextIn, limitIn, weightIn, freeIn, sharedIn, followingIn, opposingIn}
+use Rattle.orders.specs.Tables.{runIn, stopIn, nextIn, limitIn, weightIn, sharedIn, followingIn, opposingIn}
 use Rattle.orders.specs.Raising.{Graph}
 
 -- a leg of a train takes its run, no less (`runs`) and no more (`slow`); the train's next leg; train j after the train of this leg on the segment, by

@@ -4,9 +4,9 @@ use Prim.Native.Nat.{ℕ, _≤_}
 use mathlib.Core.Path.{_≡_, refl, sym, ap, _∙_}
 use mathlib.Core.Logic.{_⊎_, inl, inr, ⊎-elim}
 use mathlib.Core.Bool.{Bool, true, false}
-use mathlib.Core.List.{List, _++_}
+use mathlib.Core.List.{List}
 use native.Mathlib.Omega.{arith}
-use borrow.Author.Tests.{leb-true, le-leb}
+use borrow.Author.Tests.{le-leb}
 use lib.Dec.{leb}
 use lib.ListN.{length, take, drop}
 use lib.Seq.{take-append-seam}
@@ -25,7 +25,7 @@ use Rattle.timetable.specs.declared.checking.Verdict.{Verdict}
 use Rattle.timetable.specs.Spell.{timetableText}
 use Rattle.timetable.specs.Check.{checkOf}
 use Rattle.timetable.specs.FitsLaws.{timetable-fits}
-use Rattle.timetable.specs.Exact.{PassedBy, passed}
+use Rattle.timetable.specs.Exact.{passed}
 use Rattle.solver.specs.Walk.{BestSoFar, nothing, found, walk}
 use Rattle.solver.specs.Planning.{planning}
 use Rattle.solver.specs.Solved.{solved, unsolved}

@@ -1,15 +1,15 @@
 -- What the walk from the plan without choices gives: it is the whole walk of the line, so what it finds is the best timetable, or there is none.
-use Prim.Native.Nat.{ℕ, suc, _+_, _*_, _-_, _≤_, _<_}
+use Prim.Native.Nat.{ℕ, suc, _+_, _*_, _-_, _<_}
 use mathlib.Core.Path.{_≡_, refl, sym, ap, _∙_}
-use mathlib.Core.Bool.{Bool, true, false, cond, _&&_}
+use mathlib.Core.Bool.{false}
 use mathlib.Core.List.{List}
 use native.Mathlib.Omega.{arith}
-use lib.ListN.{length, replicate, length-replicate, getD}
+use lib.ListN.{replicate}
 use Rattle.text.specs.Decide.{is-true, is-false}
 use Rattle.line.specs.declared.Line.{Line}
 use Rattle.line.specs.Within.{Within, Arrays}
 use Rattle.rules.specs.Paths.{EachTrain}
-use Rattle.rules.specs.Rules.{NotLate, Lawful}
+use Rattle.rules.specs.Rules.{NotLate}
 use Rattle.rules.specs.Delay.{weightedDelay}
 use Rattle.orders.specs.NoLater.{slack}
 use Rattle.orders.specs.NoLaterLaws.{slack-most}
@@ -17,14 +17,13 @@ use Rattle.orders.specs.Least.{Least, minutes, none, Fit, IsLeast}
 use Rattle.orders.specs.Marks.{free}
 use Rattle.orders.specs.Plans.{Keeps}
 use Rattle.orders.specs.TidyPlansLaws.{free-tidy}
-use Rattle.solver.specs.declared.finding.Found.{Found}
 use Rattle.solver.specs.declared.tally.Tally.{Tally}
-use Rattle.solver.specs.Walk.{BestSoFar, nothing, found, Walked, walk, plenty, takeUp, improves}
+use Rattle.solver.specs.Walk.{BestSoFar, nothing, found, Walked, walk, plenty, takeUp}
 use Rattle.solver.specs.ProblemLaws.{least-found}
 use Rattle.solver.specs.Planning.{start, inTime, planning}
 use Rattle.solver.specs.PlanningLaws.{decides-inTime}
 use Rattle.solver.specs.Solved.{planning-laws, solved, unsolved}
-use Rattle.solver.specs.Tallies.{bestOf, cutOff, Tallied}
+use Rattle.solver.specs.Tallies.{bestOf, cutOff}
 use Rattle.solver.specs.Taking.{Planned, takenUp, planPart, Walks}
 use Rattle.solver.specs.TakingLaws.{taken-up, taken-none, taken-cut, taken-some}
 use Rattle.solver.specs.Finding.{Finds}

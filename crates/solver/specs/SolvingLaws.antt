@@ -12,7 +12,6 @@ use Rattle.line.specs.declared.Answer.{Answer}
 use Rattle.line.specs.declared.Line.{Line}
 use Rattle.line.specs.declared.ReadLine.{ReadLine}
 use Rattle.line.specs.File.{lineFile, answered}
-use Rattle.line.specs.Within.{Within, Arrays}
 use Rattle.line.specs.WithinLaws.{fault-none}
 use Rattle.line.specs.RoundTrip.{ReadFrom, accepts-read}
 use Rattle.rules.specs.Rules.{Lawful}
@@ -22,7 +21,7 @@ use Rattle.timetable.specs.Spell.{timetableText}
 use Rattle.timetable.specs.Writing.{spelling}
 use Rattle.timetable.specs.WritingLaws.{spelling-text, days-clean}
 use Rattle.timetable.specs.SameText.{text-same}
-use Rattle.solver.specs.Solving.{fileRefused, Refuses, Solving}
+use Rattle.solver.specs.Solving.{fileRefused, Solving}
 
 -- what a reading that was refused, or accepted, was of
 refused-is : (a : Parsed Line) (n p : ℕ) → answered a .answer ≡ Answer.Refused n p → a ≡ Parsed.bad n p

@@ -7,16 +7,6 @@ use independent::walk::plan_by_walk;
 use independent::Line;
 use inputs::{short_walk, small_line, Random, Shape};
 
-const SHAPES: [Shape; 7] = [
-    Shape::Sparse,
-    Shape::Dense,
-    Shape::Tight,
-    Shape::OneTrack,
-    Shape::ZeroWeights,
-    Shape::Ties,
-    Shape::Wide,
-];
-
 fn file_of(line: &Line) -> Vec<u8> {
     independent::write(line).expect("a line within the limits")
 }
@@ -56,7 +46,7 @@ fn as_the_independent_walk() {
     let mut random = Random::new(20_261_115);
     let mut without = 0;
     for turn in 0..21_000 {
-        let walk = short_walk(&mut random, SHAPES[turn % SHAPES.len()], 2_000);
+        let walk = short_walk(&mut random, Shape::ALL[turn % Shape::ALL.len()], 2_000);
         let file = file_of(&walk.line);
         let answer = solved(&file);
         assert_eq!(answer, by_walk(&file), "{}", String::from_utf8_lossy(&file));
