@@ -1,6 +1,7 @@
 -- Bits of a mask, and the change of one entry of a list.
-use Prim.Native.Nat.{ℕ, zero, suc, _+_, _*_, _/_, _%_}
-use mathlib.Core.Bool.{Bool}
+use Prim.Native.Nat.{ℕ, zero, suc, _+_, _*_, _/_, _%_, _≤_, _<_}
+use mathlib.Core.Path.{_≡_}
+use mathlib.Core.Bool.{Bool, true, false}
 use mathlib.Core.List.{List, [], _∷_}
 use lib.Dec.{eqb}
 
@@ -12,6 +13,12 @@ bit (suc j) x = bit j (x / 2)
 -- the set that a mask stands for has j
 abbrev pub inMask : ℕ → ℕ → Bool
 inMask x j = eqb (bit j x) 1
+
+-- r is the lowest member of a set of numbers below 16 from this one on; 16 or more where there is none
+pub record NextBit (mask from r : ℕ) : Type 0 where
+  pub on : from ≤ r
+  pub member : r < 16 → inMask mask r ≡ true
+  pub none-between : (i : ℕ) → from ≤ i → i < r → inMask mask i ≡ false
 
 -- the mask with bit j
 unfoldable pub withBit : ℕ → ℕ → ℕ

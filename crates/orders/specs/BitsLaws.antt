@@ -1,5 +1,5 @@
 -- Laws of bits and changed entries, and the bits of a mask that is a sum of powers.
-use Prim.Native.Nat.{ℕ, zero, suc, _+_, _*_, _/_, _%_, _^_, _≤_, _<_}
+use Prim.Native.Nat.{ℕ, zero, suc, _+_, _-_, _*_, _/_, _%_, _^_, _≤_, _<_}
 use mathlib.Core.Path.{_≡_, refl, sym, _∙_, ap}
 use mathlib.Core.Logic.{_⊎_, inl, inr, ⊎-elim}
 use mathlib.Core.Bool.{Bool, true, false, cond}
@@ -7,11 +7,12 @@ use mathlib.Core.List.{List, [], _∷_}
 use native.Mathlib.Nat.{div-div-eq-div-mul, pow-succ'}
 use native.Mathlib.Omega.{arith}
 use lib.Bits.{bitOr, or-step, or-zero-r}
+use lib.Count.{trailingZeros, under}
 use lib.ListN.{length, getD, set}
 use lib.Dec.{eqb}
 use Rattle.text.specs.Below.{sum, one-most}
 use Rattle.text.specs.Decide.{decides-eq, is-true, is-false}
-use Rattle.orders.specs.Bits.{bit, inMask, withBit, change}
+use Rattle.orders.specs.Bits.{bit, inMask, NextBit, withBit, change}
 
 pub bit-zero : (j : ℕ) → bit j 0 ≡ 0
 unfolding bit
@@ -38,11 +39,20 @@ bit-other (suc j) (suc k) x n =
 
 -- ---- as a program writes them: `(x >> j) % 2`, and `x | (1 << j)`
 
+-- bit j + k of a mask is bit k of the shifted one
+bit-past : (j k i x : ℕ) → i ≡ j + k → bit i x ≡ bit k (x / 2 ^ j)
+unfolding bit
+bit-past zero k i x p =
+    let at : i ≡ k = omega arith in
+    let same : x ≡ x / 2 ^ 0 = omega arith in
+    ap (λ (n : ℕ). bit n x) at ∙ ap (bit k) same
+bit-past (suc j) k zero x p = absurd (omega arith)
+bit-past (suc j) k (suc i) x p =
+    bit-past j k i (x / 2) (omega arith) ∙ ap (bit k) (div-div-eq-div-mul x 2 (2 ^ j) ∙ ap (λ (n : ℕ). x / n) (sym (pow-succ' 2 j)))
+
 pub bit-shift : (j x : ℕ) → bit j x ≡ x / 2 ^ j % 2
 unfolding bit
-bit-shift zero x = omega arith
-bit-shift (suc j) x =
-    bit-shift j (x / 2) ∙ ap (λ (y : ℕ). y % 2) (div-div-eq-div-mul x 2 (2 ^ j) ∙ ap (λ (n : ℕ). x / n) (sym (pow-succ' 2 j)))
+bit-shift j x = bit-past j 0 j x (omega arith)
 
 pub withBit-or : (j x : ℕ) → withBit j x ≡ bitOr x (2 ^ j)
 unfolding withBit
@@ -59,15 +69,49 @@ change-set f e [] l = absurd (omega arith)
 change-set f zero (x ∷ p) l = refl
 change-set f (suc e) (x ∷ p) l = ap (λ (q : List ℕ). x ∷ q) (change-set f e p (omega arith))
 
--- the test of a bit
-pub mask-on : (x j : ℕ) → x / 2 ^ j % 2 ≡ 1 → inMask x j ≡ true
-mask-on x j p = is-true (decides-eq (bit j x) 1) (bit-shift j x ∙ p)
-
-pub on-mask : (x j : ℕ) → inMask x j ≡ true → x / 2 ^ j % 2 ≡ 1
-on-mask x j p = sym (bit-shift j x) ∙ decides-eq (bit j x) 1 .yea p
+mask-off : (x j : ℕ) → bit j x ≡ 0 → inMask x j ≡ false
+mask-off x j p = is-false (decides-eq (bit j x) 1) (λ q. omega arith)
 
 pub mask-none : (x j : ℕ) → x ≡ 0 → inMask x j ≡ false
-mask-none x j p = is-false (decides-eq (bit j x) 1) (λ q. omega (arith, bit-zero j, ap (bit j) p))
+mask-none x j p = mask-off x j (ap (bit j) p ∙ bit-zero j)
+
+-- ---- the lowest bit from one on: `mask >> from`, and how many zeros stand below its lowest bit
+
+zeros-below : (d x i : ℕ) → i < trailingZeros d x → bit i x ≡ 0
+unfolding bit trailingZeros
+zeros-below zero x i l = absurd (omega arith)
+zeros-below (suc d) x i l = go (x % 2) refl i l (zeros-below d (x / 2))
+  where
+    go : (b : ℕ) → x % 2 ≡ b → (k : ℕ) → k < under b (trailingZeros d (x / 2)) → ((j : ℕ) → j < trailingZeros d (x / 2) → bit j (x / 2) ≡ 0) → bit k x ≡ 0
+    go zero e zero h ih = e
+    go zero e (suc k) h ih = ih k (omega arith)
+    go (suc b) e k h ih = absurd (omega arith)
+
+lowest-bit : (d x : ℕ) → trailingZeros d x < d → bit (trailingZeros d x) x ≡ 1
+unfolding bit trailingZeros
+lowest-bit zero x l = absurd (omega arith)
+lowest-bit (suc d) x l = go (x % 2) refl l (lowest-bit d (x / 2))
+  where
+    go : (b : ℕ) → x % 2 ≡ b → under b (trailingZeros d (x / 2)) < suc d → (trailingZeros d (x / 2) < d → bit (trailingZeros d (x / 2)) (x / 2) ≡ 1) →
+        bit (under b (trailingZeros d (x / 2))) x ≡ 1
+    go zero e h ih = ih (omega arith)
+    go (suc b) e h ih = omega arith
+
+pub next-none : (x from : ℕ) → from < 16 → x / 2 ^ from ≡ 0 → NextBit x from 16
+next-none x from l z = record {
+  on = omega arith;
+  member = λ h. absurd (omega arith);
+  none-between = λ i h k. mask-off x i (bit-past from (i - from) i x (omega arith) ∙ ap (bit (i - from)) z ∙ bit-zero (i - from));
+}
+
+pub next-some : (x from : ℕ) → NextBit x from (from + trailingZeros 16 (x / 2 ^ from))
+next-some x from = record {
+  on = omega arith;
+  member = λ h.
+      let t = trailingZeros 16 (x / 2 ^ from) in
+      is-true (decides-eq (bit (from + t) x) 1) (bit-past from t (from + t) x refl ∙ lowest-bit 16 (x / 2 ^ from) (omega arith));
+  none-between = λ i h k. mask-off x i (bit-past from (i - from) i x (omega arith) ∙ zeros-below 16 (x / 2 ^ from) (i - from) (omega arith));
+}
 
 -- ---- a mask of those below n that pass a test, as a sum
 

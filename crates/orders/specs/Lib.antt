@@ -31,8 +31,10 @@ pub mod LegTimesLaws
 pub mod RaisingLaws
 pub mod CostLaws
 pub mod Lifting
+pub mod Prospects
 pub mod LiftingLaws
 pub mod ServingLaws
+pub mod ProspectsLaws
 pub mod StoreLaws
 pub mod RowLaws
 pub mod OnwardLaws

@@ -1,16 +1,16 @@
 -- Laws of going through the marks of a leg train by train: the arcs that leave the leg, from train k on.
-use Prim.Native.Nat.{ℕ, _+_, _/_, _%_, _^_, _≤_, _<_}
+use Prim.Native.Nat.{ℕ, _+_, _≤_, _<_}
 use mathlib.Core.Path.{_≡_, sym, _∙_, ap, subst, subst⁻¹}
 use mathlib.Core.Logic.{_⊎_, inl, inr, ⊎-elim}
 use mathlib.Core.Bool.{true, true≢false}
 use mathlib.Core.List.{List}
 use native.Mathlib.Omega.{arith}
 use lib.ListN.{getD}
-use Rattle.orders.specs.Bits.{inMask}
-use Rattle.orders.specs.BitsLaws.{mask-on, on-mask, mask-none}
+use Rattle.orders.specs.Bits.{inMask, NextBit}
+use Rattle.orders.specs.BitsLaws.{mask-none}
 use Rattle.orders.specs.Raising.{Kept, Nothing}
 use Rattle.orders.specs.RaisingLaws.{le-or-lt}
-use Rattle.orders.specs.LegGraph.{LegArc, runs, slow, next, depart, arrive, after, gone, beside, stationOf, leaving, comesOn, UsedLeg, Used, legGraph}
+use Rattle.orders.specs.LegGraph.{LegArc, runs, slow, next, depart, arrive, after, gone, stationOf, leaving, comesOn, UsedLeg, Used, legGraph}
 use Rattle.orders.specs.Lifting.{Alive, Ready, Any, Lifted, Followed, After, Gone, Follows, Comes}
 use Rattle.orders.specs.LiftingLaws.{Going, going-start, going-as, going-skip, followed, followed-dead}
 use Rattle.orders.specs.ServingLaws.{Serves, serves-dead, serves-raised, serves-still}
@@ -113,22 +113,23 @@ module _ (marks t ds : List ℕ) where
         (λ a u d. absurd (true≢false (sym (w .marked a u d) ∙ mask-none (getD marks row 0) (trainOf a) (sym q ∙ z)))))
 
     module _ (src cut : ℕ) (m n : List ℕ) (k c : ℕ) (g : Going marks t ds src cut Any D (FromTrain D k) m n c) where
-      module _ (n′ : List ℕ) (c′ : ℕ) where
-        -- train k is not marked
-        pub row-skip : (s : ℕ) → s ≡ getD marks row 0 → (s / 2 ^ k % 2 ≡ 1 → ⊥) → n′ ≡ n → c′ ≡ c → Going marks t ds src cut Any D (FromTrain D (k + 1)) m n′ c′
-        row-skip s q z = going-as marks t ds src cut Any D (FromTrain D (k + 1)) m n c
-            (going-skip marks t ds src cut Any D (FromTrain D k) m n c g (FromTrain D (k + 1)) go) n′ c′
-          where
-            go : (a : LegArc) → Used marks t ds a → FromTrain D k a → Kept (legGraph marks t ds) n a ⊎ FromTrain D (k + 1) a
-            go a u d =
-                ⊎-elim
-                (λ p.
-                let at : k ≡ trainOf a = omega arith in
-                absurd (z (on-mask s k (ap (λ (x : ℕ). inMask x k) q ∙ ap (inMask (getD marks row 0)) at ∙ w .marked a u (d .0)))))
-                (λ p. inr (d .0, omega arith))
-                (le-or-lt (trainOf a) k)
+      -- the next train that is marked, and none from k up to it
+      pub row-next : (s r : ℕ) → s ≡ getD marks row 0 → NextBit s k r →
+          (r < 12 → inMask (getD marks row 0) r ≡ true) × Going marks t ds src cut Any D (FromTrain D r) m n c
+      row-next s r q b = (
+        (λ l. ap (λ (x : ℕ). inMask x r) (sym q) ∙ b .member (omega arith)),
+        going-skip marks t ds src cut Any D (FromTrain D k) m n c g (FromTrain D r) go,
+      )
+        where
+          go : (a : LegArc) → Used marks t ds a → FromTrain D k a → Kept (legGraph marks t ds) n a ⊎ FromTrain D r a
+          go a u d =
+              ⊎-elim
+              (λ p. inr (d .0, p))
+              (λ p. absurd (true≢false (sym (w .marked a u (d .0)) ∙ ap (λ (x : ℕ). inMask x (trainOf a)) (sym q) ∙ b .none-between (trainOf a) (d .1) p)))
+              (le-or-lt r (trainOf a))
 
-        -- it is, and its leg is there already, or was lifted
+      module _ (n′ : List ℕ) (c′ : ℕ) where
+        -- train k is marked, and its leg is there already, or was lifted
         module _ (f v x : ℕ) (h : Serves marks t ds (Here k) n f v x) where
           pub row-still : v ≤ getD n f 0 → x ≤ getD n (176 + f) 0 → n′ ≡ n → c′ ≡ c → Going marks t ds src cut Any D (FromTrain D (k + 1)) m n′ c′
           row-still p q =
@@ -153,14 +154,8 @@ module _ (marks t ds : List ℕ) where
           followed marks t ds D src cut m n c i
           (going-skip marks t ds src cut Any D (FromTrain D k) m n c g (Nothing (legGraph marks t ds)) (λ a u d. absurd (omega (arith, w .few a u (d .0)))))
 
-  -- ---- the leg of a train that is marked, as the program tests the mask
+  -- ---- the leg of a train that is marked
 
   module _ (m : List ℕ) (e cost cut : ℕ) (r : Ready m marks t ds e cost cut) (j : ℕ) (train : j < 12) where
-    pub follows-leg : getD marks e 0 / 2 ^ j % 2 ≡ 1 → UsedLeg marks t ds (beside e j)
-    follows-leg on = r .shaped .beside-used e j (r .leg) train (mask-on (getD marks e 0) j on)
-
-    pub comes-marked : (row : ℕ) → row ≡ leaving ds e → getD marks row 0 / 2 ^ j % 2 ≡ 1 → inMask (getD marks (leaving ds e) 0) j ≡ true
-    comes-marked row at on = ap (λ (x : ℕ). inMask (getD marks x 0) j) (sym at) ∙ mask-on (getD marks row 0) j on
-
     pub comes-leg : (f : ℕ) → inMask (getD marks (leaving ds e) 0) j ≡ true → f ≡ comesOn ds (stationOf ds e) j → UsedLeg marks t ds f
     comes-leg f on q = subst⁻¹ (λ (x : ℕ). UsedLeg marks t ds x) q (r .shaped .comes-used e j (r .leg) train on)

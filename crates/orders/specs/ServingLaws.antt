@@ -43,7 +43,7 @@ module _ (marks t ds : List ℕ) where
   G = legGraph marks t ds
 
   -- by minutes n the arc asks that event x be at v
-  abbrev Calls : List ℕ → ℕ → ℕ → LegArc → Type 0
+  abbrev pub Calls : List ℕ → ℕ → ℕ → LegArc → Type 0
   Calls n x v a = (G .to a ≡ x) × (getD n (G .from a) 0 + G .wait a ≡ v + G .allow a)
 
   -- the arcs of `Here` ask that leg f depart at v or arrive at w, and some arc asks for each of the two, where it is not 0

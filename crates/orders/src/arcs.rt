@@ -16,7 +16,7 @@ pub struct Behind {
     pub arrival: u16,
 }
 
-pub fn times_behind(m: &[u16], t: &[u16], ds: &[u16], e: usize, j: usize) -> Behind
+pub fn times_behind(m: &[u16; 352], t: &[u16; 1104], ds: &[u16; 176], e: usize, j: usize) -> Behind
     requires { ⌜ Seen (now m) (now t) (now ds) e j ⌝ }
     ensures { λ r. ⌜ GoesBehind (now (m .entry)) (now (t .entry)) (now (ds .entry)) e j (r .departure) (r .arrival) × (r .departure ≤ 2939) × (r .arrival ≤ 2939) ⌝ }
 {
@@ -40,7 +40,7 @@ pub fn times_behind(m: &[u16], t: &[u16], ds: &[u16], e: usize, j: usize) -> Beh
 }
 
 // The event that this choice starts from.
-pub fn source_of(t: &[u16], ds: &[u16], e: usize, j: usize) -> usize
+pub fn source_of(t: &[u16; 1104], ds: &[u16; 176], e: usize, j: usize) -> usize
     requires { ⌜ (length (now t) ≡ 1104) × (length (now ds) ≡ 176) × (e < 176) × (j < 12) ⌝ }
     ensures { λ r. ⌜ r ≡ sourceOf (now (t .entry)) (now (ds .entry)) e j ⌝ }
 {
@@ -53,7 +53,7 @@ pub fn source_of(t: &[u16], ds: &[u16], e: usize, j: usize) -> usize
     176 + e
 }
 
-fn station_of(ds: &[u16], e: usize) -> usize
+fn station_of(ds: &[u16; 176], e: usize) -> usize
     requires { ⌜ (length (now ds) ≡ 176) × (e < 176) ⌝ }
     ensures { λ r. ⌜ (r ≡ stationOf (now (ds .entry)) e) × (r ≤ 11) ⌝ }
 {
@@ -64,7 +64,7 @@ fn station_of(ds: &[u16], e: usize) -> usize
 }
 
 // The row of the marks of leg e's departure.
-pub fn leaving_row(ds: &[u16], e: usize) -> usize
+pub fn leaving_row(ds: &[u16; 176], e: usize) -> usize
     requires { ⌜ (length (now ds) ≡ 176) × (e < 176) ⌝ }
     ensures { λ r. ⌜ (r ≡ leaving (now (ds .entry)) e) × (r < 368) ⌝ }
 {
@@ -72,7 +72,7 @@ pub fn leaving_row(ds: &[u16], e: usize) -> usize
 }
 
 // The leg on which train j, which has that station as a middle one, comes to it.
-pub fn coming_leg(ds: &[u16], e: usize, j: usize) -> usize
+pub fn coming_leg(ds: &[u16; 176], e: usize, j: usize) -> usize
     requires { ⌜ (length (now ds) ≡ 176) × (e < 176) × (j < 12) ⌝ }
     ensures { λ r. ⌜ r ≡ comesOn (now (ds .entry)) (stationOf (now (ds .entry)) e) j ⌝ }
 {

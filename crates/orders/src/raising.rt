@@ -12,6 +12,7 @@ use crate::arcs::coming_leg;
 use crate::arcs::leaving_row;
 use crate::arcs::source_of;
 use crate::arcs::times_behind;
+use crate::bits::next_bit;
 use crate::tables::limit_at;
 use crate::tables::next_at;
 use crate::tables::run_at;
@@ -27,10 +28,10 @@ pub const DEAD: u32 = 4294967295;
 
 // Raises leg e to depart at v and arrive at w or later, and all that follows.
 fn lift(
-    m: &mut [u16],
-    marks: &[u16],
-    t: &[u16],
-    ds: &[u16],
+    m: &mut [u16; 352],
+    marks: &[u16; 368],
+    t: &[u16; 1104],
+    ds: &[u16; 176],
     e: usize,
     v: u16,
     w: u16,
@@ -71,10 +72,10 @@ fn lift(
 
 // Raises the next leg of the train of leg e.
 fn onward(
-    m: &mut [u16],
-    marks: &[u16],
-    t: &[u16],
-    ds: &[u16],
+    m: &mut [u16; 352],
+    marks: &[u16; 368],
+    t: &[u16; 1104],
+    ds: &[u16; 176],
     e: usize,
     src: usize,
     cost: u32,
@@ -96,10 +97,10 @@ fn onward(
 
 // Raises the trains that go after that of leg e on its segment.
 fn followers(
-    m: &mut [u16],
-    marks: &[u16],
-    t: &[u16],
-    ds: &[u16],
+    m: &mut [u16; 352],
+    marks: &[u16; 368],
+    t: &[u16; 1104],
+    ds: &[u16; 176],
     e: usize,
     src: usize,
     cost: u32,
@@ -113,31 +114,29 @@ fn followers(
         return cost;
     }
     let mut c = cost;
-    let mut j: usize = 0;
+    let mut j = next_bit(s, 0);
     while j < 12 {
-        if (s >> j) % 2 == 1 {
-            let f = 16 * (e / 16) + j;
-            let b = times_behind(m, t, ds, e, j);
-            let v = b.departure;
-            let w = b.arrival;
-            if rises(m[f], v, m[176 + f], w) {
-                c = lift(m, marks, t, ds, f, v, w, src, c, cut);
-                if c == DEAD {
-                    return DEAD;
-                }
+        let f = 16 * (e / 16) + j;
+        let b = times_behind(m, t, ds, e, j);
+        let v = b.departure;
+        let w = b.arrival;
+        if rises(m[f], v, m[176 + f], w) {
+            c = lift(m, marks, t, ds, f, v, w, src, c, cut);
+            if c == DEAD {
+                return DEAD;
             }
         }
-        j = j + 1;
+        j = next_bit(s, j + 1);
     }
     c
 }
 
 // Raises the trains that come to the station of leg e's departure after its train has left.
 fn comers(
-    m: &mut [u16],
-    marks: &[u16],
-    t: &[u16],
-    ds: &[u16],
+    m: &mut [u16; 352],
+    marks: &[u16; 368],
+    t: &[u16; 1104],
+    ds: &[u16; 176],
     e: usize,
     src: usize,
     cost: u32,
@@ -152,19 +151,17 @@ fn comers(
         return cost;
     }
     let mut c = cost;
-    let mut j: usize = 0;
+    let mut j = next_bit(s, 0);
     while j < 12 {
-        if (s >> j) % 2 == 1 {
-            let f = coming_leg(ds, e, j);
-            let w = m[e] + 1;
-            if m[176 + f] < w {
-                c = lift(m, marks, t, ds, f, 0, w, src, c, cut);
-                if c == DEAD {
-                    return DEAD;
-                }
+        let f = coming_leg(ds, e, j);
+        let w = m[e] + 1;
+        if m[176 + f] < w {
+            c = lift(m, marks, t, ds, f, 0, w, src, c, cut);
+            if c == DEAD {
+                return DEAD;
             }
         }
-        j = j + 1;
+        j = next_bit(s, j + 1);
     }
     c
 }
@@ -172,10 +169,10 @@ fn comers(
 // The least minutes with the choice, marked already, that train j goes after that of leg e on its segment, and what they cost; DEAD where none are in
 // time for no more than the cut.
 pub fn follow(
-    m: &mut [u16],
-    marks: &[u16],
-    t: &[u16],
-    ds: &[u16],
+    m: &mut [u16; 352],
+    marks: &[u16; 368],
+    t: &[u16; 1104],
+    ds: &[u16; 176],
     e: usize,
     j: usize,
     cost: u32,
@@ -197,10 +194,10 @@ pub fn follow(
 
 // The same with the choice that train j comes to the station of leg e's departure after its train has left.
 pub fn come_after(
-    m: &mut [u16],
-    marks: &[u16],
-    t: &[u16],
-    ds: &[u16],
+    m: &mut [u16; 352],
+    marks: &[u16; 368],
+    t: &[u16; 1104],
+    ds: &[u16; 176],
     e: usize,
     j: usize,
     cost: u32,

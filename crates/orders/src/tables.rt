@@ -40,63 +40,63 @@ fn place(x: u16) -> usize
     x as usize
 }
 
-pub fn run_at(t: &[u16], e: usize) -> u16
+pub fn run_at(t: &[u16; 1104], e: usize) -> u16
     requires { ⌜ (length (now t) ≡ 1104) × (e < 176) ⌝ }
     ensures { λ r. ⌜ r ≡ runIn (now (t .entry)) e ⌝ }
 {
     t[e]
 }
 
-pub fn stop_at(t: &[u16], e: usize) -> u16
+pub fn stop_at(t: &[u16; 1104], e: usize) -> u16
     requires { ⌜ (length (now t) ≡ 1104) × (e < 176) ⌝ }
     ensures { λ r. ⌜ r ≡ stopIn (now (t .entry)) e ⌝ }
 {
     t[176 + e]
 }
 
-pub fn next_at(t: &[u16], e: usize) -> usize
+pub fn next_at(t: &[u16; 1104], e: usize) -> usize
     requires { ⌜ (length (now t) ≡ 1104) × (e < 176) ⌝ }
     ensures { λ r. ⌜ r ≡ nextIn (now (t .entry)) e ⌝ }
 {
     place(t[352 + e])
 }
 
-pub fn limit_at(t: &[u16], e: usize) -> u16
+pub fn limit_at(t: &[u16; 1104], e: usize) -> u16
     requires { ⌜ (length (now t) ≡ 1104) × (e < 176) ⌝ }
     ensures { λ r. ⌜ r ≡ limitIn (now (t .entry)) e ⌝ }
 {
     t[528 + e]
 }
 
-pub fn weight_at(t: &[u16], e: usize) -> u16
+pub fn weight_at(t: &[u16; 1104], e: usize) -> u16
     requires { ⌜ (length (now t) ≡ 1104) × (e < 176) ⌝ }
     ensures { λ r. ⌜ r ≡ weightIn (now (t .entry)) e ⌝ }
 {
     t[704 + e]
 }
 
-pub fn free_at(t: &[u16], e: usize) -> u16
+pub fn free_at(t: &[u16; 1104], e: usize) -> u16
     requires { ⌜ (length (now t) ≡ 1104) × (e < 176) ⌝ }
     ensures { λ r. ⌜ r ≡ freeIn (now (t .entry)) e ⌝ }
 {
     t[880 + e]
 }
 
-pub fn shared_at(t: &[u16], p: usize) -> bool
+pub fn shared_at(t: &[u16; 1104], p: usize) -> bool
     requires { ⌜ (length (now t) ≡ 1104) × (p < 11) ⌝ }
     ensures { λ r. ⌜ r ≡ eqb (sharedIn (now (t .entry)) p) 1 ⌝ }
 {
     t[1056 + p] == 1
 }
 
-pub fn following_at(t: &[u16], p: usize) -> u16
+pub fn following_at(t: &[u16; 1104], p: usize) -> u16
     requires { ⌜ (length (now t) ≡ 1104) × (p < 11) ⌝ }
     ensures { λ r. ⌜ r ≡ followingIn (now (t .entry)) p ⌝ }
 {
     t[1072 + p]
 }
 
-pub fn opposing_at(t: &[u16], p: usize) -> u16
+pub fn opposing_at(t: &[u16; 1104], p: usize) -> u16
     requires { ⌜ (length (now t) ≡ 1104) × (p < 11) ⌝ }
     ensures { λ r. ⌜ r ≡ opposingIn (now (t .entry)) p ⌝ }
 {

@@ -70,7 +70,7 @@ module _ (Q : Conflict → Type 0) where
   or-holds (Conflict.OnSegment x) d p q = p
   or-holds (Conflict.AtStation x) d p q = p
 
-  first-holds : (f : ℕ → Conflict) (n : ℕ) → Q Conflict.Nothing → EachBelow n (λ i. Q (f i)) → Q (firstConflict f n)
+  pub first-holds : (f : ℕ → Conflict) (n : ℕ) → Q Conflict.Nothing → EachBelow n (λ i. Q (f i)) → Q (firstConflict f n)
   unfolding firstConflict
   first-holds f zero z h = z
   first-holds f (suc n) z h = or-holds (firstConflict f n) (f n) (first-holds f n z (λ i s. h i (omega arith))) (h n (omega arith))

@@ -68,6 +68,13 @@ filled-none l = record {
 pub filled-at : (l : Line) (t : List ℕ) (k k′ : ℕ) → Filled l k t → k ≡ k′ → Filled l k′ t
 filled-at l t k k′ h q = subst (λ (k : ℕ). Filled l k t) q h
 
+-- whether a number is below k, and below k + 1, where it is not k
+pub same-test : (x k k′ : ℕ) → k′ ≡ suc k → (x ≡ k → ⊥) → ltb x k ≡ ltb x k′
+same-test x k k′ q d = elim (decLt x k) [
+  | yes s ↦ lt-ltb x k s ∙ sym (lt-ltb x k′ (omega arith))
+  | no s ↦ le-ltb x k (omega arith) ∙ sym (le-ltb x k′ (omega arith))
+]
+
 pub filled-more : (l : Line) (t : List ℕ) (i p v : ℕ) → Filled l (11 * i + p) t → p < 11 → i < 16 → v ≡ directionEntry l (16 * p + i) → Filled l (11 * i + (p + 1)) (set t (16 * p + i) v)
 filled-more l t i p v h a b w =
     record {
@@ -80,12 +87,6 @@ filled-more l t i p v h a b w =
             ap (λ (c : Bool). cond c (directionEntry l e) 0) (same-test (11 * (e % 16) + e / 16) (11 * i + p) (11 * i + (p + 1)) (omega arith) (omega arith))
       ];
     }
-  where
-    same-test : (x k k′ : ℕ) → k′ ≡ suc k → (x ≡ k → ⊥) → ltb x k ≡ ltb x k′
-    same-test x k k′ q d = elim (decLt x k) [
-      | yes s ↦ lt-ltb x k s ∙ sym (lt-ltb x k′ (omega arith))
-      | no s ↦ le-ltb x k (omega arith) ∙ sym (le-ltb x k′ (omega arith))
-    ]
 
 pub filled-all : (l : Line) (t : List ℕ) (k : ℕ) → Filled l k t → k ≡ 11 * l .«train_count» → t ≡ directionsOf l
 unfolding directionsOf

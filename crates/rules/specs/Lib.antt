@@ -6,6 +6,7 @@ pub mod Delay
 pub mod Tests
 pub mod Directions
 pub mod Conflicts
+pub mod Scanning
 pub mod Orders
 pub mod Breaches
 pub mod PathsLaws
@@ -15,6 +16,7 @@ pub mod Standing
 pub mod StationLaws
 pub mod RulesLaws
 pub mod BreachesLaws
+pub mod ScanningLaws
 pub mod OrdersCarry
 pub mod OrdersLaws
 pub mod ListsLaws

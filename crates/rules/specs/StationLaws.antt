@@ -81,36 +81,34 @@ module _ (x : Stay) (t : ℕ) where
 pub stands-here : (x y : Stay) (t : ℕ) (r : Bool) → x ≡ y → r ≡ standsIn x t → standsIn y t ≡ r
 stands-here x y t r e h = ap (λ (z : Stay). standsIn z t) (sym e) ∙ sym h
 
-pub standing-is : (ds m : List ℕ) (n s t i k : ℕ) → k ≡ count (standsAt ds m s t) i → i ≡ n → k ≡ standingAt ds m n s t
-unfolding standingAt
-standing-is ds m n s t i k e q = e ∙ ap (count (standsAt ds m s t)) q
-
 -- ---- the earliest crowded minute: only the minutes of arrivals need a look
 
 -- e is the earliest crowded minute below 2880 among the arrivals of the trains below i, or 2880
 pub record Earliest (ds m : List ℕ) (n tracks s i e : ℕ) : Type 0 where
   pub within : e ≤ 2880
   pub crowded : e < 2880 → tracks < standingAt ds m n s e
-  pub least : EachBelow i (λ k. stay ds m s k .passes ≡ true → tracks < standingAt ds m n s (stay ds m s k .came) → e ≤ stay ds m s k .came)
+  pub least : EachBelow i (λ k. stay ds m s k .passes ≡ true → tracks < standingAt ds m n s (cameTo ds m s k) → e ≤ cameTo ds m s k)
 
 module _ (ds m : List ℕ) (n tracks s : ℕ) where
   pub earliest-start : Earliest ds m n tracks s 0 2880
   earliest-start = record { within = omega arith; crowded = λ l. absurd (omega arith); least = λ k l. absurd (omega arith) }
 
-  -- the next train does not come at an earlier crowded minute, or it does
-  pub earliest-on : (i e : ℕ) (x : Stay) → x ≡ stay ds m s i → Earliest ds m n tracks s i e → (x .passes ≡ true → tracks < standingAt ds m n s (x .came) → e ≤ x .came) → Earliest ds m n tracks s (i + 1) e
-  earliest-on i e x q h k = record {
-    within = h .within;
-    crowded = h .crowded;
-    least = below-more (λ j. stay ds m s j .passes ≡ true → tracks < standingAt ds m n s (stay ds m s j .came) → e ≤ stay ds m s j .came) i (h .least)
-        (subst (λ (y : Stay). y .passes ≡ true → tracks < standingAt ds m n s (y .came) → e ≤ y .came) q k);
-  }
+  -- c is when train i comes, where it stops there: that is no earlier crowded minute, or it is one
+  module _ (i e c : ℕ) (comes : stay ds m s i .passes ≡ true → c ≡ cameTo ds m s i) (h : Earliest ds m n tracks s i e) where
+    pub earliest-on : (tracks < standingAt ds m n s c → e ≤ c) → Earliest ds m n tracks s (i + 1) e
+    earliest-on k = record {
+      within = h .within;
+      crowded = h .crowded;
+      least = below-more (λ j. stay ds m s j .passes ≡ true → tracks < standingAt ds m n s (cameTo ds m s j) → e ≤ cameTo ds m s j) i (h .least)
+          (λ p. subst (λ (t : ℕ). tracks < standingAt ds m n s t → e ≤ t) (comes p) k);
+    }
 
-  pub earliest-sooner : (i e : ℕ) (x : Stay) → x ≡ stay ds m s i → Earliest ds m n tracks s i e → x .came < e → tracks < standingAt ds m n s (x .came) → Earliest ds m n tracks s (i + 1) (x .came)
-  earliest-sooner i e x q h l c =
-      earliest-on i (x .came) x q
-      record { within = omega (arith, h .within); crowded = λ _. c; least = λ k o p d. omega (arith, h .least k o p d) }
-      (λ _ _. omega arith)
+  pub earliest-sooner : (i e c : ℕ) → (stay ds m s i .passes ≡ true → c ≡ cameTo ds m s i) → Earliest ds m n tracks s i e → c < e →
+      tracks < standingAt ds m n s c → Earliest ds m n tracks s (i + 1) c
+  earliest-sooner i e c comes h l k =
+      earliest-on i c c comes
+      record { within = omega (arith, h .within); crowded = λ _. k; least = λ j o p d. omega (arith, h .least j o p d) }
+      (λ _. omega arith)
 
   -- before the earliest crowded arrival no minute is crowded
   few-before : (i e : ℕ) → n ≤ i → Earliest ds m n tracks s i e → EachBelow e (λ t. ltb tracks (standingAt ds m n s t) ≡ false)

@@ -1,10 +1,13 @@
 // The lowest conflict of some minutes: rule 14 segment by segment and pair by pair, then rule 15 station by station.
 ghost use mathlib.Core.Path.{_≡_};
-ghost use Prim.Native.Nat.{ℕ, _+_, _*_, _≤_, _<_};
+ghost use mathlib.Core.Bool.{true};
+ghost use Prim.Native.Nat.{ℕ, _+_, _*_, _-_, _≤_, _<_};
 ghost use lib.ListN.{length};
 ghost use lib.Dec.{leb};
+ghost use Rattle.text.specs.Below.{count};
 ghost use Rattle.rules.specs.Minutes.{departsOn, arrivesOn};
-ghost use Rattle.rules.specs.Conflicts.{keepsAfter, neitherFirst, passage, partnerOf, pairOn, segmentConflict, stay, standsIn, standingAt, earliestCrowd, crowdMask, crowdAt, stationConflict, layoutOf, conflictIn};
+ghost use Rattle.rules.specs.Conflicts.{keepsAfter, neitherFirst, passage, partnerOf, pairOn, segmentConflict, stay, standsIn, earliestCrowd, crowdMask, crowdAt, stationConflict, layoutOf, conflictIn};
+ghost use Rattle.rules.specs.Scanning.{SameRow, SameOn, LaidOut, Scans, clearSegments, StaysOf, standsBy};
 use crate::directions::way_on;
 use line::Kind;
 use line::Line;
@@ -172,24 +175,54 @@ fn pair_on(g: Segment, ds: &[u16], m: &[u16], p: usize, n: usize) -> Conflict
     Conflict::Nothing
 }
 
-// The lowest segment with a conflict, and its lowest pair.
-pub fn segment_conflict(
-    segments: [Segment; 11],
-    ds: &[u16],
-    m: &[u16],
-    count: usize,
-    n: usize,
-) -> Conflict
-    requires { ⌜ (length (now ds) ≡ 176) × (length (now m) ≡ 352) × (count ≤ 11) × (n ≤ 12) ⌝ }
-    ensures { λ r. ⌜ r ≡ segmentConflict segments (now (ds .entry)) (now (m .entry)) count n ⌝ }
+// Whether the minutes of a row, from entry b on, are those that they were. A true answer is what counts: the row of a false one is looked at again.
+fn same_row(m: &[u16], former: &[u16], b: usize) -> bool
+    requires { ⌜ (length (now m) ≡ 352) × (length (now former) ≡ 352) × (b + 16 ≤ 352) ⌝ }
+    ensures { λ r. ⌜ (r ≡ true → SameRow (now (m .entry)) (now (former .entry)) b) ⌝ }
 {
+    let mut same = true;
+    let mut i: usize = 0;
+    while i < 16 {
+        if m[b + i] != former[b + i] {
+            same = false;
+        }
+        i = i + 1;
+    }
+    same
+}
+
+// Whether segment p is known to be clear: it was, and its minutes are those that they were.
+fn still_clear(m: &[u16], former: &[u16], clear: usize, p: usize) -> bool
+    requires { ⌜ (length (now m) ≡ 352) × (length (now former) ≡ 352) × (p < 11) ⌝ }
+    ensures { λ r. ⌜ (r ≡ true → (p < clear) × SameOn (now (m .entry)) (now (former .entry)) p) ⌝ }
+{
+    if clear <= p {
+        return false;
+    }
+    if !same_row(m, former, 16 * p) {
+        return false;
+    }
+    same_row(m, former, 176 + 16 * p)
+}
+
+// The lowest segment with a conflict, and its lowest pair. Those below `clear` had none at the former minutes, so one whose minutes are the same has none.
+fn segment_conflict(layout: Layout, ds: &[u16], m: &[u16], former: &[u16], clear: usize) -> Conflict
+    requires { ⌜ Scans layout (now ds) (now m) (now former) clear ⌝ }
+    ensures { λ r. ⌜ r ≡ segmentConflict (layout .segments) (now (ds .entry)) (now (m .entry)) (layout .stations - 1)
+        (layout .trains) ⌝ }
+{
+    let segments = layout.segments;
+    let count = layout.stations - 1;
+    let n = layout.trains;
     let mut p: usize = 0;
     while p < count {
-        let g = segments[p];
-        let found = pair_on(g, ds, m, p, n);
-        let Conflict::Nothing = found else {
-            return found;
-        };
+        if !still_clear(m, former, clear, p) {
+            let g = segments[p];
+            let found = pair_on(g, ds, m, p, n);
+            let Conflict::Nothing = found else {
+                return found;
+            };
+        }
         p = p + 1;
     }
     Conflict::Nothing
@@ -235,16 +268,43 @@ fn stands(stay: Stay, t: u16) -> bool
     false
 }
 
-// How many of n trains stand at station s at minute t.
-fn standing(ds: &[u16], m: &[u16], s: usize, t: u16, n: usize) -> usize
+// When the trains stand at a station, by train; one that does not stop there leaves before it comes.
+pub struct Stays {
+    pub came: [u16; 16],
+    pub leaves: [u16; 16],
+}
+
+// When n trains stand at station s.
+fn stays_at(ds: &[u16], m: &[u16], s: usize, n: usize) -> Stays
     requires { ⌜ (length (now ds) ≡ 176) × (length (now m) ≡ 352) × (1 ≤ s) × (s < 11) × (n ≤ 12) ⌝ }
-    ensures { λ r. ⌜ r ≡ standingAt (now (ds .entry)) (now (m .entry)) n s t ⌝ }
+    ensures { λ r. ⌜ StaysOf (now (ds .entry)) (now (m .entry)) n s r ⌝ }
 {
-    let mut count: usize = 0;
+    let mut came = [65535u16; 16];
+    let mut leaves = [0u16; 16];
     let mut i: usize = 0;
     while i < n {
-        if stands(stay_at(ds, m, s, i), t) {
-            count = count + 1;
+        let stay = stay_at(ds, m, s, i);
+        if stay.passes {
+            came[i] = stay.came;
+            leaves[i] = stay.leaves;
+        }
+        i = i + 1;
+    }
+    Stays { came, leaves }
+}
+
+// How many stand there at minute t, by when they came and when they leave.
+fn standing(came: &[u16], leaves: &[u16], t: u16) -> u16
+    requires { ⌜ (length (now came) ≡ 16) × (length (now leaves) ≡ 16) ⌝ }
+    ensures { λ r. ⌜ r ≡ count (standsBy (now (came .entry)) (now (leaves .entry)) t) 16 ⌝ }
+{
+    let mut count: u16 = 0;
+    let mut i: usize = 0;
+    while i < 16 {
+        if came[i] <= t {
+            if t <= leaves[i] {
+                count = count + 1;
+            }
         }
         i = i + 1;
     }
@@ -256,15 +316,16 @@ fn earliest_crowd(ds: &[u16], m: &[u16], s: usize, tracks: u16, n: usize) -> Min
     requires { ⌜ (length (now ds) ≡ 176) × (length (now m) ≡ 352) × (1 ≤ s) × (s < 11) × (n ≤ 12) ⌝ }
     ensures { λ r. ⌜ r ≡ earliestCrowd (now (ds .entry)) (now (m .entry)) n tracks s ⌝ }
 {
+    let stays = stays_at(ds, m, s, n);
+    let came = stays.came;
+    let leaves = stays.leaves;
     let mut earliest: u16 = 2880;
     let mut i: usize = 0;
     while i < n {
-        let stay = stay_at(ds, m, s, i);
-        if stay.passes {
-            if stay.came < earliest {
-                if standing(ds, m, s, stay.came, n) > tracks as usize {
-                    earliest = stay.came;
-                }
+        let t = came[i];
+        if t < earliest {
+            if standing(&came, &leaves, t) > tracks {
+                earliest = t;
             }
         }
         i = i + 1;
@@ -314,16 +375,14 @@ fn crowd_on(ds: &[u16], m: &[u16], s: usize, tracks: u16, n: usize) -> Conflict
 }
 
 // The lowest station with a conflict, its earliest minute and the lowest trains there.
-pub fn station_conflict(
-    tracks: [u16; 12],
-    ds: &[u16],
-    m: &[u16],
-    stations: usize,
-    n: usize,
-) -> Conflict
-    requires { ⌜ (length (now ds) ≡ 176) × (length (now m) ≡ 352) × (2 ≤ stations) × (stations ≤ 12) × (n ≤ 12) ⌝ }
-    ensures { λ r. ⌜ r ≡ stationConflict tracks (now (ds .entry)) (now (m .entry)) stations n ⌝ }
+fn station_conflict(layout: Layout, ds: &[u16], m: &[u16]) -> Conflict
+    requires { ⌜ (length (now ds) ≡ 176) × (length (now m) ≡ 352) × LaidOut layout ⌝ }
+    ensures { λ r. ⌜ r ≡ stationConflict (layout .tracks) (now (ds .entry)) (now (m .entry)) (layout .stations)
+        (layout .trains) ⌝ }
 {
+    let tracks = layout.tracks;
+    let stations = layout.stations;
+    let n = layout.trains;
     let mut s: usize = 1;
     while s + 1 < stations {
         let found = crowd_on(ds, m, s, tracks[s], n);
@@ -356,16 +415,33 @@ pub fn layout_of(line: Line) -> Layout
     }
 }
 
-// The lowest conflict of the minutes of a line within the limits, by its layout and its table of directions.
-pub fn lowest_conflict(layout: Layout, ds: &[u16], m: &[u16]) -> Conflict
-    requires { ⌜ (length (now ds) ≡ 176) × (length (now m) ≡ 352) × (2 ≤ layout .stations) × (layout .stations ≤ 12) × (layout .trains ≤ 12) ⌝ }
+// The lowest conflict of the minutes of a line within the limits, by its layout and its table of directions. The segments below `clear` had none at the
+// former minutes; where nothing is known, `clear` is 0.
+pub fn lowest_conflict(
+    layout: Layout,
+    ds: &[u16],
+    m: &[u16],
+    former: &[u16],
+    clear: usize,
+) -> Conflict
+    requires { ⌜ Scans layout (now ds) (now m) (now former) clear ⌝ }
     ensures { λ r. ⌜ r ≡ conflictIn layout (now (ds .entry)) (now (m .entry)) ⌝ }
 {
-    let segments = layout.segments;
-    let found = segment_conflict(segments, ds, m, layout.stations - 1, layout.trains);
+    let found = segment_conflict(layout, ds, m, former, clear);
     let Conflict::Nothing = found else {
         return found;
     };
-    let tracks = layout.tracks;
-    station_conflict(tracks, ds, m, layout.stations, layout.trains)
+    station_conflict(layout, ds, m)
+}
+
+// How many segments have no conflict, where this is the lowest conflict.
+pub fn clear_segments(layout: Layout, conflict: Conflict) -> usize
+    requires { ⌜ LaidOut layout ⌝ }
+    ensures { λ r. ⌜ r ≡ clearSegments layout conflict ⌝ }
+{
+    match conflict {
+        Conflict::Nothing => layout.stations - 1,
+        Conflict::OnSegment(x) => x.segment,
+        Conflict::AtStation(_) => layout.stations - 1,
+    }
 }

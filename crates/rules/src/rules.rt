@@ -158,5 +158,5 @@ pub fn breach_of(line: Line, m: &[u16]) -> Breach
         return late;
     };
     let directions = directions_of(line);
-    conflict_breach(lowest_conflict(layout_of(line), &directions, m))
+    conflict_breach(lowest_conflict(layout_of(line), &directions, m, m, 0))
 }

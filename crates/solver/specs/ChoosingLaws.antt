@@ -16,12 +16,12 @@ use Rattle.orders.specs.Choices.{Choice, onSegment, atStation}
 use Rattle.orders.specs.Marks.{Plan, also}
 use Rattle.orders.specs.Tables.{tablesOf}
 use Rattle.orders.specs.LegGraph.{leaving}
-use Rattle.orders.specs.Lifting.{Choosing, Follows, Comes, Chose}
+use Rattle.orders.specs.Lifting.{Choosing, Follows, Comes, Chose, NoneChosen}
 use Rattle.orders.specs.LegsLaws.{out-over}
 use Rattle.orders.specs.ChoiceLaws.{segment-mark, station-mark, choosing, chosen-least, chosen-none}
 use Rattle.solver.specs.PlanningLaws.{delay-up, decides-inTime}
 use Rattle.solver.specs.WaysTold.{legOut}
-use Rattle.solver.specs.Taking.{Chooses, Raises}
+use Rattle.solver.specs.Taking.{Chooses, NoRaise, Raises}
 use Rattle.solver.specs.declared.ways.Way.{Way}
 
 -- the leg out of a middle station is that of the segment on which the train leaves it
@@ -38,7 +38,7 @@ leg-leaves l w r s a n h = rw (out-over l w r a n s (within-over h)) (either (ou
     either false = refl
 
 module _ (l : Line) (p : Plan) (m marks t ds : List ℕ) (way : Way) (cost cut : ℕ) where
-  -- for `follow`
+  -- for `follow` and `follow_fails`
   pub segment-asks : (c : Choice) → Chooses l c p m marks t ds way cost → way .station ≡ false → cost ≤ cut → cut < 4294967295 →
       Choosing (Follows (way .leg) (way .second)) m marks t ds (way .leg) cost cut × (way .second < 12) ×
       (inMask (getD marks (way .leg) 0) (way .second) ≡ true)
@@ -52,7 +52,7 @@ module _ (l : Line) (p : Plan) (m marks t ds : List ℕ) (way : Way) (cost cut :
       )
   segment-asks (atStation s a b) h e low most = absurd (true≢false (sym (h .told .station) ∙ e))
 
-  -- for `come_after`
+  -- for `come_after` and `come_after_fails`
   pub station-asks : (c : Choice) → Chooses l c p m marks t ds way cost → way .station ≡ true → cost ≤ cut → cut < 4294967295 →
       Choosing (Comes (way .leg) (way .second)) m marks t ds (way .leg) cost cut × (way .second < 12) ×
       (inMask (getD marks (leaving ds (way .leg)) 0) (way .second) ≡ true)
@@ -69,7 +69,14 @@ module _ (l : Line) (p : Plan) (m marks t ds : List ℕ) (way : Way) (cost cut :
         station-mark l w r s a b p (f .0) (f .1),
       )
 
-  -- their answers
+  -- their answers: where the legs have no minutes with the choice, the line has none
+  pub none-raises : (c : Choice) → Chooses l c p m marks t ds way cost → NoneChosen marks t ds cut m → NoRaise l c p m cut
+  unfolding NoRaise
+  none-raises c h x m′ z k up late low =
+      let q = h .planned in
+      let y : NoneChosen (also c p) (tablesOf l) (directionsOf l) cut m = rw (h .marks-are, h .tabled .tables, h .tabled .directions) at x in
+      chosen-none l (h .tabled .within) (h .tabled .arrays) c (h .fitting) p (q .tidy) m (q .keeps) cut y m′ z k up (decides-inTime l m′ .yea late) low
+
   pub chose-raises : (c : Choice) → Chooses l c p m marks t ds way cost → (n : List ℕ) (r : ℕ) → Chose marks t ds cut m n r → Raises l c p m cut n r
   chose-raises c h n r x =
       let q = h .planned in
@@ -80,16 +87,19 @@ module _ (l : Line) (p : Plan) (m marks t ds : List ℕ) (way : Way) (cost cut :
         least = λ v. chosen-least l w a c (h .fitting) p (q .tidy) m (q .keeps) cut n r (q .fit) (y .alive v) .0;
         timely = λ v. is-true (decides-inTime l n) (chosen-least l w a c (h .fitting) p (q .tidy) m (q .keeps) cut n r (q .fit) (y .alive v) .1);
         cost-is = λ v. chosen-least l w a c (h .fitting) p (q .tidy) m (q .keeps) cut n r (q .fit) (y .alive v) .2;
-        none = λ e m′ z k up late low.
-            chosen-none l w a c (h .fitting) p (q .tidy) m (q .keeps) cut (y .dead e) m′ z k up (decides-inTime l m′ .yea late) low;
+        none = λ e. none-raises c h (x .dead e);
       }
 
   -- where the plan costs more than the cut already, so do all minutes above its own
+  pub dear-none : (c : Choice) → Chooses l c p m marks t ds way cost → cut < cost → NoRaise l c p m cut
+  unfolding NoRaise
+  dear-none c h dear m′ z k up late low = omega (arith, delay-up l m m′ up, h .planned .cost-is)
+
   pub dear-raises : (c : Choice) → Chooses l c p m marks t ds way cost → cut < cost → (n : List ℕ) → Raises l c p m cut n 4294967295
   dear-raises c h dear n =
       record {
         least = λ v. absurd (v refl);
         timely = λ v. absurd (v refl);
         cost-is = λ v. absurd (v refl);
-        none = λ e m′ z k up late low. omega (arith, delay-up l m m′ up, h .planned .cost-is);
+        none = λ e. dear-none c h dear;
       }

@@ -28,7 +28,7 @@ use Rattle.solver.specs.Look.{improves-true}
 use Rattle.solver.specs.Planning.{inTime, planning}
 use Rattle.solver.specs.Solved.{planning-laws}
 use Rattle.solver.specs.Tallies.{bestOf, cutOf, Tallied}
-use Rattle.solver.specs.Taking.{Planned, Raises, takenUp}
+use Rattle.solver.specs.Taking.{Planned, NoRaise, Raises, takenUp}
 use Rattle.solver.specs.TakingLaws.{taken-up, taken-none, taken-cut}
 use Rattle.solver.specs.declared.tally.Tally.{Tally}
 
@@ -58,14 +58,15 @@ module _ (l : Line) (w : Within l) (a : Arrays l) where
     child-least fuel n b h =
         taken-up (planning l) fuel (also c p) m n b (least-found (planning l) (planning-laws l w a) (also c p) m z n h)
 
-    pub child-none : (fuel : ℕ) (best : List ℕ) (y : Tally) (n : List ℕ) → Tallied l best y → Raises l c p m (cutOf y) n 4294967295 →
+    pub child-none : (fuel : ℕ) (best : List ℕ) (y : Tally) → Tallied l best y → NoRaise l c p m (cutOf y) →
         takeUp (planning l) (suc fuel) (also c p) m (bestOf y best) ≡ record { best = bestOf y best; steps = 1 }
-    child-none fuel best y n t h = go (least l (also c p) m) refl
+    unfolding NoRaise
+    child-none fuel best y t h = go (least l (also c p) m) refl
       where
         cut : (k : List ℕ) → IsLeast 352 (Keeps l (also c p)) m k → (b : Bool) → inTime l k && improves (planning l) k (bestOf y best) ≡ b → b ≡ false
         cut k i true e =
             let (timely, better) = and-eq-true-iff (inTime l k) (improves (planning l) k (bestOf y best)) .0 e in
-            absurd (h .none refl k (i .fit) (i .keeps) (i .above) timely (improves-cheap best y k t (i .fit) better))
+            absurd (h k (i .fit) (i .keeps) (i .above) timely (improves-cheap best y k t (i .fit) better))
         cut k i false e = refl
 
         go : (x : Least) → least l (also c p) m ≡ x → takeUp (planning l) (suc fuel) (also c p) m (bestOf y best) ≡ record { best = bestOf y best; steps = 1 }

@@ -4,6 +4,7 @@ use Prim.Native.Nat.{ℕ, _+_, _-_, _≤_, _<_}
 use mathlib.Core.Path.{_≡_}
 use mathlib.Core.Bool.{true}
 use mathlib.Core.List.{List}
+use lib.ListN.{length}
 use Rattle.text.specs.Below.{gather}
 use Rattle.line.specs.declared.Line.{Line}
 use Rattle.line.specs.Within.{Within, Arrays}
@@ -12,6 +13,7 @@ use Rattle.rules.specs.declared.conflicts.Layout.{Layout}
 use Rattle.rules.specs.Delay.{weightedDelay}
 use Rattle.rules.specs.Directions.{directionsOf}
 use Rattle.rules.specs.Conflicts.{conflictOf, layoutOf}
+use Rattle.rules.specs.Scanning.{ClearBelow}
 use Rattle.orders.specs.NoLater.{_⊑_, slack}
 use Rattle.orders.specs.Least.{minutes, Fit, IsLeast}
 use Rattle.orders.specs.Choices.{Choice, KeepsChoice}
@@ -71,12 +73,20 @@ pub record CanRaise (m marks t ds : List ℕ) (way : Way) (cost cut : ℕ) : Typ
   pub chooses : Chooses line choice plan m marks t ds way cost
   pub cut-low : cut < 4294967295
 
--- n has the least minutes of the plan with the choice; or there are none in time that cost no more than the cut
+-- no minutes of the plan with the choice are in time and cost no more than the cut
+unfoldable pub NoRaise : Line → Choice → Plan → List ℕ → ℕ → Type 0
+NoRaise l c p m cut = (m′ : List ℕ) → Fit 352 m′ → Keeps l (also c p) m′ → m ⊑ m′ → inTime l m′ ≡ true → weightedDelay l m′ ≤ cut → ⊥
+
+-- n has the least minutes of the plan with the choice, or there are none
 pub record Raises (l : Line) (c : Choice) (p : Plan) (m : List ℕ) (cut : ℕ) (n : List ℕ) (r : ℕ) : Type 0 where
   pub least : Alive r → IsLeast 352 (Keeps l (also c p)) m n
   pub timely : Alive r → inTime l n ≡ true
   pub cost-is : Alive r → r ≡ weightedDelay l n
-  pub none : r ≡ 4294967295 → (m′ : List ℕ) → Fit 352 m′ → Keeps l (also c p) m′ → m ⊑ m′ → inTime l m′ ≡ true → weightedDelay l m′ ≤ cut → ⊥
+  pub none : r ≡ 4294967295 → NoRaise l c p m cut
+
+-- there are none, as a first look shows
+abbrev pub Fails : List ℕ → List ℕ → List ℕ → List ℕ → Way → ℕ → ℕ → Type 0
+Fails m marks t ds way cost cut = (l : Line) (c : Choice) (p : Plan) → Chooses l c p m marks t ds way cost → NoRaise l c p m cut
 
 abbrev pub Raised : List ℕ → List ℕ → List ℕ → List ℕ → Way → ℕ → ℕ → List ℕ → ℕ → Type 0
 Raised m marks t ds way cost cut n r = (l : Line) (c : Choice) (p : Plan) → Chooses l c p m marks t ds way cost → Raises l c p m cut n r
@@ -110,9 +120,11 @@ waysPart l m marks best y conflict n fuel = inOrder (λ c. takeUp (planning l) f
 
 -- ---- taking up a plan
 
-pub record CanTakeUp (m marks best t ds key : List ℕ) (layout : Layout) (cost : ℕ) (y : Tally) : Type 0 where
+pub record CanTakeUp (m former : List ℕ) (clear : ℕ) (marks best t ds key : List ℕ) (layout : Layout) (cost : ℕ) (y : Tally) : Type 0 where
   pub line : Line
   pub given : Given line m marks best t ds key layout cost y
+  pub former-size : length former ≡ 352
+  pub known : ClearBelow layout ds former clear
 
 abbrev pub TakesUp : List ℕ → List ℕ → List ℕ → List ℕ → List ℕ → List ℕ → Layout → ℕ → Tally → List ℕ → List ℕ → Tally → Type 0
 TakesUp m marks best t ds key layout cost y marks′ best′ r =
@@ -126,11 +138,12 @@ pub record IsWay (l : Line) (m ds : List ℕ) (c : Choice) (way : Way) : Type 0 
   pub open-yet : KeepsChoice l m c → ⊥
   pub told : Tells ds c way
 
-pub record CanTry (m marks best t ds key : List ℕ) (layout : Layout) (cost : ℕ) (y : Tally) (way : Way) : Type 0 where
+pub record CanTry (m marks best t ds key : List ℕ) (layout : Layout) (cost : ℕ) (y : Tally) (way : Way) (clear : ℕ) : Type 0 where
   pub line : Line
   pub choice : Choice
   pub given : Given line m marks best t ds key layout cost y
   pub is-way : IsWay line m ds choice way
+  pub known : ClearBelow layout ds m clear
 
 abbrev pub Tries : List ℕ → List ℕ → List ℕ → List ℕ → List ℕ → List ℕ → Layout → ℕ → Tally → Way → List ℕ → List ℕ → Tally → Type 0
 Tries m marks best t ds key layout cost y way marks′ best′ r =

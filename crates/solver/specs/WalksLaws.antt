@@ -1,5 +1,5 @@
 -- What the walk's functions do is what the walk does, part by part: taking up a plan, trying a way, and trying the ways in order.
-use Prim.Native.Nat.{ℕ, zero, suc, _+_, _<_}
+use Prim.Native.Nat.{ℕ, zero, suc, _+_, _≤_, _<_}
 use mathlib.Core.Path.{_≡_, refl, sym, _∙_, ap, ap₂}
 use mathlib.Core.Bool.{Bool, true, false, cond}
 use mathlib.Core.List.{List, [], _∷_, _++_}
@@ -19,8 +19,8 @@ use Rattle.solver.specs.Ways.{wayOf, wayCount, waysOf, ways}
 use Rattle.solver.specs.WaysLaws.{ways-none}
 use Rattle.solver.specs.Planning.{planning}
 use Rattle.solver.specs.Tallies.{bestOf, cutOf, cutOff, Tallied}
-use Rattle.solver.specs.Taking.{Planned, Raises, takenUp, Walks, planPart, wayPart, waysPart}
-use Rattle.solver.specs.TakingLaws.{taken-some, taken-cut, taken-clear, taken-split, no-more, more-best, more-steps}
+use Rattle.solver.specs.Taking.{Planned, NoRaise, takenUp, Walks, planPart, wayPart, waysPart}
+use Rattle.solver.specs.TakingLaws.{taken-some, taken-cut, taken-clear, taken-split, none-more, more-best, more-steps}
 use Rattle.solver.specs.NextPlansLaws.{delay-low, child-least, child-none}
 use Rattle.solver.specs.declared.tally.Tally.{Tally}
 
@@ -114,9 +114,8 @@ module _ (l : Line) (w : Within l) (a : Arrays l) (m marks best : List ℕ) (cos
     same-best : bestOf b best ≡ bestOf y best
     same-best = ap (λ (f : Bool). cond f (found best) nothing) found-is
 
-    pub walks-dead : (n : List ℕ) (r : ℕ) → r ≡ 4294967295 → Raises l c marks m (cutOf b) n r → (marks′ : List ℕ) → marks′ ≡ marks →
-        Walks l m marks y (wayPart l m marks best y c) marks′ best b
-    walks-dead n r dead h marks′ same = record {
+    pub walks-dead : NoRaise l c marks m (cutOf b) → (marks′ : List ℕ) → marks′ ≡ marks → Walks l m marks y (wayPart l m marks best y c) marks′ best b
+    walks-dead h marks′ same = record {
       marks-same = same;
       tallied = counted-tallied;
       best-is = λ fuel s. go-best fuel s;
@@ -124,7 +123,7 @@ module _ (l : Line) (w : Within l) (a : Arrays l) (m marks best : List ℕ) (cos
     }
       where
         taken : (fuel : ℕ) → takeUp (planning l) (suc fuel) (also c marks) m (bestOf y best) ≡ record { best = bestOf y best; steps = 1 }
-        taken fuel = rw (← same-best) (child-none l w a c marks m (g .fit) fuel best b n counted-tallied (rw dead at h))
+        taken fuel = rw (← same-best) (child-none l w a c marks m (g .fit) fuel best b counted-tallied h)
 
         go-best : (fuel : ℕ) → slack m < fuel → bestOf b best ≡ takeUp (planning l) fuel (also c marks) m (bestOf y best) .best
         go-best zero s = absurd (omega arith)
@@ -158,13 +157,13 @@ module _ (l : Line) (w : Within l) (a : Arrays l) (m marks best : List ℕ) (cos
         go-steps (suc fuel) s =
             omega (arith, h .steps-are fuel (omega arith), ap (λ (x : Walked). x .steps) (taken fuel), taken-some (planning l) fuel marks₁ n (bestOf b best))
 
--- one number more, with no way and with a way
+-- numbers with no way, and one number more with a way
 module _ (l : Line) (m marks best : List ℕ) (y : Tally) (conflict : Conflict) (n : ℕ) (marks₁ best₁ : List ℕ) (r₁ : Tally)
     (h : Walks l m marks y (waysPart l m marks best y conflict n) marks₁ best₁ r₁) where
-  pub walks-skip : wayOf conflict n ≡ [] → Walks l m marks y (waysPart l m marks best y conflict (n + 1)) marks₁ best₁ r₁
-  walks-skip e =
-      let same : gather (wayOf conflict) n ≡ gather (wayOf conflict) (n + 1) =
-      sym (gather-more (wayOf conflict) n ∙ ap (λ (x : List Choice). gather (wayOf conflict) n ++ x) e ∙ no-more (gather (wayOf conflict) n)) in
+  pub walks-skip : (k : ℕ) → ((i : ℕ) → n ≤ i → i < n + k → wayOf conflict i ≡ []) →
+      Walks l m marks y (waysPart l m marks best y conflict (n + k)) marks₁ best₁ r₁
+  walks-skip k none =
+      let same = sym (none-more (wayOf conflict) k n (n + k) refl none) in
       record {
         marks-same = h .marks-same;
         tallied = h .tallied;

@@ -41,6 +41,12 @@ TellsWay ds (c ∷ d ∷ cs) r = ⊥
 abbrev pub TellsOnSegment : SegmentConflict → ℕ → Way → Type 0
 TellsOnSegment x w r = (ds : List ℕ) → TellsWay ds (wayOf (Conflict.OnSegment x) w) r
 
+-- from number w to the next that may have a way there is none but w's
+pub record Steps (conflict : Conflict) (w : ℕ) (r : Way) : Type 0 where
+  pub on : 1 ≤ r .step
+  pub up-to : w + r .step ≤ 144
+  pub none-between : (i : ℕ) → w < i → i < w + r .step → wayOf conflict i ≡ []
+
 -- the numbers of a conflict are those of some line
 abbrev pub InRange : Conflict → Type 0
 InRange Conflict.Nothing = Unit {0}

@@ -1,12 +1,13 @@
 -- Laws of the ways as the program has them: bits of a mask as it writes them, and one law for each way that it returns.
-use Prim.Native.Nat.{ℕ, _+_, _*_, _-_, _/_, _%_, _^_, _<_}
+use Prim.Native.Nat.{ℕ, zero, suc, _+_, _*_, _-_, _/_, _%_, _^_, _≤_, _<_}
 use mathlib.Core.Path.{_≡_, refl, sym, _∙_, ap}
 use mathlib.Core.Bool.{Bool, true, false, not, _&&_, true≢false, false≢true}
-use mathlib.Core.List.{List}
+use mathlib.Core.List.{List, []}
 use native.Mathlib.Nat.{mod-eq-of-lt}
 use native.Mathlib.Omega.{arith}
 use lib.Bits.{bitOr}
 use lib.Pow.{pow-lt}
+use lib.ListN.{length}
 use lib.Dec.{eqb}
 use borrow.Author.Tests.{eq-eqb, ne-eqb}
 use Rattle.rules.specs.declared.conflicts.Conflict.{Conflict}
@@ -16,8 +17,8 @@ use Rattle.rules.specs.Directions.{way}
 use Rattle.orders.specs.Bits.{inMask, withBit}
 use Rattle.orders.specs.BitsLaws.{bit-shift, withBit-or}
 use Rattle.orders.specs.Choices.{onSegment, atStation}
-use Rattle.solver.specs.Ways.{twoOf, wayOf}
-use Rattle.solver.specs.WaysTold.{legOut, Tells, TellsWay, TellsOnSegment}
+use Rattle.solver.specs.Ways.{twoOf, wayOf, wayCount}
+use Rattle.solver.specs.WaysTold.{legOut, Tells, TellsWay, TellsOnSegment, Steps}
 use Rattle.solver.specs.declared.ways.Way.{Way}
 
 -- ---- a mask, by shifts
@@ -78,5 +79,36 @@ module _ (ds : List ℕ) (w : ℕ) (r : Way) where
   unfolding wayOf
   tells-nothing h = h
 
-  pub tells-as : (c d : Conflict) → c ≡ d → TellsWay ds (wayOf d w) r → TellsWay ds (wayOf c w) r
+  pub tells-as : (c d : Conflict) → c ≡ d → TellsWay ds (wayOf d w) r × Steps d w r → TellsWay ds (wayOf c w) r × Steps c w r
   tells-as c d e h = rw e h
+
+-- ---- the next number that may have a way
+
+-- the next number of all
+pub steps-one : (c : Conflict) (w : ℕ) (r : Way) → w < 144 → r .step ≡ 1 → Steps c w r
+steps-one c w r low one = record { on = omega arith; up-to = omega arith; none-between = λ i a b. absurd (omega arith) }
+
+-- no train leaves first that is not in the conflict
+row-none : (x : StationConflict) (a i : ℕ) → inMask (x .trains) a ≡ false → i / 12 ≡ a → wayOf (Conflict.AtStation x) i ≡ []
+unfolding wayOf
+row-none x a i out same = rw (same, out) refl
+
+pub steps-row : (x : StationConflict) (w : ℕ) (r : Way) → w < 144 → inMask (x .trains) (w / 12) ≡ false → r .step ≡ 12 - w % 12 →
+    Steps (Conflict.AtStation x) w r
+steps-row x w r low out is =
+    record { on = omega arith; up-to = omega arith; none-between = λ i a b. row-none x (w / 12) i out (omega arith) }
+
+-- it is not beyond the ways: on a segment each number has one
+segment-some : (x : SegmentConflict) (w : ℕ) → wayOf (Conflict.OnSegment x) (w + 1) ≡ [] → ⊥
+unfolding wayOf
+segment-some x w e = let none = rw (ne-eqb (w + 1) 0 (λ z. omega arith)) at e in let z : _≡_ {A = ℕ} 1 0 = ap length none in absurd (omega arith)
+
+pub steps-within : (c : Conflict) (n w : ℕ) (r : Way) → n ≡ wayCount c → w < n → Steps c w r → w + r .step ≤ n
+steps-within Conflict.Nothing n w r is low h = absurd (omega arith)
+steps-within (Conflict.OnSegment x) n w r is low h = go (r .step) refl
+  where
+    go : (k : ℕ) → r .step ≡ k → w + k ≤ n
+    go zero e = omega arith
+    go (suc zero) e = omega arith
+    go (suc (suc k)) e = absurd (segment-some x w (h .none-between (w + 1) (omega arith) (omega arith)))
+steps-within (Conflict.AtStation x) n w r is low h = omega (arith, h .up-to)

@@ -44,6 +44,8 @@ pub fn best_of(line: Line) -> Found
     };
     let tally = take_up(
         &minutes,
+        &minutes,
+        0,
         &mut marks,
         &mut best,
         &t,

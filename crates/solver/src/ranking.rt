@@ -49,7 +49,7 @@ fn place(x: u16) -> usize
 }
 
 // The departure that comes as number e, or 0 where there is none.
-fn minute_at(m: &[u16], key: &[u16], e: usize) -> u16
+fn minute_at(m: &[u16; 352], key: &[u16; 132], e: usize) -> u16
     requires { ⌜ (length (now m) ≡ 352) × (length (now key) ≡ 132) × (e < 132) ⌝ }
     ensures { λ r. ⌜ r ≡ minuteAt (now (key .entry)) (now (m .entry)) e ⌝ }
 {
@@ -61,7 +61,7 @@ fn minute_at(m: &[u16], key: &[u16], e: usize) -> u16
 }
 
 // Whether the first departure that differs is earlier.
-fn earlier(m: &[u16], best: &[u16], key: &[u16]) -> bool
+fn earlier(m: &[u16; 352], best: &[u16; 352], key: &[u16; 132]) -> bool
     requires { ⌜ (length (now m) ≡ 352) × (length (now best) ≡ 352) × (length (now key) ≡ 132) ⌝ }
     ensures { λ r. ⌜ r ≡ aheadFrom 132 0 (keyed (now (key .entry)) (now (m .entry))) (keyed (now (key .entry)) (now (best .entry))) ⌝ }
 {
@@ -78,7 +78,13 @@ fn earlier(m: &[u16], best: &[u16], key: &[u16]) -> bool
 }
 
 // Whether the minutes m, which cost this, are better than the best so far.
-pub fn improves(m: &[u16], best: &[u16], key: &[u16], cost: u32, tally: Tally) -> bool
+pub fn improves(
+    m: &[u16; 352],
+    best: &[u16; 352],
+    key: &[u16; 132],
+    cost: u32,
+    tally: Tally,
+) -> bool
     requires { ⌜ (length (now m) ≡ 352) × (length (now best) ≡ 352) × (length (now key) ≡ 132) ⌝ }
     ensures { λ r. ⌜ r ≡ betterBy (now (key .entry)) (now (m .entry)) cost (now (best .entry)) tally ⌝ }
 {

@@ -6,15 +6,16 @@ ghost use lib.ListN.{length};
 ghost use Rattle.rules.specs.declared.conflicts.Conflict.{Conflict as SomeConflict};
 ghost use Rattle.orders.specs.Bits.{inMask, withBit};
 ghost use Rattle.solver.specs.Ways.{twoOf, wayOf, wayCount};
-ghost use Rattle.solver.specs.WaysTold.{legOut, InRange, TellsWay, TellsOnSegment};
+ghost use Rattle.solver.specs.WaysTold.{legOut, InRange, TellsWay, TellsOnSegment, Steps};
 use rules::conflicts::Conflict;
 use rules::conflicts::SegmentConflict;
 use rules::conflicts::StationConflict;
 
 // A way out, where there is one: the row of its mark and the train that the mark names, the leg of the train that goes first, and whether it is at a
-// station.
+// station. `step` is how far on the next number is that may have a way.
 pub struct Way {
     pub some: bool,
+    pub step: usize,
     pub station: bool,
     pub row: usize,
     pub leg: usize,
@@ -50,7 +51,7 @@ fn two_of(mask: u16, a: usize, b: usize) -> bool
 }
 
 // The leg on which train a leaves its middle station s.
-fn leg_out(ds: &[u16], s: usize, a: usize) -> usize
+fn leg_out(ds: &[u16; 176], s: usize, a: usize) -> usize
     requires { ⌜ (length (now ds) ≡ 176) × (1 ≤ s) × (s ≤ 10) × (a < 12) ⌝ }
     ensures { λ r. ⌜ r ≡ legOut (now (ds .entry)) s a ⌝ }
 {
@@ -70,11 +71,12 @@ pub fn way_count(conflict: Conflict) -> usize
     }
 }
 
-fn no_way() -> Way
-    ensures { λ r. ⌜ r .some ≡ false ⌝ }
+fn no_way(step: usize) -> Way
+    ensures { λ r. ⌜ (r .some ≡ false) × (r .step ≡ step) ⌝ }
 {
     Way {
         some: false,
+        step,
         station: false,
         row: 0,
         leg: 0,
@@ -84,12 +86,13 @@ fn no_way() -> Way
 
 fn segment_way(x: SegmentConflict, w: usize) -> Way
     requires { ⌜ InRange (SomeConflict.OnSegment x) ⌝ }
-    ensures { λ r. ⌜ TellsOnSegment x w r ⌝ }
+    ensures { λ r. ⌜ TellsOnSegment x w r × (r .step ≡ 1) ⌝ }
 {
     if w == 0 {
         let e = 16 * x.segment + x.lower;
         return Way {
             some: true,
+            step: 1,
             station: false,
             row: e,
             leg: e,
@@ -99,6 +102,7 @@ fn segment_way(x: SegmentConflict, w: usize) -> Way
     let e = 16 * x.segment + x.higher;
     Way {
         some: true,
+        step: 1,
         station: false,
         row: e,
         leg: e,
@@ -106,34 +110,38 @@ fn segment_way(x: SegmentConflict, w: usize) -> Way
     }
 }
 
-fn station_way(x: StationConflict, ds: &[u16], w: usize) -> Way
+fn station_way(x: StationConflict, ds: &[u16; 176], w: usize) -> Way
     requires { ⌜ InRange (SomeConflict.AtStation x) × (length (now ds) ≡ 176) × (w < 144) ⌝ }
-    ensures { λ r. ⌜ TellsWay (now (ds .entry)) (wayOf (SomeConflict.AtStation x) w) r ⌝ }
+    ensures { λ r. ⌜ TellsWay (now (ds .entry)) (wayOf (SomeConflict.AtStation x) w) r × Steps (SomeConflict.AtStation x) w r ⌝ }
 {
     let s = x.station;
     let a = w / 12;
     let b = w % 12;
+    if !has_bit(x.trains, a) {
+        return no_way(12 - b);
+    }
     if two_of(x.trains, a, b) {
         let row = 176 + (16 * s + a);
         let leg = leg_out(ds, s, a);
         return Way {
             some: true,
+            step: 1,
             station: true,
             row,
             leg,
             second: b,
         };
     }
-    no_way()
+    no_way(1)
 }
 
 // Way w out of the conflict.
-pub fn way_of(conflict: Conflict, ds: &[u16], w: usize) -> Way
+pub fn way_of(conflict: Conflict, ds: &[u16; 176], w: usize) -> Way
     requires { ⌜ InRange conflict × (length (now ds) ≡ 176) × (w < 144) ⌝ }
-    ensures { λ r. ⌜ TellsWay (now (ds .entry)) (wayOf conflict w) r ⌝ }
+    ensures { λ r. ⌜ TellsWay (now (ds .entry)) (wayOf conflict w) r × Steps conflict w r ⌝ }
 {
     match conflict {
-        Conflict::Nothing => no_way(),
+        Conflict::Nothing => no_way(1),
         Conflict::OnSegment(x) => segment_way(x, w),
         Conflict::AtStation(x) => station_way(x, ds, w),
     }

@@ -9,7 +9,7 @@ station-of-requires c κs = search needs
 
 returns : tie.Need-returns
 returns c =
-    let a = c .before .before .before in
+    let a = c .before .before in
     comes-first (a .args .ds .now) (a .args .j) _ _ (c .before .station-of .ensures .0) (c .if1 .taken)
 
 add-result : tie.Need-add-result
@@ -17,7 +17,7 @@ add-result c = search needs
 
 returns-2 : tie.Need-returns-2
 returns-2 c =
-    let a = c .before .before .before .before in
+    let a = c .before .before .before in
     comes-last (a .args .ds .now) (a .args .j) _ _ (c .before .before .station-of .ensures .0) (a .pre .0) (c .if2 .taken)
 
 mul-if3 : tie.Need-mul-if3
@@ -29,8 +29,8 @@ add-if3 c = search needs
 mul-if3-2 : tie.Need-mul-if3-2
 mul-if3-2 c = search needs
 
-shared-slice-read-if3 : tie.Need-shared-slice-read-if3
-shared-slice-read-if3 c = search needs
+element-copy-out-if3 : tie.Need-element-copy-out-if3
+element-copy-out-if3 c = search needs
 
 sub-result : tie.Need-sub-result
 sub-result c = search needs
@@ -43,7 +43,7 @@ add-result-2 c = search needs
 
 returns-3 : tie.Need-returns-3
 returns-3 c =
-    let a = c .before .before .before .before .before .before in
+    let a = c .before .before .before .before .before in
     comes-out (a .args .ds .now) (a .args .j) _ _ (c .before .before .before .before .station-of .ensures .0) (c .if3 .taken)
 
 mul-result-2 : tie.Need-mul-result-2
@@ -54,7 +54,7 @@ add-result-3 c = search needs
 
 returns-4 : tie.Need-returns-4
 returns-4 c =
-    let a = c .before .before .before .before .before .before in
+    let a = c .before .before .before .before .before in
     comes-in (a .args .ds .now) (a .args .j) _ _ (c .before .before .before .before .station-of .ensures .0) (c .if3 .left)
 
 pub coming-leg-spec : {M : Type 1} → statement M
@@ -68,7 +68,7 @@ coming-leg-spec =
     mul-if3
     add-if3
     mul-if3-2
-    shared-slice-read-if3
+    element-copy-out-if3
     sub-result
     mul-result
     add-result-2

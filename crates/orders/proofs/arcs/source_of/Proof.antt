@@ -7,8 +7,8 @@ use Rattle.orders.proofs.arcs.source_of.Tie as tie
 mul-if1 : tie.Need-mul-if1
 mul-if1 c = search needs
 
-shared-slice-read-if1 : tie.Need-shared-slice-read-if1
-shared-slice-read-if1 c = search needs
+element-copy-out-if1 : tie.Need-element-copy-out-if1
+element-copy-out-if1 c = search needs
 
 mul-if1-2 : tie.Need-mul-if1-2
 mul-if1-2 c = search needs
@@ -19,15 +19,15 @@ add-if1 c = search needs
 mul-if1-3 : tie.Need-mul-if1-3
 mul-if1-3 c = search needs
 
-shared-slice-read-if1-2 : tie.Need-shared-slice-read-if1-2
-shared-slice-read-if1-2 c = search needs
+element-copy-out-if1-2 : tie.Need-element-copy-out-if1-2
+element-copy-out-if1-2 c = search needs
 
 shared-at-requires : tie.Need-shared-at-requires
 shared-at-requires c κs = search needs
 
 returns : tie.Need-returns
 returns c =
-    let a = c .before .before .before .before .before .before .before in
+    let a = c .before .before .before .before .before in
     source-shared (a .args .t .now) (a .args .ds .now) (a .args .e) (a .args .j) _ (c .before .before .if1 .taken) (c .before .shared-at .ensures)
     (c .if2 .taken)
 
@@ -36,7 +36,7 @@ add-result c = search needs
 
 returns-2 : tie.Need-returns-2
 returns-2 c =
-    let a = c .before .before .before .before .before .before .before in
+    let a = c .before .before .before .before .before in
     source-alone (a .args .t .now) (a .args .ds .now) (a .args .e) (a .args .j) _ (c .before .before .if1 .taken) (c .before .shared-at .ensures) (c .if2 .left)
 
 add-result-2 : tie.Need-add-result-2
@@ -44,7 +44,7 @@ add-result-2 c = search needs
 
 returns-3 : tie.Need-returns-3
 returns-3 c =
-    let a = c .before .before .before .before .before in
+    let a = c .before .before .before in
     source-meeting (a .args .t .now) (a .args .ds .now) (a .args .e) (a .args .j) (c .if1 .left)
 
 pub source-of-spec : {M : Type 1} → statement M
@@ -52,11 +52,11 @@ source-of-spec =
     tie.close
     (tie.spec
     mul-if1
-    shared-slice-read-if1
+    element-copy-out-if1
     mul-if1-2
     add-if1
     mul-if1-3
-    shared-slice-read-if1-2
+    element-copy-out-if1-2
     shared-at-requires
     returns
     add-result

@@ -8,8 +8,8 @@ use Rattle.orders.proofs.arcs.station_of.Tie as tie
 mul-if1 : tie.Need-mul-if1
 mul-if1 c = search needs
 
-shared-slice-read-if1 : tie.Need-shared-slice-read-if1
-shared-slice-read-if1 c = search needs
+element-copy-out-if1 : tie.Need-element-copy-out-if1
+element-copy-out-if1 c = search needs
 
 returns : tie.Need-returns
 returns c =
@@ -25,4 +25,4 @@ returns-2 c =
     (station-in (a .args .ds .now) (a .args .e) (c .if1 .left), omega arith)
 
 pub station-of-spec : {M : Type 1} → statement M
-station-of-spec = tie.close (tie.spec mul-if1 shared-slice-read-if1 returns add-result returns-2)
+station-of-spec = tie.close (tie.spec mul-if1 element-copy-out-if1 returns add-result returns-2)

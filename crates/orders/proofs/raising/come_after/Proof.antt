@@ -17,32 +17,32 @@ coming-leg-requires c κs = search needs
 mul-w : tie.Need-mul-w
 mul-w c = search needs
 
-slice-read-w : tie.Need-slice-read-w
-slice-read-w c = search needs
+element-copy-out-w : tie.Need-element-copy-out-w
+element-copy-out-w c = search needs
 
 add-w : tie.Need-add-w
 add-w c =
-    let a = c .before .before .before .before .before .before in
+    let a = c .before .before in
     omega (arith, a .pre .0 .ready .within (a .args .e))
 
 add-if1 : tie.Need-add-if1
 add-if1 c =
-    let a = c .before .before .before .before .before .before in
+    let a = c .before .before in
     omega (arith, comes-leg _ _ _ _ _ _ _ (a .pre .0 .ready) _ (a .pre .1) _ (a .pre .2) (c .before .coming-leg .ensures) .0)
 
 mul-if1 : tie.Need-mul-if1
 mul-if1 c =
-    let a = c .before .before .before .before .before .before in
+    let a = c .before .before in
     omega (arith, comes-leg _ _ _ _ _ _ _ (a .pre .0 .ready) _ (a .pre .1) _ (a .pre .2) (c .before .coming-leg .ensures) .0)
 
-slice-read-if1 : tie.Need-slice-read-if1
-slice-read-if1 c =
-    let a = c .before .before .before .before .before .before .before in
-    omega (arith, comes-leg _ _ _ _ _ _ _ (a .pre .0 .ready) _ (a .pre .1) _ (a .pre .2) (c .before .before .coming-leg .ensures) .0, a .pre .0 .ready .size)
+element-copy-out-if1 : tie.Need-element-copy-out-if1
+element-copy-out-if1 c =
+    let a = c .before .before in
+    omega (arith, comes-leg _ _ _ _ _ _ _ (a .pre .0 .ready) _ (a .pre .1) _ (a .pre .2) (c .before .coming-leg .ensures) .0)
 
 lift-requires : tie.Need-lift-requires
 lift-requires c κs =
-    let a = c .before .before .before .before .before .before .before .before .before in
+    let a = c .before .before .before .before .before in
     let r = a .pre .0 .ready in (
       ready-leg _ _ _ _ _ _ _ _ r
           (comes-leg _ _ _ _ _ _ _ (a .pre .0 .ready) _ (a .pre .1) _ (a .pre .2) (c .before .before .before .before .coming-leg .ensures)),
@@ -52,21 +52,18 @@ lift-requires c κs =
       omega (arith, r .within (a .args .e)),
     )
 
-same-length : tie.Need-same-length
-same-length c = search needs
-
 returns : tie.Need-returns
 returns c =
-    let a = c .before .before .before .before .before .before .before .before .before .before .before .before in
+    let a = c .before .before .before .before .before .before in
     chose _ _ _ _ _ _ _ _ (a .pre .0) _ _ _
     (serves-comes _ _ _ (a .args .m .now) (a .args .e) _ (a .args .j) (a .pre .0 .ready .leg) (a .pre .1) _ (a .pre .2)
-    (c .before .before .before .before .before .before .before .coming-leg .ensures) refl) _
+    (c .before .before .before .before .before .coming-leg .ensures) refl) _
     (comes-near (a .args .marks .now) (a .args .t .now) (a .args .ds .now) (a .args .m .now) (a .args .e) (a .args .j)) _ _
-    (c .before .before .lift .ensures)
+    (c .lift .ensures)
 
 returns-2 : tie.Need-returns-2
 returns-2 c =
-    let a = c .before .before .before .before .before .before .before .before in
+    let a = c .before .before .before .before in
     chose-still _ _ _ _ _ _ _ _ (a .pre .0) _ _ _
     (serves-comes _ _ _ (a .args .m .now) (a .args .e) _ (a .args .j) (a .pre .0 .ready .leg) (a .pre .1) _ (a .pre .2)
     (c .before .before .before .coming-leg .ensures) refl) (omega arith) (c .if1 .left)
@@ -77,12 +74,11 @@ come-after-spec =
     (tie.spec
     coming-leg-requires
     mul-w
-    slice-read-w
+    element-copy-out-w
     add-w
     add-if1
     mul-if1
-    slice-read-if1
+    element-copy-out-if1
     lift-requires
-    same-length
     returns
     returns-2)

@@ -24,8 +24,8 @@ source-of-requires c κs = search needs
 mul-rises : tie.Need-mul-rises
 mul-rises c = search needs
 
-slice-read-rises : tie.Need-slice-read-rises
-slice-read-rises c = search needs
+element-copy-out-rises : tie.Need-element-copy-out-rises
+element-copy-out-rises c = search needs
 
 add-rises : tie.Need-add-rises
 add-rises c = search needs
@@ -33,15 +33,15 @@ add-rises c = search needs
 mul-rises-2 : tie.Need-mul-rises-2
 mul-rises-2 c = search needs
 
-slice-read-rises-2 : tie.Need-slice-read-rises-2
-slice-read-rises-2 c = search needs
+element-copy-out-rises-2 : tie.Need-element-copy-out-rises-2
+element-copy-out-rises-2 c = search needs
 
 rises-requires : tie.Need-rises-requires
 rises-requires c κs = search needs
 
 lift-requires : tie.Need-lift-requires
 lift-requires c κs =
-    let a = c .before .before .before .before .before .before .before .before .before .before .before .before in
+    let a = c .before .before .before .before .before .before .before .before in
     let r = a .pre .0 .ready in
     let b = c .before .before .before .before .before .before .times-behind .ensures in (
       ready-leg _ _ _ _ _ _ _ _ r (r .shaped .beside-used (a .args .e) (a .args .j) (r .leg) (a .pre .1) (a .pre .2)),
@@ -50,24 +50,18 @@ lift-requires c κs =
       omega (arith, b .2),
     )
 
-same-length : tie.Need-same-length
-same-length c = search needs
-
 returns : tie.Need-returns
 returns c =
-    let a = c .before .before .before .before .before .before .before .before .before .before .before .before .before .before .before in
+    let a = c .before .before .before .before .before .before .before .before .before in
     let near = follows-near _ _ _ (a .args .m .now) (a .args .e) (a .args .j) (a .args .cost) (a .args .cut) (a .pre .0 .ready) _
-    (c .before .before .before .before .before .before .before .before .source-of .ensures) in
+    (c .before .before .before .before .before .before .source-of .ensures) in
     chose _ _ _ _ _ _ _ _ (a .pre .0) _ _ _
     (serves-behind _ _ _ (a .args .m .now) (a .args .e) _ (a .args .j) (a .pre .0 .ready .leg) (a .pre .1) _ _ (a .pre .2) refl
-    (c .before .before .before .before .before .before .before .before .before .times-behind .ensures .0)) _ near _ _ (c .before .before .lift .ensures)
-
-same-length-2 : tie.Need-same-length-2
-same-length-2 c = search needs
+    (c .before .before .before .before .before .before .before .times-behind .ensures .0)) _ near _ _ (c .lift .ensures)
 
 returns-2 : tie.Need-returns-2
 returns-2 c =
-    let a = c .before .before .before .before .before .before .before .before .before .before .before in
+    let a = c .before .before .before .before .before .before .before in
     let z = c .before .rises .ensures .1 (c .if1 .left) in
     chose-still _ _ _ _ _ _ _ _ (a .pre .0) _ _ _
     (serves-behind _ _ _ (a .args .m .now) (a .args .e) _ (a .args .j) (a .pre .0 .ready .leg) (a .pre .1) _ _ (a .pre .2) refl
@@ -82,13 +76,11 @@ follow-spec =
     times-behind-requires
     source-of-requires
     mul-rises
-    slice-read-rises
+    element-copy-out-rises
     add-rises
     mul-rises-2
-    slice-read-rises-2
+    element-copy-out-rises-2
     rises-requires
     lift-requires
-    same-length
     returns
-    same-length-2
     returns-2)

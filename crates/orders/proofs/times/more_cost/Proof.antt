@@ -10,7 +10,7 @@ weight-at-requires c κs = search needs
 
 returns : tie.Need-returns
 returns c =
-    let a = c .before .before .before in
+    let a = c .before .before in
     (more-none (a .args .t .now) (a .args .e) (a .args .from) (a .args .to) _ (c .before .weight-at .ensures) (c .if1 .taken), omega arith)
 
 free-at-requires : tie.Need-free-at-requires
@@ -18,7 +18,7 @@ free-at-requires c κs = search needs
 
 returns-2 : tie.Need-returns-2
 returns-2 c =
-    let a = c .before .before .before .before .before in
+    let a = c .before .before .before .before in
     (more-early (a .args .t .now) (a .args .e) (a .args .from) (a .args .to) (omega (arith, c .if2 .taken, c .before .free-at .ensures)), omega arith)
 
 wide-requires : tie.Need-wide-requires
@@ -32,7 +32,7 @@ wide-requires-2 c κs = search needs
 
 mul-result : tie.Need-mul-result
 mul-result c =
-    let a = c .before .before .before .before .before .before .before .before in
+    let a = c .before .before .before .before .before .before .before in
     omega (
       arith,
       more-most (a .args .t .now) (a .args .e) (a .args .from) (a .args .to) (a .pre .2) (a .pre .4),
@@ -43,7 +43,7 @@ mul-result c =
 
 returns-3 : tie.Need-returns-3
 returns-3 c =
-    let a = c .before .before .before .before .before .before .before .before in
+    let a = c .before .before .before .before .before .before .before in
     let is = more-is (a .args .t .now) (a .args .e) (a .args .from) (a .args .to) _ _ _ _ (c .before .wide .ensures)
     (c .before .before .before .before .before .before .weight-at .ensures) (c .wide2 .ensures)
     (omega (arith, c .before .before .before .before .free-at .ensures)) in
@@ -60,7 +60,7 @@ wide-requires-4 c κs = search needs
 
 mul-result-2 : tie.Need-mul-result-2
 mul-result-2 c =
-    let a = c .before .before .before .before .before .before .before .before in
+    let a = c .before .before .before .before .before .before .before in
     omega (
       arith,
       more-most (a .args .t .now) (a .args .e) (a .args .from) (a .args .to) (a .pre .2) (a .pre .4),
@@ -71,7 +71,7 @@ mul-result-2 c =
 
 returns-4 : tie.Need-returns-4
 returns-4 c =
-    let a = c .before .before .before .before .before .before .before .before in
+    let a = c .before .before .before .before .before .before .before in
     let is = more-is (a .args .t .now) (a .args .e) (a .args .from) (a .args .to) _ _ _ _ (c .before .wide3 .ensures)
     (c .before .before .before .before .before .before .weight-at .ensures) (c .wide4 .ensures)
     (omega (arith, c .before .before .before .before .free-at .ensures)) in

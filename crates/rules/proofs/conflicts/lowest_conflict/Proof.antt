@@ -1,16 +1,13 @@
 -- `rules::conflicts::lowest_conflict` meets its contract: a segment's conflict is the lowest, and without one the station's. Assumes nothing.
 use mathlib.Core.Path.{refl}
+use borrow.Author.Needs.{needs}
 use denote.Enum.Declared.{tagOf}
 use denote.Ref.{now}
 use Rattle.rules.specs.ConflictsLaws.{conflict-stays}
 use Rattle.rules.specs.StationLaws.{lowest-segment, lowest-station}
 use Rattle.rules.proofs.conflicts.Conflict.{the-type}
-use borrow.Author.Needs.{needs}
 use Rattle.rules.proofs.conflicts.lowest_conflict.Statement.{statement}
 use Rattle.rules.proofs.conflicts.lowest_conflict.Tie as tie
-
-sub-segment-conflict : tie.Need-sub-segment-conflict
-sub-segment-conflict c = search needs
 
 segment-conflict-requires : tie.Need-segment-conflict-requires
 segment-conflict-requires c κs = search needs
@@ -20,7 +17,7 @@ enum-told c = search needs
 
 returns : tie.Need-returns
 returns c =
-    let a = c .before .before .before .before .before .before .args in
+    let a = c .before .before .before .before .before .args in
     lowest-segment (a .layout) (now (a .ds)) (now (a .m)) _ (c .before .segment-conflict .ensures) (conflict-stays (tagOf the-type) refl _ (c .match .keys2))
 
 station-conflict-requires : tie.Need-station-conflict-requires
@@ -28,17 +25,11 @@ station-conflict-requires c κs = search needs
 
 returns-2 : tie.Need-returns-2
 returns-2 c =
-    let a = c .before .before .before .before .before .before .before .before .before .args in
-    lowest-station (a .layout) (now (a .ds)) (now (a .m)) _ (c .before .before .before .before .segment-conflict .ensures) _
-    (c .before .before .enum-told .given .1) (c .station-conflict .ensures)
+    let a = c .before .before .before .before .before .before .before .args in
+    lowest-station (a .layout) (now (a .ds)) (now (a .m)) _ (c .before .before .before .segment-conflict .ensures) _
+    (c .before .enum-told .given .1) (c .station-conflict .ensures)
 
 pub lowest-conflict-spec : {M : Type 1} → statement M
 lowest-conflict-spec =
     tie.close
-    (tie.spec
-    sub-segment-conflict
-    segment-conflict-requires
-    enum-told
-    returns
-    station-conflict-requires
-    returns-2)
+    (tie.spec segment-conflict-requires enum-told returns station-conflict-requires returns-2)

@@ -11,10 +11,10 @@ use Rattle.rules.proofs.conflicts.station_conflict.Statement.{statement
 use Rattle.rules.proofs.conflicts.station_conflict.Tie as tie
 
 abbrev Inv-loop : tie.InvT-loop
-Inv-loop ds m stations n tracks s₀ s = NoCrowd tracks ds m stations n s × (0 < s) × (s + 1 ≤ stations)
+Inv-loop ds m tracks stations n s₀ s = NoCrowd tracks ds m stations n s × (0 < s) × (s + 1 ≤ stations)
 
 abbrev μ-loop : tie.MeasureT-loop
-μ-loop ds m stations n tracks s₀ s = stations - s
+μ-loop ds m tracks stations n s₀ s = stations - s
 
 loop-holds : tie.Need-loop-holds Inv-loop μ-loop
 loop-holds c = (station-start _ _ _ _ _, omega arith, omega arith)
@@ -37,8 +37,9 @@ enum-told c = search needs
 returns : tie.Need-returns Inv-loop μ-loop
 returns c =
     let w = c .before .before .before .loop in
-    let a = c .before .before .before .before .before .before .args in
-    station-found (a .t1) _ _ _ _ _ _ (w .inv .0) (omega arith) (c .before .before .loop-test .taken) (c .before .crowd-on .ensures) (conflict-stays (tagOf the-type) refl _ (c .match .keys2))
+    let a = c .before .before .before .before .before .before .before .args in
+    station-found (a .layout .tracks) _ _ _ _ _ _ (w .inv .0) (omega arith) (c .before .before .loop-test .taken) (c .before .crowd-on .ensures)
+    (conflict-stays (tagOf the-type) refl _ (c .match .keys2))
 
 add-s : tie.Need-add-s Inv-loop μ-loop
 add-s c = search needs
@@ -49,8 +50,9 @@ loop-less c = search needs
 loop-again : tie.Need-loop-again Inv-loop μ-loop
 loop-again c =
     let w = c .before .before .before .before .loop in
-    let a = c .before .before .before .before .before .before .before .args in (
-      station-on (a .t1) _ _ _ _ _ _ (w .inv .0) (omega arith) (c .before .before .before .loop-test .taken) (c .before .before .crowd-on .ensures) (c .enum-told .given .1),
+    let a = c .before .before .before .before .before .before .before .before .args in (
+      station-on (a .layout .tracks) _ _ _ _ _ _ (w .inv .0) (omega arith) (c .before .before .before .loop-test .taken) (c .before .before .crowd-on .ensures)
+          (c .enum-told .given .1),
       omega arith,
       omega arith,
     )

@@ -7,6 +7,7 @@ use Rattle.rules.specs.Breaches.{conflictBreach, breachOf}
 use Rattle.rules.specs.ConflictsLaws.{conflict-told}
 use Rattle.rules.specs.StationLaws.{directions-size}
 use Rattle.rules.specs.BreachesLaws.{breach-first, breach-later, place-fits}
+use Rattle.rules.specs.ScanningLaws.{clear-none}
 use Rattle.rules.proofs.rules.breach_of.Statement.{statement}
 use Rattle.rules.proofs.rules.breach_of.Tie as tie
 
@@ -83,13 +84,14 @@ slice-aggregate-lowest-conflict c = search needs
 lowest-conflict-requires : tie.Need-lowest-conflict-requires
 lowest-conflict-requires c κs =
     let a = c .before .before .before .before .before .before .before .before .before .before .before .before .before .before .before .before in
-    let y = c .before .layout-of .ensures in (
-      directions-size (a .args .line) _ (c .before .before .directions-of .ensures),
-      a .pre .1,
-      rw y (a .pre .0 .stations .0),
-      rw y (a .pre .0 .stations .1),
-      rw y (a .pre .0 .trains .1),
-    )
+    let y = c .before .layout-of .ensures in
+    record {
+      laid-out = rw y (a .pre .0 .stations .0, a .pre .0 .stations .1, a .pre .0 .trains .1);
+      directions = directions-size (a .args .line) _ (c .before .before .directions-of .ensures);
+      size = a .pre .1;
+      former-size = a .pre .1;
+      known = clear-none _ _ _;
+    }
 
 conflict-breach-requires : tie.Need-conflict-breach-requires
 conflict-breach-requires c κs =

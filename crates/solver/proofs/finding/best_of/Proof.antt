@@ -9,6 +9,7 @@ use Prim.Native.Nat.{ℕ}
 use Rattle.orders.specs.Least.{IsLeast}
 use Rattle.orders.specs.Marks.{free}
 use Rattle.orders.specs.Plans.{Keeps}
+use Rattle.rules.specs.ScanningLaws.{clear-none}
 use Rattle.solver.specs.Taking.{Given}
 use Rattle.solver.specs.FindingLaws.{first-planned, finds-walked, finds-nothing}
 use Rattle.solver.proofs.finding.best_of.Statement.{statement}
@@ -34,51 +35,56 @@ key-of-requires c κs = search needs
 layout-of-requires : tie.Need-layout-of-requires
 layout-of-requires c κs = search needs
 
-slice-aggregate-take-up : tie.Need-slice-aggregate-take-up
-slice-aggregate-take-up c = search needs
-
-slice-aggregate-take-up-2 : tie.Need-slice-aggregate-take-up-2
-slice-aggregate-take-up-2 c = search needs
-
-slice-aggregate-take-up-3 : tie.Need-slice-aggregate-take-up-3
-slice-aggregate-take-up-3 c = search needs
-
-slice-aggregate-take-up-4 : tie.Need-slice-aggregate-take-up-4
-slice-aggregate-take-up-4 c = search needs
-
-slice-aggregate-take-up-5 : tie.Need-slice-aggregate-take-up-5
-slice-aggregate-take-up-5 c = search needs
-
-slice-aggregate-take-up-6 : tie.Need-slice-aggregate-take-up-6
-slice-aggregate-take-up-6 c = search needs
-
 -- what is known before the walk
-least : (c : tie.After-key) → IsLeast 352 (Keeps (c .before .before .before .before .before .before .before .before .before .before .before .before .before .before .args .line) free) (replicate 352 0) (c .before .before .before .before .before .before .before .before .before .before .before .before .before .first-minutes .result .minutes)
-least c = c .before .before .before .before .before .before .before .before .before .before .before .before .before .first-minutes .ensures .least (not-false _ (c .before .before .before .before .before .before .before .before .before .before .before .if1 .left))
+abbrev laid : tie.After-key → tie.After-layout-of
+laid c = c .before .before .before .before .before .before .before
 
-given : (c : tie.After-key) → Given (c .before .before .before .before .before .before .before .before .before .before .before .before .before .before .args .line) (c .before .before .before .before .before .before .before .before .before .before .before .before .before .first-minutes .result .minutes) (replicate 368 0) (replicate 352 0) (c .before .before .before .before .before .before .before .before .before .tables-of .result) (c .before .before .before .before .before .before .before .before .directions-of .result) (c .before .before .before .before .before .before .before .key-of .result) (c .before .before .before .before .before .before .layout-of .result) 0 (record { found = false; delay = 0; steps = 1 })
+abbrev first : tie.After-key → tie.After-first-minutes
+first c = laid c .before .before .before .before .before .before .before
+
+least : (c : tie.After-key) →
+    IsLeast 352 (Keeps (first c .before .args .line) free) (replicate 352 0) (first c .first-minutes .result .minutes)
+least c = first c .first-minutes .ensures .least (not-false _ (laid c .before .before .before .before .before .if1 .left))
+
+given : (c : tie.After-key) →
+    Given (first c .before .args .line) (first c .first-minutes .result .minutes) (replicate 368 0) (replicate 352 0)
+    (laid c .before .before .before .tables-of .result) (laid c .before .before .directions-of .result) (laid c .before .key-of .result)
+    (laid c .layout-of .result) 0 (record { found = false; delay = 0; steps = 1 })
 unfolding free
 given c =
-    let a = c .before .before .before .before .before .before .before .before .before .before .before .before .before .before in
-    let first = c .before .before .before .before .before .before .before .before .before .before .before .before .before .first-minutes .ensures in
-    let timely = not-false _ (c .before .before .before .before .before .before .before .before .before .before .before .if1 .left) in
+    let a = first c .before in
+    let timely = not-false _ (laid c .before .before .before .before .before .if1 .left) in
     record {
-      tabled = record { within = a .pre .0; arrays = a .pre .1; tables = c .before .before .before .before .before .before .before .before .before .tables-of .ensures; directions = c .before .before .before .before .before .before .before .before .directions-of .ensures };
-      keys = c .before .before .before .before .before .before .before .key-of .ensures;
-      layout-is = c .before .before .before .before .before .before .layout-of .ensures;
-      planned = first-planned (a .args .line) (a .pre .0) (a .pre .1) _ (least c) (first .rule13 timely) (first .cost timely);
-      tallied = record { size = length-replicate {A = ℕ} 352 0; delay-is = λ e. absurd (false≢true e); delay-low = λ e. absurd (false≢true e); steps-low = omega arith };
+      tabled = record {
+        within = a .pre .0;
+        arrays = a .pre .1;
+        tables = laid c .before .before .before .tables-of .ensures;
+        directions = laid c .before .before .directions-of .ensures;
+      };
+      keys = laid c .before .key-of .ensures;
+      layout-is = laid c .layout-of .ensures;
+      planned =
+          first-planned (a .args .line) (a .pre .0) (a .pre .1) _ (least c) (first c .first-minutes .ensures .rule13 timely)
+          (first c .first-minutes .ensures .cost timely);
+      tallied = record {
+        size = length-replicate {A = ℕ} 352 0;
+        delay-is = λ e. absurd (false≢true e);
+        delay-low = λ e. absurd (false≢true e);
+        steps-low = omega arith;
+      };
     }
 
 take-up-requires : tie.Need-take-up-requires
-take-up-requires c κs = record { line = c .before .before .before .before .before .before .before .before .before .before .before .before .before .before .args .line; given = given c }
+take-up-requires c κs =
+    record { line = first c .before .args .line; given = given c; former-size = given c .planned .fit .size; known = clear-none _ _ _ }
 
 returns-2 : tie.Need-returns-2
 unfolding free
 returns-2 c =
-    let b = c .before .before .before in
-    let a = b .before .before .before .before .before .before .before .before .before .before .before .before .before .before in
-    finds-walked (a .args .line) (a .pre .0) (a .pre .1) (b .before .before .before .before .before .before .before .before .before .before .before .before .before .first-minutes .result .minutes) (least b) (replicate 352 0) refl refl (c .before .before .take-up .ensures (a .args .line) (given b))
+    let b = c .before in
+    let a = first b .before in
+    finds-walked (a .args .line) (a .pre .0) (a .pre .1) (first b .first-minutes .result .minutes) (least b) (replicate 352 0) refl refl
+    (c .take-up .ensures (a .args .line) (given b))
 
 pub best-of-spec : {M : Type 1} → statement M
 best-of-spec =
@@ -90,11 +96,5 @@ best-of-spec =
     directions-of-requires
     key-of-requires
     layout-of-requires
-    slice-aggregate-take-up
-    slice-aggregate-take-up-2
-    slice-aggregate-take-up-3
-    slice-aggregate-take-up-4
-    slice-aggregate-take-up-5
-    slice-aggregate-take-up-6
     take-up-requires
     returns-2)

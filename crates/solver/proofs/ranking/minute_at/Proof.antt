@@ -8,8 +8,8 @@ use Rattle.solver.proofs.ranking.minute_at.Tie as tie
 mul-place : tie.Need-mul-place
 mul-place c = search needs
 
-shared-slice-read-place : tie.Need-shared-slice-read-place
-shared-slice-read-place c = search needs
+element-copy-out-place : tie.Need-element-copy-out-place
+element-copy-out-place c = search needs
 
 place-requires : tie.Need-place-requires
 place-requires c κs = search needs
@@ -17,8 +17,8 @@ place-requires c κs = search needs
 mul-result : tie.Need-mul-result
 mul-result c = search needs
 
-shared-slice-read-result : tie.Need-shared-slice-read-result
-shared-slice-read-result c = search needs
+element-copy-out-result : tie.Need-element-copy-out-result
+element-copy-out-result c = search needs
 
 returns : tie.Need-returns
 returns c = minute-in _ _ _ _ (c .before .before .place .ensures) (c .before .if1 .taken)
@@ -31,9 +31,9 @@ minute-at-spec =
     tie.close
     (tie.spec
     mul-place
-    shared-slice-read-place
+    element-copy-out-place
     place-requires
     mul-result
-    shared-slice-read-result
+    element-copy-out-result
     returns
     returns-2)

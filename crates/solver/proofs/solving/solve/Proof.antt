@@ -30,7 +30,9 @@ best-of-requires c κs =
 
 returns-2 : tie.Need-returns-2
 returns-2 c =
-    solving-none _ (c .before .before .before .before .before .before .read .ensures) (c .before .before .before .before .enum-told .given .1) _ (c .before .before .best-of .ensures .none (not-true _ (c .if1 .taken))) refl
+    let told = c .before .before .before .before in
+    solving-none _ (told .before .before .read .ensures) (told .enum-told .given .1) _
+    (c .before .before .best-of .ensures .none (not-true _ (c .if1 .taken))) refl
 
 write-requires : tie.Need-write-requires
 write-requires c κs = search needs
@@ -40,7 +42,10 @@ same-length c = search needs
 
 returns-3 : tie.Need-returns-3
 returns-3 c =
-    solving-best _ (c .before .before .before .before .before .before .before .before .before .before .before .read .ensures) (c .before .before .before .before .before .before .before .before .before .enum-told .given .1) (c .before .before .before .before .before .before .before .best-of .result .minutes) (c .before .before .before .before .before .before .before .best-of .ensures .best (not-false _ (c .before .before .before .before .before .if1 .left))) (c .before .before .write .ensures)
+    let found = c .before .before .before .before .before .before .before in
+    let told = found .before .before in
+    solving-best _ (told .before .before .read .ensures) (told .enum-told .given .1) (found .best-of .result .minutes)
+    (found .best-of .ensures .best (not-false _ (c .before .before .before .before .before .if1 .left))) (c .before .before .write .ensures)
 
 pub solve-spec : {M : Type 1} → statement M
 solve-spec =

@@ -1,23 +1,24 @@
 -- `solver::walk::take_up`, `try_ways` and `try_way`, a cycle of calls, meet their contracts. Measures 3 slack + 2, + 1 and + 0: the slack falls where
 -- a way's plan is taken up. The loop's invariant: the ways before w are tried, for every line of which what is given holds.
 use Prim.Native.Nat.{ℕ, _+_, _*_, _-_, _≤_, _<_}
-use mathlib.Core.Path.{_≡_, sym, _∙_, ap}
+use mathlib.Core.Path.{_≡_, refl}
 use mathlib.Core.Logic.{⊎-elim}
 use native.Mathlib.Omega.{arith}
 use denote.Ref.{now}
 use borrow.Fn.Kinds.{In}
 use borrow.Fn.PlainCycle.{Measures, is, falls, and}
 use borrow.Author.Needs.{needs}
-use lib.ListN.{length, length-set, length-replicate}
+use lib.ListN.{length-replicate}
 use Rattle.rules.specs.StationLaws.{directions-size}
 use Rattle.orders.specs.NoLater.{slack}
 use Rattle.solver.specs.Ways.{wayOf}
+use Rattle.solver.specs.WaysToldLaws.{steps-within}
 use Rattle.solver.specs.Taking.{TriesFirst}
 use Rattle.solver.specs.WalksLaws.{walks-none}
 use Rattle.solver.specs.TryingLaws.{way-there, count-most, conflict-range, is-way}
-use Rattle.solver.specs.GivenLaws.{key-long, conflict-known, given-cut, given-clear, given-split}
-use Rattle.solver.specs.GivenLaws.{row-few, row-there, second-there, counted-low, way-chooses, given-dead, next-given, next-falls, given-alive}
-use Rattle.solver.specs.GivenLaws.{given-after, tries-more, tries-skip}
+use Rattle.solver.specs.GivenLaws.{key-long, laid-out, conflict-known, clear-known, given-cut, given-clear, given-split}
+use Rattle.solver.specs.GivenLaws.{row-few, second-there, counted-low, way-chooses, given-fails, given-dead}
+use Rattle.solver.specs.GivenLaws.{next-given, next-falls, given-alive, given-after, tries-more, tries-skip}
 use Rattle.solver.proofs.walk.take_up.Reads as take-up
 use Rattle.solver.proofs.walk.take_up.Kinds as take-up-kinds
 use Rattle.solver.proofs.walk.+take_up+try_way+try_ways.Lts-take_up as take-up-lts
@@ -28,10 +29,12 @@ use Rattle.solver.proofs.walk.try_ways.Reads as try-ways
 use Rattle.solver.proofs.walk.try_ways.Kinds as try-ways-kinds
 use Rattle.solver.proofs.walk.+take_up+try_way+try_ways.Lts-try_ways as try-ways-lts
 use Rattle.solver.proofs.ranking.improves.Reads as improves-reads
+use Rattle.rules.proofs.conflicts.clear_segments.Reads as clear-segments-reads
 use Rattle.rules.proofs.conflicts.lowest_conflict.Reads as lowest-conflict-reads
 use Rattle.solver.proofs.tally.counted.Reads as counted-reads
 use Rattle.solver.proofs.tally.cut_of.Reads as cut-of-reads
 use Rattle.solver.proofs.walk.copy_minutes.Reads as copy-minutes-reads
+use Rattle.solver.proofs.walk.fails.Reads as fails-reads
 use Rattle.solver.proofs.walk.raised.Reads as raised-reads
 use Rattle.solver.proofs.ways.way_count.Reads as way-count-reads
 use Rattle.solver.proofs.ways.way_of.Reads as way-of-reads
@@ -39,7 +42,7 @@ use Rattle.solver.proofs.ways.with_bit.Reads as with-bit-reads
 use Rattle.solver.proofs.walk.+take_up+try_way+try_ways.{statement}
 use Rattle.solver.proofs.walk.+take_up+try_way+try_ways.Tie.{close}
 
-abbrev μ-take-up : Measures 6 take-up-kinds.ps ℕ
+abbrev μ-take-up : Measures 7 take-up-kinds.ps ℕ
 μ-take-up κs a = 3 * slack (now (a .0)) + 2
 
 abbrev μ-try-way : Measures 6 try-way-kinds.ps ℕ
@@ -48,11 +51,11 @@ abbrev μ-try-way : Measures 6 try-way-kinds.ps ℕ
 abbrev μ-try-ways : Measures 6 try-ways-kinds.ps ℕ
 μ-try-ways κs a = 3 * slack (now (a .0)) + 1
 
-abbrev take-up-at : ℕ → In 6 take-up-kinds.ps
-take-up-at t = and 6 take-up-kinds.ps (is 6 take-up-kinds.ps μ-take-up t) take-up.Pre
+abbrev take-up-at : ℕ → In 7 take-up-kinds.ps
+take-up-at t = and 7 take-up-kinds.ps (is 7 take-up-kinds.ps μ-take-up t) take-up.Pre
 
-abbrev take-up-below : ℕ → In 6 take-up-kinds.ps
-take-up-below t = and 6 take-up-kinds.ps (falls 6 take-up-kinds.ps _<_ μ-take-up t) take-up.Pre
+abbrev take-up-below : ℕ → In 7 take-up-kinds.ps
+take-up-below t = and 7 take-up-kinds.ps (falls 7 take-up-kinds.ps _<_ μ-take-up t) take-up.Pre
 
 abbrev try-way-at : ℕ → In 6 try-way-kinds.ps
 try-way-at t = and 6 try-way-kinds.ps (is 6 try-way-kinds.ps μ-try-way t) try-way.Pre
@@ -80,22 +83,8 @@ take-up-improves-requires : (t : ℕ) → take-up-lts.Need-improves-requires (
   try-ways.Post,
 ) (take-up-at t) take-up.Post
 take-up-improves-requires t c κs =
-    let g = c .before .before .before .before .before .before .before .pre .1 in
+    let g = c .before .pre .1 in
     (g .given .planned .fit .size, g .given .tallied .size, key-long (g .line) _ _ _ _ _ _ _ _ _ (g .given))
-
-take-up-same-length : (t : ℕ) → take-up-lts.Need-same-length (
-  improves-reads.Asked,
-  improves-reads.Learnt,
-  lowest-conflict-reads.Asked,
-  lowest-conflict-reads.Learnt,
-  way-count-reads.Asked,
-  way-count-reads.Learnt,
-  copy-minutes-reads.Asked,
-  copy-minutes-reads.Learnt,
-  try-ways-below t,
-  try-ways.Post,
-) (take-up-at t) take-up.Post
-take-up-same-length t c = search needs
 
 take-up-returns : (t : ℕ) → take-up-lts.Need-returns (
   improves-reads.Asked,
@@ -124,14 +113,14 @@ take-up-lowest-conflict-requires : (t : ℕ) → take-up-lts.Need-lowest-conflic
   try-ways.Post,
 ) (take-up-at t) take-up.Post
 take-up-lowest-conflict-requires t c κs =
-    let g = c .before .before .before .before .before .before .before .before .before .pre .1 .given in
-    let w = g .tabled .within in (
-      directions-size _ _ (g .tabled .directions),
-      g .planned .fit .size,
-      rw (g .layout-is) (w .stations .0),
-      rw (g .layout-is) (w .stations .1),
-      rw (g .layout-is) (w .trains .1),
-    )
+    let a = c .before .before .before .before .before .before .pre .1 in
+    record {
+      laid-out = laid-out (a .line) _ _ _ _ _ _ _ _ _ (a .given);
+      directions = directions-size _ _ (a .given .tabled .directions);
+      size = a .given .planned .fit .size;
+      former-size = a .former-size;
+      known = a .known;
+    }
 
 take-up-way-count-requires : (t : ℕ) → take-up-lts.Need-way-count-requires (
   improves-reads.Asked,
@@ -160,22 +149,8 @@ take-up-copy-minutes-requires : (t : ℕ) → take-up-lts.Need-copy-minutes-requ
   try-ways.Post,
 ) (take-up-at t) take-up.Post
 take-up-copy-minutes-requires t c κs =
-    let g = c .before .before .before .before .before .before .before .before .before .before .before .before .before .pre .1 .given in
+    let g = c .before .before .before .before .before .before .before .before .before .before .pre .1 .given in
     (g .planned .fit .size, g .tallied .size)
-
-take-up-same-length-2 : (t : ℕ) → take-up-lts.Need-same-length-2 (
-  improves-reads.Asked,
-  improves-reads.Learnt,
-  lowest-conflict-reads.Asked,
-  lowest-conflict-reads.Learnt,
-  way-count-reads.Asked,
-  way-count-reads.Learnt,
-  copy-minutes-reads.Asked,
-  copy-minutes-reads.Learnt,
-  try-ways-below t,
-  try-ways.Post,
-) (take-up-at t) take-up.Post
-take-up-same-length-2 t c = search needs
 
 take-up-returns-2 : (t : ℕ) → take-up-lts.Need-returns-2 (
   improves-reads.Asked,
@@ -190,10 +165,10 @@ take-up-returns-2 : (t : ℕ) → take-up-lts.Need-returns-2 (
   try-ways.Post,
 ) (take-up-at t) take-up.Post
 take-up-returns-2 t c l g =
-    let n = c .before .before .before .before .before in
-    let x = n .before .before .before in
-    given-clear l _ _ _ _ _ _ _ _ _ g _ (x .improves .ensures) (n .before .before .if1 .left) _ (n .before .lowest-conflict .ensures) _ (n .way-count .ensures)
-    (c .before .before .before .before .if2 .taken) _ (c .before .before .copy-minutes .ensures)
+    let n = c .before .before .before in
+    let x = n .before .before .before .before .before in
+    given-clear l _ _ _ _ _ _ _ _ _ g _ (x .before .improves .ensures) (x .if1 .left) _ (n .before .lowest-conflict .ensures) _ (n .way-count .ensures)
+    (c .before .before .if2 .taken) _ (c .copy-minutes .ensures)
 
 take-up-try-ways-requires : (t : ℕ) → take-up-lts.Need-try-ways-requires (
   improves-reads.Asked,
@@ -209,7 +184,7 @@ take-up-try-ways-requires : (t : ℕ) → take-up-lts.Need-try-ways-requires (
 ) (take-up-at t) take-up.Post
 take-up-try-ways-requires t c κs =
     let n = c .before .before .before in
-    let a = n .before .before .before .before .before .before .before .before .before .before .before .pre in
+    let a = n .before .before .before .before .before .before .before .before .pre in
     let g = a .1 in (
       omega (arith, a .0),
       record {
@@ -219,34 +194,6 @@ take-up-try-ways-requires t c κs =
         count-is = n .way-count .ensures;
       },
     )
-
-take-up-same-length-3 : (t : ℕ) → take-up-lts.Need-same-length-3 (
-  improves-reads.Asked,
-  improves-reads.Learnt,
-  lowest-conflict-reads.Asked,
-  lowest-conflict-reads.Learnt,
-  way-count-reads.Asked,
-  way-count-reads.Learnt,
-  copy-minutes-reads.Asked,
-  copy-minutes-reads.Learnt,
-  try-ways-below t,
-  try-ways.Post,
-) (take-up-at t) take-up.Post
-take-up-same-length-3 t c = search needs
-
-take-up-same-length-4 : (t : ℕ) → take-up-lts.Need-same-length-4 (
-  improves-reads.Asked,
-  improves-reads.Learnt,
-  lowest-conflict-reads.Asked,
-  lowest-conflict-reads.Learnt,
-  way-count-reads.Asked,
-  way-count-reads.Learnt,
-  copy-minutes-reads.Asked,
-  copy-minutes-reads.Learnt,
-  try-ways-below t,
-  try-ways.Post,
-) (take-up-at t) take-up.Post
-take-up-same-length-4 t c = search needs
 
 take-up-returns-3 : (t : ℕ) → take-up-lts.Need-returns-3 (
   improves-reads.Asked,
@@ -261,21 +208,24 @@ take-up-returns-3 : (t : ℕ) → take-up-lts.Need-returns-3 (
   try-ways.Post,
 ) (take-up-at t) take-up.Post
 take-up-returns-3 t c l g =
-    let n = c .before .before .before .before .before .before .before .before in
+    let n = c .before .before .before .before in
+    let x = n .before .before .before .before .before in
     let is = n .before .lowest-conflict .ensures in
-    given-split l _ _ _ _ _ _ _ _ _ g _ (n .before .before .before .improves .ensures) (n .before .before .if1 .left) _ is _
-    (n .way-count .ensures) (c .before .before .before .before .before .before .before .if2 .left) _ _ _
-    (c .before .before .before .before .try-ways .ensures l g (conflict-known l _ _ _ _ _ _ _ _ _ g _ is))
+    given-split l _ _ _ _ _ _ _ _ _ g _ (x .before .improves .ensures) (x .if1 .left) _ is _ (n .way-count .ensures)
+    (c .before .before .before .if2 .left) _ _ _
+    (c .try-ways .ensures l g (conflict-known l _ _ _ _ _ _ _ _ _ g _ is))
 
 try-way-counted-requires : (t : ℕ) → try-way-lts.Need-counted-requires (
   counted-reads.Asked,
   counted-reads.Learnt,
   with-bit-reads.Asked,
   with-bit-reads.Learnt,
-  copy-minutes-reads.Asked,
-  copy-minutes-reads.Learnt,
   cut-of-reads.Asked,
   cut-of-reads.Learnt,
+  fails-reads.Asked,
+  fails-reads.Learnt,
+  copy-minutes-reads.Asked,
+  copy-minutes-reads.Learnt,
   raised-reads.Asked,
   raised-reads.Learnt,
   take-up-below t,
@@ -288,53 +238,59 @@ try-way-mul-old : (t : ℕ) → try-way-lts.Need-mul-old (
   counted-reads.Learnt,
   with-bit-reads.Asked,
   with-bit-reads.Learnt,
-  copy-minutes-reads.Asked,
-  copy-minutes-reads.Learnt,
   cut-of-reads.Asked,
   cut-of-reads.Learnt,
+  fails-reads.Asked,
+  fails-reads.Learnt,
+  copy-minutes-reads.Asked,
+  copy-minutes-reads.Learnt,
   raised-reads.Asked,
   raised-reads.Learnt,
   take-up-below t,
   take-up.Post,
 ) (try-way-at t) try-way.Post
 try-way-mul-old t c =
-    let p = c .before .before .before .before .before .before .before .pre .1 in
+    let p = c .before .pre .1 in
     omega (arith, row-few (p .line) _ _ _ _ _ _ _ _ _ (p .given) (p .choice) _ (p .is-way))
 
-try-way-slice-read-old : (t : ℕ) → try-way-lts.Need-slice-read-old (
+try-way-element-copy-out-old : (t : ℕ) → try-way-lts.Need-element-copy-out-old (
   counted-reads.Asked,
   counted-reads.Learnt,
   with-bit-reads.Asked,
   with-bit-reads.Learnt,
-  copy-minutes-reads.Asked,
-  copy-minutes-reads.Learnt,
   cut-of-reads.Asked,
   cut-of-reads.Learnt,
+  fails-reads.Asked,
+  fails-reads.Learnt,
+  copy-minutes-reads.Asked,
+  copy-minutes-reads.Learnt,
   raised-reads.Asked,
   raised-reads.Learnt,
   take-up-below t,
   take-up.Post,
 ) (try-way-at t) try-way.Post
-try-way-slice-read-old t c =
-    let p = c .before .before .before .before .before .before .before .before .pre .1 in
-    row-there (p .line) _ _ _ _ _ _ _ _ _ (p .given) (p .choice) _ (p .is-way)
+try-way-element-copy-out-old t c =
+    let p = c .before .pre .1 in
+    row-few (p .line) _ _ _ _ _ _ _ _ _ (p .given) (p .choice) _ (p .is-way)
 
 try-way-with-bit-requires : (t : ℕ) → try-way-lts.Need-with-bit-requires (
   counted-reads.Asked,
   counted-reads.Learnt,
   with-bit-reads.Asked,
   with-bit-reads.Learnt,
-  copy-minutes-reads.Asked,
-  copy-minutes-reads.Learnt,
   cut-of-reads.Asked,
   cut-of-reads.Learnt,
+  fails-reads.Asked,
+  fails-reads.Learnt,
+  copy-minutes-reads.Asked,
+  copy-minutes-reads.Learnt,
   raised-reads.Asked,
   raised-reads.Learnt,
   take-up-below t,
   take-up.Post,
 ) (try-way-at t) try-way.Post
 try-way-with-bit-requires t c κs =
-    let p = c .before .before .before .before .before .before .before .before .pre .1 in
+    let p = c .before .before .pre .1 in
     second-there (p .line) _ _ _ _ _ _ _ _ _ (p .given) (p .choice) _ (p .is-way)
 
 try-way-mul-marks : (t : ℕ) → try-way-lts.Need-mul-marks (
@@ -342,96 +298,52 @@ try-way-mul-marks : (t : ℕ) → try-way-lts.Need-mul-marks (
   counted-reads.Learnt,
   with-bit-reads.Asked,
   with-bit-reads.Learnt,
-  copy-minutes-reads.Asked,
-  copy-minutes-reads.Learnt,
   cut-of-reads.Asked,
   cut-of-reads.Learnt,
+  fails-reads.Asked,
+  fails-reads.Learnt,
+  copy-minutes-reads.Asked,
+  copy-minutes-reads.Learnt,
   raised-reads.Asked,
   raised-reads.Learnt,
   take-up-below t,
   take-up.Post,
 ) (try-way-at t) try-way.Post
 try-way-mul-marks t c =
-    let p = c .before .before .before .before .before .before .before .before .before .pre .1 in
+    let p = c .before .before .before .pre .1 in
     omega (arith, row-few (p .line) _ _ _ _ _ _ _ _ _ (p .given) (p .choice) _ (p .is-way))
 
-try-way-slice-write-marks : (t : ℕ) → try-way-lts.Need-slice-write-marks (
+try-way-element-write-marks : (t : ℕ) → try-way-lts.Need-element-write-marks (
   counted-reads.Asked,
   counted-reads.Learnt,
   with-bit-reads.Asked,
   with-bit-reads.Learnt,
-  copy-minutes-reads.Asked,
-  copy-minutes-reads.Learnt,
   cut-of-reads.Asked,
   cut-of-reads.Learnt,
+  fails-reads.Asked,
+  fails-reads.Learnt,
+  copy-minutes-reads.Asked,
+  copy-minutes-reads.Learnt,
   raised-reads.Asked,
   raised-reads.Learnt,
   take-up-below t,
   take-up.Post,
 ) (try-way-at t) try-way.Post
-try-way-slice-write-marks t c =
-    let p = c .before .before .before .before .before .before .before .before .before .pre .1 in
-    row-there (p .line) _ _ _ _ _ _ _ _ _ (p .given) (p .choice) _ (p .is-way)
-
-try-way-slice-aggregate-copy-minutes : (t : ℕ) → try-way-lts.Need-slice-aggregate-copy-minutes (
-  counted-reads.Asked,
-  counted-reads.Learnt,
-  with-bit-reads.Asked,
-  with-bit-reads.Learnt,
-  copy-minutes-reads.Asked,
-  copy-minutes-reads.Learnt,
-  cut-of-reads.Asked,
-  cut-of-reads.Learnt,
-  raised-reads.Asked,
-  raised-reads.Learnt,
-  take-up-below t,
-  take-up.Post,
-) (try-way-at t) try-way.Post
-try-way-slice-aggregate-copy-minutes t c = search needs
-
-try-way-copy-minutes-requires : (t : ℕ) → try-way-lts.Need-copy-minutes-requires (
-  counted-reads.Asked,
-  counted-reads.Learnt,
-  with-bit-reads.Asked,
-  with-bit-reads.Learnt,
-  copy-minutes-reads.Asked,
-  copy-minutes-reads.Learnt,
-  cut-of-reads.Asked,
-  cut-of-reads.Learnt,
-  raised-reads.Asked,
-  raised-reads.Learnt,
-  take-up-below t,
-  take-up.Post,
-) (try-way-at t) try-way.Post
-try-way-copy-minutes-requires t c κs =
-    let p = c .before .before .before .before .before .before .before .before .before .before .pre .1 in
-    (p .given .planned .fit .size, length-replicate {A = ℕ} 352 0)
-
-try-way-slice-aggregate-raised : (t : ℕ) → try-way-lts.Need-slice-aggregate-raised (
-  counted-reads.Asked,
-  counted-reads.Learnt,
-  with-bit-reads.Asked,
-  with-bit-reads.Learnt,
-  copy-minutes-reads.Asked,
-  copy-minutes-reads.Learnt,
-  cut-of-reads.Asked,
-  cut-of-reads.Learnt,
-  raised-reads.Asked,
-  raised-reads.Learnt,
-  take-up-below t,
-  take-up.Post,
-) (try-way-at t) try-way.Post
-try-way-slice-aggregate-raised t c = search needs
+try-way-element-write-marks t c =
+    let p = c .before .before .before .pre .1 in
+    row-few (p .line) _ _ _ _ _ _ _ _ _ (p .given) (p .choice) _ (p .is-way)
 
 try-way-cut-of-requires : (t : ℕ) → try-way-lts.Need-cut-of-requires (
   counted-reads.Asked,
   counted-reads.Learnt,
   with-bit-reads.Asked,
   with-bit-reads.Learnt,
-  copy-minutes-reads.Asked,
-  copy-minutes-reads.Learnt,
   cut-of-reads.Asked,
   cut-of-reads.Learnt,
+  fails-reads.Asked,
+  fails-reads.Learnt,
+  copy-minutes-reads.Asked,
+  copy-minutes-reads.Learnt,
   raised-reads.Asked,
   raised-reads.Learnt,
   take-up-below t,
@@ -439,32 +351,32 @@ try-way-cut-of-requires : (t : ℕ) → try-way-lts.Need-cut-of-requires (
 ) (try-way-at t) try-way.Post
 try-way-cut-of-requires t c κs = search needs
 
-try-way-raised-requires : (t : ℕ) → try-way-lts.Need-raised-requires (
+try-way-fails-requires : (t : ℕ) → try-way-lts.Need-fails-requires (
   counted-reads.Asked,
   counted-reads.Learnt,
   with-bit-reads.Asked,
   with-bit-reads.Learnt,
-  copy-minutes-reads.Asked,
-  copy-minutes-reads.Learnt,
   cut-of-reads.Asked,
   cut-of-reads.Learnt,
+  fails-reads.Asked,
+  fails-reads.Learnt,
+  copy-minutes-reads.Asked,
+  copy-minutes-reads.Learnt,
   raised-reads.Asked,
   raised-reads.Learnt,
   take-up-below t,
   take-up.Post,
 ) (try-way-at t) try-way.Post
-try-way-raised-requires t c κs =
-    let v = c .before .before .before .before .before .before in
+try-way-fails-requires t c κs =
+    let v = c .before .before in
     let b = v .before .before in
-    let a = b .before .before .before .before .before .before .before in
+    let a = b .before in
     let p = a .pre .1 in
     record {
       line = p .line;
       choice = p .choice;
       plan = now (a .args .marks);
-      chooses =
-          way-chooses (p .line) _ _ _ _ _ _ _ _ _ (p .given) (p .choice) _ (p .is-way) _ (v .with-bit .ensures) _
-          (c .before .before .before .before .copy-minutes .ensures);
+      chooses = way-chooses (p .line) _ _ _ _ _ _ _ _ _ (p .given) (p .choice) _ (p .is-way) _ (v .with-bit .ensures) _ refl;
       cut-low = counted-low (p .line) _ _ _ _ _ _ _ _ _ (p .given) (p .choice) _ (p .is-way) _ (b .counted .ensures) _ (c .cut-of .ensures);
     }
 
@@ -473,234 +385,313 @@ try-way-mul-marks-2 : (t : ℕ) → try-way-lts.Need-mul-marks-2 (
   counted-reads.Learnt,
   with-bit-reads.Asked,
   with-bit-reads.Learnt,
-  copy-minutes-reads.Asked,
-  copy-minutes-reads.Learnt,
   cut-of-reads.Asked,
   cut-of-reads.Learnt,
+  fails-reads.Asked,
+  fails-reads.Learnt,
+  copy-minutes-reads.Asked,
+  copy-minutes-reads.Learnt,
   raised-reads.Asked,
   raised-reads.Learnt,
   take-up-below t,
   take-up.Post,
 ) (try-way-at t) try-way.Post
 try-way-mul-marks-2 t c =
-    let made = c .before .before .before .before .before .before .before .before .before in
-    let p = made .before .before .before .before .before .before .before .before .before .pre .1 in
+    let p = c .before .before .before .before .before .before .before .pre .1 in
     omega (arith, row-few (p .line) _ _ _ _ _ _ _ _ _ (p .given) (p .choice) _ (p .is-way))
 
-try-way-slice-write-marks-2 : (t : ℕ) → try-way-lts.Need-slice-write-marks-2 (
+try-way-element-write-marks-2 : (t : ℕ) → try-way-lts.Need-element-write-marks-2 (
   counted-reads.Asked,
   counted-reads.Learnt,
   with-bit-reads.Asked,
   with-bit-reads.Learnt,
-  copy-minutes-reads.Asked,
-  copy-minutes-reads.Learnt,
   cut-of-reads.Asked,
   cut-of-reads.Learnt,
+  fails-reads.Asked,
+  fails-reads.Learnt,
+  copy-minutes-reads.Asked,
+  copy-minutes-reads.Learnt,
   raised-reads.Asked,
   raised-reads.Learnt,
   take-up-below t,
   take-up.Post,
 ) (try-way-at t) try-way.Post
-try-way-slice-write-marks-2 t c =
-    let r = c .before .before in
-    let p = r .before .before .before .before .before .before .before .before .before .before .before .before .before .before .before .before .pre .1 in
-    simp length-set (row-there (p .line) _ _ _ _ _ _ _ _ _ (p .given) (p .choice) _ (p .is-way))
-
-try-way-same-length : (t : ℕ) → try-way-lts.Need-same-length (
-  counted-reads.Asked,
-  counted-reads.Learnt,
-  with-bit-reads.Asked,
-  with-bit-reads.Learnt,
-  copy-minutes-reads.Asked,
-  copy-minutes-reads.Learnt,
-  cut-of-reads.Asked,
-  cut-of-reads.Learnt,
-  raised-reads.Asked,
-  raised-reads.Learnt,
-  take-up-below t,
-  take-up.Post,
-) (try-way-at t) try-way.Post
-try-way-same-length t c = search needs
+try-way-element-write-marks-2 t c =
+    let p = c .before .before .before .before .before .before .before .pre .1 in
+    row-few (p .line) _ _ _ _ _ _ _ _ _ (p .given) (p .choice) _ (p .is-way)
 
 try-way-returns : (t : ℕ) → try-way-lts.Need-returns (
   counted-reads.Asked,
   counted-reads.Learnt,
   with-bit-reads.Asked,
   with-bit-reads.Learnt,
-  copy-minutes-reads.Asked,
-  copy-minutes-reads.Learnt,
   cut-of-reads.Asked,
   cut-of-reads.Learnt,
+  fails-reads.Asked,
+  fails-reads.Learnt,
+  copy-minutes-reads.Asked,
+  copy-minutes-reads.Learnt,
   raised-reads.Asked,
   raised-reads.Learnt,
   take-up-below t,
   take-up.Post,
 ) (try-way-at t) try-way.Post
 try-way-returns t c l x g i =
-    let r = c .before .before in
-    let q = r .before .before .before .before .before in
-    let v = q .before .before in
-    let b = v .before .before in
-    given-dead l _ _ _ _ _ _ _ _ _ g x _ i _ (v .with-bit .ensures) _ (b .counted .ensures) _ (q .copy-minutes .ensures) _
-    (r .before .cut-of .ensures) _ _ (r .raised .ensures) (c .if1 .taken)
+    let v = c .before .before .before .before in
+    given-fails l _ _ _ _ _ _ _ _ _ g x _ i _ (v .with-bit .ensures) _ (v .before .before .counted .ensures) _ (c .before .before .cut-of .ensures)
+    (c .before .fails .ensures (c .if1 .taken))
 
-try-way-slice-aggregate-take-up : (t : ℕ) → try-way-lts.Need-slice-aggregate-take-up (
+try-way-copy-minutes-requires : (t : ℕ) → try-way-lts.Need-copy-minutes-requires (
   counted-reads.Asked,
   counted-reads.Learnt,
   with-bit-reads.Asked,
   with-bit-reads.Learnt,
-  copy-minutes-reads.Asked,
-  copy-minutes-reads.Learnt,
   cut-of-reads.Asked,
   cut-of-reads.Learnt,
+  fails-reads.Asked,
+  fails-reads.Learnt,
+  copy-minutes-reads.Asked,
+  copy-minutes-reads.Learnt,
   raised-reads.Asked,
   raised-reads.Learnt,
   take-up-below t,
   take-up.Post,
 ) (try-way-at t) try-way.Post
-try-way-slice-aggregate-take-up t c = search needs
+try-way-copy-minutes-requires t c κs =
+    let p = c .before .before .before .before .before .before .before .before .pre .1 in
+    (p .given .planned .fit .size, length-replicate {A = ℕ} 352 0)
 
-try-way-take-up-requires : (t : ℕ) → try-way-lts.Need-take-up-requires (
+try-way-cut-of-requires-2 : (t : ℕ) → try-way-lts.Need-cut-of-requires-2 (
   counted-reads.Asked,
   counted-reads.Learnt,
   with-bit-reads.Asked,
   with-bit-reads.Learnt,
-  copy-minutes-reads.Asked,
-  copy-minutes-reads.Learnt,
   cut-of-reads.Asked,
   cut-of-reads.Learnt,
+  fails-reads.Asked,
+  fails-reads.Learnt,
+  copy-minutes-reads.Asked,
+  copy-minutes-reads.Learnt,
   raised-reads.Asked,
   raised-reads.Learnt,
   take-up-below t,
   take-up.Post,
 ) (try-way-at t) try-way.Post
-try-way-take-up-requires t c κs =
-    let r = c .before .before .before .before .before in
-    let q = r .before .before .before .before .before in
-    let v = q .before .before in
+try-way-cut-of-requires-2 t c κs = search needs
+
+try-way-raised-requires : (t : ℕ) → try-way-lts.Need-raised-requires (
+  counted-reads.Asked,
+  counted-reads.Learnt,
+  with-bit-reads.Asked,
+  with-bit-reads.Learnt,
+  cut-of-reads.Asked,
+  cut-of-reads.Learnt,
+  fails-reads.Asked,
+  fails-reads.Learnt,
+  copy-minutes-reads.Asked,
+  copy-minutes-reads.Learnt,
+  raised-reads.Asked,
+  raised-reads.Learnt,
+  take-up-below t,
+  take-up.Post,
+) (try-way-at t) try-way.Post
+try-way-raised-requires t c κs =
+    let q = c .before .before .before in
+    let v = q .before .before .before .before .before .before in
     let b = v .before .before in
-    let a = b .before .before .before .before .before .before .before .pre in
-    let p = a .1 in
-    let alive = c .before .before .before .if1 .left in
-    let falls = next-falls (p .line) _ _ _ _ _ _ _ _ _ (p .given) (p .choice) _ (p .is-way) _ (v .with-bit .ensures) _ (b .counted .ensures) _
-    (q .copy-minutes .ensures) _ (r .before .cut-of .ensures) _ _ (r .raised .ensures) alive in
-    let given = next-given (p .line) _ _ _ _ _ _ _ _ _ (p .given) (p .choice) _ (p .is-way) _ (v .with-bit .ensures) _ (b .counted .ensures) _
-    (q .copy-minutes .ensures) _ (r .before .cut-of .ensures) _ _ (r .raised .ensures) alive in
-    (omega (arith, a .0, falls), record { line = p .line; given = given })
+    let a = b .before in
+    let p = a .pre .1 in
+    record {
+      line = p .line;
+      choice = p .choice;
+      plan = now (a .args .marks);
+      chooses = way-chooses (p .line) _ _ _ _ _ _ _ _ _ (p .given) (p .choice) _ (p .is-way) _ (v .with-bit .ensures) _ (q .copy-minutes .ensures);
+      cut-low = counted-low (p .line) _ _ _ _ _ _ _ _ _ (p .given) (p .choice) _ (p .is-way) _ (b .counted .ensures) _ (c .cut-of2 .ensures);
+    }
 
 try-way-mul-marks-3 : (t : ℕ) → try-way-lts.Need-mul-marks-3 (
   counted-reads.Asked,
   counted-reads.Learnt,
   with-bit-reads.Asked,
   with-bit-reads.Learnt,
-  copy-minutes-reads.Asked,
-  copy-minutes-reads.Learnt,
   cut-of-reads.Asked,
   cut-of-reads.Learnt,
+  fails-reads.Asked,
+  fails-reads.Learnt,
+  copy-minutes-reads.Asked,
+  copy-minutes-reads.Learnt,
   raised-reads.Asked,
   raised-reads.Learnt,
   take-up-below t,
   take-up.Post,
 ) (try-way-at t) try-way.Post
 try-way-mul-marks-3 t c =
-    let made = c .before .before .before .before .before .before .before .before .before .before .before .before .before in
-    let p = made .before .before .before .before .before .before .before .before .before .before .before .before .before .pre .1 in
+    let p = c .before .before .before .before .before .before .before .before .before .before .before .before .before .before .pre .1 in
     omega (arith, row-few (p .line) _ _ _ _ _ _ _ _ _ (p .given) (p .choice) _ (p .is-way))
 
-try-way-slice-write-marks-3 : (t : ℕ) → try-way-lts.Need-slice-write-marks-3 (
+try-way-element-write-marks-3 : (t : ℕ) → try-way-lts.Need-element-write-marks-3 (
   counted-reads.Asked,
   counted-reads.Learnt,
   with-bit-reads.Asked,
   with-bit-reads.Learnt,
-  copy-minutes-reads.Asked,
-  copy-minutes-reads.Learnt,
   cut-of-reads.Asked,
   cut-of-reads.Learnt,
+  fails-reads.Asked,
+  fails-reads.Learnt,
+  copy-minutes-reads.Asked,
+  copy-minutes-reads.Learnt,
   raised-reads.Asked,
   raised-reads.Learnt,
   take-up-below t,
   take-up.Post,
 ) (try-way-at t) try-way.Post
-try-way-slice-write-marks-3 t c =
-    let r = c .before .before .before .before .before .before .before .before .before .before in
-    let q = r .before .before .before .before .before in
-    let v = q .before .before in
-    let b = v .before .before in
-    let p = b .before .before .before .before .before .before .before .pre .1 in
-    let given = next-given (p .line) _ _ _ _ _ _ _ _ _ (p .given) (p .choice) _ (p .is-way) _ (v .with-bit .ensures) _ (b .counted .ensures) _
-    (q .copy-minutes .ensures) _ (r .before .cut-of .ensures) _ _ (r .raised .ensures)
-    (c .before .before .before .before .before .before .before .before .if1 .left) in
-    rw (c .before .before .before .before .take-up .ensures (p .line) given .marks-same)
-    (simp length-set (row-there (p .line) _ _ _ _ _ _ _ _ _ (p .given) (p .choice) _ (p .is-way)))
-
-try-way-same-length-3 : (t : ℕ) → try-way-lts.Need-same-length-3 (
-  counted-reads.Asked,
-  counted-reads.Learnt,
-  with-bit-reads.Asked,
-  with-bit-reads.Learnt,
-  copy-minutes-reads.Asked,
-  copy-minutes-reads.Learnt,
-  cut-of-reads.Asked,
-  cut-of-reads.Learnt,
-  raised-reads.Asked,
-  raised-reads.Learnt,
-  take-up-below t,
-  take-up.Post,
-) (try-way-at t) try-way.Post
-try-way-same-length-3 t c = search needs
+try-way-element-write-marks-3 t c =
+    let p = c .before .before .before .before .before .before .before .before .before .before .before .before .before .before .pre .1 in
+    row-few (p .line) _ _ _ _ _ _ _ _ _ (p .given) (p .choice) _ (p .is-way)
 
 try-way-returns-2 : (t : ℕ) → try-way-lts.Need-returns-2 (
   counted-reads.Asked,
   counted-reads.Learnt,
   with-bit-reads.Asked,
   with-bit-reads.Learnt,
-  copy-minutes-reads.Asked,
-  copy-minutes-reads.Learnt,
   cut-of-reads.Asked,
   cut-of-reads.Learnt,
+  fails-reads.Asked,
+  fails-reads.Learnt,
+  copy-minutes-reads.Asked,
+  copy-minutes-reads.Learnt,
   raised-reads.Asked,
   raised-reads.Learnt,
   take-up-below t,
   take-up.Post,
 ) (try-way-at t) try-way.Post
 try-way-returns-2 t c l x g i =
-    let r = c .before .before .before .before .before .before .before .before .before .before in
-    let q = r .before .before .before .before .before in
-    let v = q .before .before in
+    let r = c .before in
+    let q = r .before .before .before .before in
+    let v = q .before .before .before .before .before .before in
     let b = v .before .before in
-    let alive = c .before .before .before .before .before .before .before .before .if1 .left in
-    let given = next-given l _ _ _ _ _ _ _ _ _ g x _ i _ (v .with-bit .ensures) _ (b .counted .ensures) _ (q .copy-minutes .ensures) _
-    (r .before .cut-of .ensures) _ _ (r .raised .ensures) alive in
-    given-alive l _ _ _ _ _ _ _ _ _ g x _ i _ (v .with-bit .ensures) _ (b .counted .ensures) _ (q .copy-minutes .ensures) _
-    (r .before .cut-of .ensures) _ _ (r .raised .ensures) alive _ _ _ (c .before .before .before .before .take-up .ensures l given)
+    given-dead l _ _ _ _ _ _ _ _ _ g x _ i _ (v .with-bit .ensures) _ (b .counted .ensures) _ (q .copy-minutes .ensures) _
+    (r .before .cut-of2 .ensures) _ _ (r .raised .ensures) (c .if2 .taken)
 
-try-way-same-length-2 : (t : ℕ) → try-way-lts.Need-same-length-2 (
+try-way-take-up-requires : (t : ℕ) → try-way-lts.Need-take-up-requires (
   counted-reads.Asked,
   counted-reads.Learnt,
   with-bit-reads.Asked,
   with-bit-reads.Learnt,
-  copy-minutes-reads.Asked,
-  copy-minutes-reads.Learnt,
   cut-of-reads.Asked,
   cut-of-reads.Learnt,
+  fails-reads.Asked,
+  fails-reads.Learnt,
+  copy-minutes-reads.Asked,
+  copy-minutes-reads.Learnt,
   raised-reads.Asked,
   raised-reads.Learnt,
   take-up-below t,
   take-up.Post,
 ) (try-way-at t) try-way.Post
-try-way-same-length-2 t c =
-    let r = c .before .before .before .before .before .before .before .before .before .before in
-    let p = r .before .before .before .before .before .before .before .before .before .before .before .before .before .before .before .before .pre .1 in
-    ap length (try-way-returns-2 t c (p .line) (p .choice) (p .given) (p .is-way) .marks-same)
+try-way-take-up-requires t c κs =
+    let r = c .before .before .before .before in
+    let q = r .before .before .before .before in
+    let v = q .before .before .before .before .before .before in
+    let b = v .before .before in
+    let a = b .before .pre in
+    let p = a .1 in
+    let alive = c .before .before .before .if2 .left in
+    let falls = next-falls (p .line) _ _ _ _ _ _ _ _ _ (p .given) (p .choice) _ (p .is-way) _ (v .with-bit .ensures) _ (b .counted .ensures) _
+    (q .copy-minutes .ensures) _ (r .before .cut-of2 .ensures) _ _ (r .raised .ensures) alive in
+    let given = next-given (p .line) _ _ _ _ _ _ _ _ _ (p .given) (p .choice) _ (p .is-way) _ (v .with-bit .ensures) _ (b .counted .ensures) _
+    (q .copy-minutes .ensures) _ (r .before .cut-of2 .ensures) _ _ (r .raised .ensures) alive in
+    (omega (arith, a .0, falls), record { line = p .line; given = given; former-size = p .given .planned .fit .size; known = p .known })
+
+try-way-mul-marks-4 : (t : ℕ) → try-way-lts.Need-mul-marks-4 (
+  counted-reads.Asked,
+  counted-reads.Learnt,
+  with-bit-reads.Asked,
+  with-bit-reads.Learnt,
+  cut-of-reads.Asked,
+  cut-of-reads.Learnt,
+  fails-reads.Asked,
+  fails-reads.Learnt,
+  copy-minutes-reads.Asked,
+  copy-minutes-reads.Learnt,
+  raised-reads.Asked,
+  raised-reads.Learnt,
+  take-up-below t,
+  take-up.Post,
+) (try-way-at t) try-way.Post
+try-way-mul-marks-4 t c =
+    let a = c .before .before .before .before .before .before .before .before .before in
+    let p = a .before .before .before .before .before .before .before .before .before .pre .1 in
+    omega (arith, row-few (p .line) _ _ _ _ _ _ _ _ _ (p .given) (p .choice) _ (p .is-way))
+
+try-way-element-write-marks-4 : (t : ℕ) → try-way-lts.Need-element-write-marks-4 (
+  counted-reads.Asked,
+  counted-reads.Learnt,
+  with-bit-reads.Asked,
+  with-bit-reads.Learnt,
+  cut-of-reads.Asked,
+  cut-of-reads.Learnt,
+  fails-reads.Asked,
+  fails-reads.Learnt,
+  copy-minutes-reads.Asked,
+  copy-minutes-reads.Learnt,
+  raised-reads.Asked,
+  raised-reads.Learnt,
+  take-up-below t,
+  take-up.Post,
+) (try-way-at t) try-way.Post
+try-way-element-write-marks-4 t c =
+    let a = c .before .before .before .before .before .before .before .before .before in
+    let p = a .before .before .before .before .before .before .before .before .before .pre .1 in
+    row-few (p .line) _ _ _ _ _ _ _ _ _ (p .given) (p .choice) _ (p .is-way)
+
+try-way-returns-3 : (t : ℕ) → try-way-lts.Need-returns-3 (
+  counted-reads.Asked,
+  counted-reads.Learnt,
+  with-bit-reads.Asked,
+  with-bit-reads.Learnt,
+  cut-of-reads.Asked,
+  cut-of-reads.Learnt,
+  fails-reads.Asked,
+  fails-reads.Learnt,
+  copy-minutes-reads.Asked,
+  copy-minutes-reads.Learnt,
+  raised-reads.Asked,
+  raised-reads.Learnt,
+  take-up-below t,
+  take-up.Post,
+) (try-way-at t) try-way.Post
+try-way-returns-3 t c l x g i =
+    let r = c .before .before .before .before .before in
+    let q = r .before .before .before .before in
+    let v = q .before .before .before .before .before .before in
+    let b = v .before .before in
+    let alive = c .before .before .before .before .if2 .left in
+    let given = next-given l _ _ _ _ _ _ _ _ _ g x _ i _ (v .with-bit .ensures) _ (b .counted .ensures) _
+    (q .copy-minutes .ensures) _ (r .before .cut-of2 .ensures) _ _ (r .raised .ensures) alive in
+    given-alive l _ _ _ _ _ _ _ _ _ g x _ i _ (v .with-bit .ensures) _ (b .counted .ensures) _ (q .copy-minutes .ensures) _
+    (r .before .cut-of2 .ensures) _ _ (r .raised .ensures) alive _ _ _ (c .take-up .ensures l given)
 
 abbrev try-ways-Inv-loop : try-ways-lts.InvT-loop
-try-ways-Inv-loop m marks₀ best₀ t ds key layout cost conflict n b₀ w₀ marks best b w =
+try-ways-Inv-loop m marks₀ best₀ t ds key layout cost conflict n clear b₀ w₀ marks best b w =
     TriesFirst m marks₀ best₀ t ds key layout cost b₀ conflict w marks best b × (w ≤ n)
 
 abbrev try-ways-μ-loop : try-ways-lts.MeasureT-loop
-try-ways-μ-loop m marks₀ best₀ t ds key layout cost conflict n b₀ w₀ marks best b w = n - w
+try-ways-μ-loop m marks₀ best₀ t ds key layout cost conflict n clear b₀ w₀ marks best b w = n - w
+
+try-ways-clear-segments-requires : (t : ℕ) → try-ways-lts.Need-clear-segments-requires (
+  clear-segments-reads.Asked,
+  clear-segments-reads.Learnt,
+  way-of-reads.Asked,
+  way-of-reads.Learnt,
+  try-way-below t,
+  try-way.Post,
+) (try-ways-at t) try-ways.Post try-ways-Inv-loop try-ways-μ-loop
+try-ways-clear-segments-requires t c κs = laid-out (c .pre .1 .line) _ _ _ _ _ _ _ _ _ (c .pre .1 .given)
 
 try-ways-loop-holds : (t : ℕ) → try-ways-lts.Need-loop-holds (
+  clear-segments-reads.Asked,
+  clear-segments-reads.Learnt,
   way-of-reads.Asked,
   way-of-reads.Learnt,
   try-way-below t,
@@ -710,20 +701,25 @@ try-ways-loop-holds t c =
     ((λ l g e. walks-none l (g .tabled .within) (g .tabled .arrays) _ _ _ _ _ (g .planned) (g .tallied) _), omega arith)
 
 try-ways-way-of-requires : (t : ℕ) → try-ways-lts.Need-way-of-requires (
+  clear-segments-reads.Asked,
+  clear-segments-reads.Learnt,
   way-of-reads.Asked,
   way-of-reads.Learnt,
   try-way-below t,
   try-way.Post,
 ) (try-ways-at t) try-ways.Post try-ways-Inv-loop try-ways-μ-loop
 try-ways-way-of-requires t c κs =
-    let a = c .before .before .before .before .before .before .before .before .pre .1 in
+    let s = c .before .before .before in
+    let a = s .pre .1 in
     let g = a .given in (
       conflict-range (a .line) (g .tabled .within) (g .tabled .arrays) _ _ (a .conflict-is),
       directions-size _ _ (g .tabled .directions),
-      omega (arith, a .count-is, count-most (c .before .before .before .before .before .before .before .before .args .conflict), c .loop-test .taken),
+      omega (arith, a .count-is, count-most (s .args .conflict), c .loop-test .taken),
     )
 
 try-ways-try-way-requires : (t : ℕ) → try-ways-lts.Need-try-way-requires (
+  clear-segments-reads.Asked,
+  clear-segments-reads.Learnt,
   way-of-reads.Asked,
   way-of-reads.Learnt,
   try-way-below t,
@@ -731,10 +727,10 @@ try-ways-try-way-requires : (t : ℕ) → try-ways-lts.Need-try-way-requires (
 ) (try-ways-at t) try-ways.Post try-ways-Inv-loop try-ways-μ-loop
 try-ways-try-way-requires t c κs =
     let i = c .before .before .before .before .before .loop in
-    let s = c .before .before .before .before .before .before .before .before .before .before .before .before in
+    let s = c .before .before .before .before .before .before .before in
     let a = s .pre .1 in
     let g = a .given in
-    let there = way-there _ _ (wayOf (s .args .conflict) (i .w)) (c .before .before .before .way-of .ensures) (c .before .before .if1 .taken) in (
+    let there = way-there _ _ (wayOf (s .args .conflict) (i .w)) (c .before .before .before .way-of .ensures .0) (c .before .before .if1 .taken) in (
       omega (arith, s .pre .0),
       record {
         line = a .line;
@@ -743,65 +739,55 @@ try-ways-try-way-requires t c κs =
         is-way =
             is-way (a .line) (g .tabled .within) (g .tabled .arrays) _ _ (a .conflict-is) _ _ _ (i .w) (a .count-is)
             (c .before .before .before .before .loop-test .taken) (there .0) (there .1) (there .2);
+        known = clear-known (a .line) _ _ _ _ _ _ _ _ _ g _ (a .conflict-is) _ (c .before .before .before .before .before .before .clear-segments .ensures);
       },
     )
 
 try-ways-add-w : (t : ℕ) → try-ways-lts.Need-add-w (
+  clear-segments-reads.Asked,
+  clear-segments-reads.Learnt,
   way-of-reads.Asked,
   way-of-reads.Learnt,
   try-way-below t,
   try-way.Post,
 ) (try-ways-at t) try-ways.Post try-ways-Inv-loop try-ways-μ-loop
-try-ways-add-w t c = search needs
+try-ways-add-w t c = omega (arith, c .before .before .way-of .ensures .1 .up-to)
 
 try-ways-loop-less : (t : ℕ) → try-ways-lts.Need-loop-less (
+  clear-segments-reads.Asked,
+  clear-segments-reads.Learnt,
   way-of-reads.Asked,
   way-of-reads.Learnt,
   try-way-below t,
   try-way.Post,
 ) (try-ways-at t) try-ways.Post try-ways-Inv-loop try-ways-μ-loop
-try-ways-loop-less t c = search needs
+try-ways-loop-less t c = omega (arith, c .before .before .way-of .ensures .1 .on, c .before .before .before .loop-test .taken)
 
 try-ways-loop-again : (t : ℕ) → try-ways-lts.Need-loop-again (
+  clear-segments-reads.Asked,
+  clear-segments-reads.Learnt,
   way-of-reads.Asked,
   way-of-reads.Learnt,
   try-way-below t,
   try-way.Post,
 ) (try-ways-at t) try-ways.Post try-ways-Inv-loop try-ways-μ-loop
 try-ways-loop-again t c =
-    let i = c .before .before .before .loop in
-    let count = c .before .before .before .before .before .before .before .before .before .before .pre .1 .count-is in
-    let low = c .before .before .loop-test .taken in
-    let told = c .before .way-of .ensures in (
+    let i = c .before .before .before .before .loop in
+    let count = c .before .before .before .before .before .before .pre .1 .count-is in
+    let low = c .before .before .before .loop-test .taken in
+    let way = c .before .before .way-of .ensures in (
       ⊎-elim
           (λ w.
-          tries-more _ _ _ _ _ _ _ _ _ _ _ count (i .w) low _ _ _ (i .inv .0) _ told _ _ _ (w .0 .taken) _ _ _ (w .3 .ensures) (w .8) (w .9) (w .10))
-          (λ w. tries-skip _ _ _ _ _ _ _ _ _ _ _ count (i .w) low _ _ _ (i .inv .0) _ told _ _ _ (w .0 .left) (w .1) (w .2) (w .3))
-          (c .if1 .came),
-      omega (arith, low),
+          tries-more _ _ _ _ _ _ _ _ _ _ _ count (i .w) low _ _ _ (i .inv .0) _ (way .0) (way .1) _ _ _ (w .0 .taken) _ _ _ (w .3 .ensures)
+          (w .4) (w .5) (w .6))
+          (λ w. tries-skip _ _ _ _ _ _ _ _ _ _ _ count (i .w) low _ _ _ (i .inv .0) _ (way .0) (way .1) _ _ _ (w .0 .left) (w .1) (w .2) (w .3))
+          (c .before .if1 .came),
+      steps-within _ _ _ _ count low (way .1),
     )
 
-try-ways-same-length : (t : ℕ) → try-ways-lts.Need-same-length (
-  way-of-reads.Asked,
-  way-of-reads.Learnt,
-  try-way-below t,
-  try-way.Post,
-) (try-ways-at t) try-ways.Post try-ways-Inv-loop try-ways-μ-loop
-try-ways-same-length t c =
-    let a = c .before .before .before .before .before .before .before .before .pre .1 in
-    ap length (c .before .loop .inv .0 (a .line) (a .given) (a .conflict-is) .marks-same)
-
-try-ways-same-length-2 : (t : ℕ) → try-ways-lts.Need-same-length-2 (
-  way-of-reads.Asked,
-  way-of-reads.Learnt,
-  try-way-below t,
-  try-way.Post,
-) (try-ways-at t) try-ways.Post try-ways-Inv-loop try-ways-μ-loop
-try-ways-same-length-2 t c =
-    let a = c .before .before .before .before .before .before .before .before .pre .1 in
-    c .before .loop .inv .0 (a .line) (a .given) (a .conflict-is) .tallied .size ∙ sym (a .given .tallied .size)
-
 try-ways-returns : (t : ℕ) → try-ways-lts.Need-returns (
+  clear-segments-reads.Asked,
+  clear-segments-reads.Learnt,
   way-of-reads.Asked,
   way-of-reads.Learnt,
   try-way-below t,
@@ -809,7 +795,7 @@ try-ways-returns : (t : ℕ) → try-ways-lts.Need-returns (
 ) (try-ways-at t) try-ways.Post try-ways-Inv-loop try-ways-μ-loop
 try-ways-returns t c =
     let i = c .before .loop in
-    let all : i .w ≡ c .before .before .before .before .before .before .before .before .args .n = omega (arith, c .loop-test .left, i .inv .1) in
+    let all : i .w ≡ c .before .before .before .args .n = omega (arith, c .loop-test .left, i .inv .1) in
     rw (← all) (i .inv .0)
 
 pub +take-up+try-way+try-ways-spec : {M : Type 1} → statement M
@@ -828,26 +814,24 @@ pub +take-up+try-way+try-ways-spec : {M : Type 1} → statement M
     (take-up-at t)
     take-up.Post
     (take-up-improves-requires t)
-    (take-up-same-length t)
     (take-up-returns t)
     (take-up-lowest-conflict-requires t)
     (take-up-way-count-requires t)
     (take-up-copy-minutes-requires t)
-    (take-up-same-length-2 t)
     (take-up-returns-2 t)
     (take-up-try-ways-requires t)
-    (take-up-same-length-3 t)
-    (take-up-same-length-4 t)
     (take-up-returns-3 t))
     (λ t. try-way-lts.spec (
       counted-reads.Asked,
       counted-reads.Learnt,
       with-bit-reads.Asked,
       with-bit-reads.Learnt,
-      copy-minutes-reads.Asked,
-      copy-minutes-reads.Learnt,
       cut-of-reads.Asked,
       cut-of-reads.Learnt,
+      fails-reads.Asked,
+      fails-reads.Learnt,
+      copy-minutes-reads.Asked,
+      copy-minutes-reads.Learnt,
       raised-reads.Asked,
       raised-reads.Learnt,
       take-up-below t,
@@ -857,38 +841,42 @@ pub +take-up+try-way+try-ways-spec : {M : Type 1} → statement M
     try-way.Post
     (try-way-counted-requires t)
     (try-way-mul-old t)
-    (try-way-slice-read-old t)
+    (try-way-element-copy-out-old t)
     (try-way-with-bit-requires t)
     (try-way-mul-marks t)
-    (try-way-slice-write-marks t)
-    (try-way-slice-aggregate-copy-minutes t)
-    (try-way-copy-minutes-requires t)
-    (try-way-slice-aggregate-raised t)
+    (try-way-element-write-marks t)
     (try-way-cut-of-requires t)
-    (try-way-raised-requires t)
+    (try-way-fails-requires t)
     (try-way-mul-marks-2 t)
-    (try-way-slice-write-marks-2 t)
-    (try-way-same-length t)
+    (try-way-element-write-marks-2 t)
     (try-way-returns t)
-    (try-way-slice-aggregate-take-up t)
-    (try-way-take-up-requires t)
+    (try-way-copy-minutes-requires t)
+    (try-way-cut-of-requires-2 t)
+    (try-way-raised-requires t)
     (try-way-mul-marks-3 t)
-    (try-way-slice-write-marks-3 t)
-    (try-way-same-length-2 t)
-    (try-way-same-length-3 t)
-    (try-way-returns-2 t))
-    λ t. try-ways-lts.spec
-    (way-of-reads.Asked, way-of-reads.Learnt, try-way-below t, try-way.Post)
+    (try-way-element-write-marks-3 t)
+    (try-way-returns-2 t)
+    (try-way-take-up-requires t)
+    (try-way-mul-marks-4 t)
+    (try-way-element-write-marks-4 t)
+    (try-way-returns-3 t))
+    λ t. try-ways-lts.spec (
+      clear-segments-reads.Asked,
+      clear-segments-reads.Learnt,
+      way-of-reads.Asked,
+      way-of-reads.Learnt,
+      try-way-below t,
+      try-way.Post,
+    )
     (try-ways-at t)
     try-ways.Post
     try-ways-Inv-loop
     try-ways-μ-loop
+    (try-ways-clear-segments-requires t)
     (try-ways-loop-holds t)
     (try-ways-way-of-requires t)
     (try-ways-try-way-requires t)
     (try-ways-add-w t)
     (try-ways-loop-less t)
     (try-ways-loop-again t)
-    (try-ways-same-length t)
-    (try-ways-same-length-2 t)
     (try-ways-returns t)

@@ -22,14 +22,14 @@ loop-holds c = (c .pre .1, omega arith, λ x h. absurd (omega arith))
 mul-q : tie.Need-mul-q Inv-loop μ-loop
 mul-q c = search needs
 
-shared-slice-read-q : tie.Need-shared-slice-read-q Inv-loop μ-loop
-shared-slice-read-q c = search needs
+element-copy-out-q : tie.Need-element-copy-out-q Inv-loop μ-loop
+element-copy-out-q c = search needs
 
 mul-q-2 : tie.Need-mul-q-2 Inv-loop μ-loop
 mul-q-2 c = search needs
 
-slice-write-q : tie.Need-slice-write-q Inv-loop μ-loop
-slice-write-q c = search needs
+element-write-q : tie.Need-element-write-q Inv-loop μ-loop
+element-write-q c = search needs
 
 add-e : tie.Need-add-e Inv-loop μ-loop
 add-e c = search needs
@@ -45,9 +45,6 @@ loop-again c =
       entries-more _ 0 (i .q) (i .e) _ (omega (arith, i .inv .0, c .before .loop-test .taken)) refl (i .inv .2),
     )
 
-same-length : tie.Need-same-length Inv-loop μ-loop
-same-length c = search needs
-
 returns : tie.Need-returns Inv-loop μ-loop
 returns c =
     let i = c .before .loop in
@@ -61,11 +58,10 @@ copy-minutes-spec =
     μ-loop
     loop-holds
     mul-q
-    shared-slice-read-q
+    element-copy-out-q
     mul-q-2
-    slice-write-q
+    element-write-q
     add-e
     loop-less
     loop-again
-    same-length
     returns)

@@ -1,6 +1,5 @@
 -- `solver::walk::raised` meets its contract: the laws of raising, for every line of which what it asks for holds. Assumes nothing.
 use native.Mathlib.Omega.{arith}
-use borrow.Author.Needs.{needs}
 use Rattle.solver.specs.ChoosingLaws.{segment-asks, station-asks, chose-raises, dear-raises}
 use Rattle.solver.proofs.walk.raised.Statement.{statement}
 use Rattle.solver.proofs.walk.raised.Tie as tie
@@ -10,25 +9,19 @@ returns c l x p h = dear-raises l p _ _ _ _ _ _ _ x h (c .if1 .taken) _
 
 come-after-requires : tie.Need-come-after-requires
 come-after-requires c κs =
-    let a = c .before .before .before .before .before .before .before .pre in
+    let a = c .before .before .before .pre in
     station-asks (a .line) (a .plan) _ _ _ _ _ _ _ (a .choice) (a .chooses) (c .before .if2 .taken) (omega (arith, c .before .before .if1 .left)) (a .cut-low)
 
-same-length : tie.Need-same-length
-same-length c = search needs
-
 returns-2 : tie.Need-returns-2
-returns-2 c l x p h = chose-raises l p _ _ _ _ _ _ _ x h _ _ (c .before .before .come-after .ensures)
+returns-2 c l x p h = chose-raises l p _ _ _ _ _ _ _ x h _ _ (c .come-after .ensures)
 
 follow-requires : tie.Need-follow-requires
 follow-requires c κs =
-    let a = c .before .before .before .before .before .before .before .pre in
+    let a = c .before .before .before .pre in
     segment-asks (a .line) (a .plan) _ _ _ _ _ _ _ (a .choice) (a .chooses) (c .before .if2 .left) (omega (arith, c .before .before .if1 .left)) (a .cut-low)
 
-same-length-2 : tie.Need-same-length-2
-same-length-2 c = search needs
-
 returns-3 : tie.Need-returns-3
-returns-3 c l x p h = chose-raises l p _ _ _ _ _ _ _ x h _ _ (c .before .before .follow .ensures)
+returns-3 c l x p h = chose-raises l p _ _ _ _ _ _ _ x h _ _ (c .follow .ensures)
 
 pub raised-spec : {M : Type 1} → statement M
 raised-spec =
@@ -36,8 +29,6 @@ raised-spec =
     (tie.spec
     returns
     come-after-requires
-    same-length
     returns-2
     follow-requires
-    same-length-2
     returns-3)

@@ -13,8 +13,8 @@ add-if1 c = search needs
 mul-if1-2 : tie.Need-mul-if1-2
 mul-if1-2 c = search needs
 
-shared-slice-read-if1 : tie.Need-shared-slice-read-if1
-shared-slice-read-if1 c = search needs
+element-copy-out-if1 : tie.Need-element-copy-out-if1
+element-copy-out-if1 c = search needs
 
 mul-result : tie.Need-mul-result
 mul-result c = search needs
@@ -44,7 +44,7 @@ leg-out-spec =
     mul-if1
     add-if1
     mul-if1-2
-    shared-slice-read-if1
+    element-copy-out-if1
     mul-result
     add-result
     returns

@@ -1,0 +1,52 @@
+-- `orders::prospects::come_after_fails` meets its contract: the one arc of the choice asks that the train come after the departure of leg e, so it does in
+-- every solution.
+use mathlib.Core.Path.{refl}
+use native.Mathlib.Omega.{arith}
+use borrow.Author.Needs.{needs}
+use Rattle.orders.specs.LiftingLaws.{ready-leg}
+use Rattle.orders.specs.RowLaws.{comes-leg}
+use Rattle.orders.specs.ServingLaws.{serves-comes}
+use Rattle.orders.specs.ProspectsLaws.{none-chosen}
+use Rattle.orders.proofs.prospects.come_after_fails.Statement.{statement}
+use Rattle.orders.proofs.prospects.come_after_fails.Tie as tie
+
+coming-leg-requires : tie.Need-coming-leg-requires
+coming-leg-requires c κs = search needs
+
+mul-train-fails : tie.Need-mul-train-fails
+mul-train-fails c = search needs
+
+element-copy-out-train-fails : tie.Need-element-copy-out-train-fails
+element-copy-out-train-fails c = search needs
+
+add-train-fails : tie.Need-add-train-fails
+add-train-fails c =
+    let a = c .before .before in
+    omega (arith, a .pre .0 .ready .within (a .args .e))
+
+train-fails-requires : tie.Need-train-fails-requires
+train-fails-requires c κs =
+    let a = c .before .before in
+    let r = a .pre .0 .ready in (
+      ready-leg _ _ _ _ _ _ _ _ r (comes-leg _ _ _ _ _ _ _ r _ (a .pre .1) _ (a .pre .2) (c .before .coming-leg .ensures)),
+      omega arith,
+      omega (arith, r .within (a .args .e)),
+    )
+
+returns : tie.Need-returns
+returns c q =
+    let a = c .before .before .before in
+    none-chosen _ _ _ _ _ _ _ _ _
+    (serves-comes _ _ _ (a .args .m .now) (a .args .e) _ (a .args .j) (a .pre .0 .ready .leg) (a .pre .1) _ (a .pre .2)
+    (c .before .before .coming-leg .ensures) refl) (c .train-fails .ensures q)
+
+pub come-after-fails-spec : {M : Type 1} → statement M
+come-after-fails-spec =
+    tie.close
+    (tie.spec
+    coming-leg-requires
+    mul-train-fails
+    element-copy-out-train-fails
+    add-train-fails
+    train-fails-requires
+    returns)

@@ -1,0 +1,15 @@
+// The bits of a mask, one after another.
+ghost use Prim.Native.Nat.{_<_};
+ghost use Rattle.orders.specs.Bits.{NextBit};
+
+// The lowest bit of the mask from this one on; 16 where there is none.
+pub fn next_bit(mask: u16, from: usize) -> usize
+    requires { ⌜ from < 16 ⌝ }
+    ensures { λ r. ⌜ NextBit mask from r ⌝ }
+{
+    let rest = mask >> from;
+    if rest == 0 {
+        return 16;
+    }
+    from + u16::trailing_zeros(rest) as usize
+}

@@ -1,0 +1,119 @@
+// A first look at a choice, before anything is raised: by its own legs alone the train that has to wait may be late already, or cost too much.
+ghost use mathlib.Core.Path.{_≡_};
+ghost use mathlib.Core.Bool.{true};
+ghost use Prim.Native.Nat.{_≤_, _<_};
+ghost use lib.ListN.{getD};
+ghost use Rattle.orders.specs.Bits.{inMask};
+ghost use Rattle.orders.specs.LegGraph.{leaving};
+ghost use Rattle.orders.specs.Lifting.{Ready, Choosing, Follows, Comes, NoneChosen};
+ghost use Rattle.orders.specs.Prospects.{NoneFrom};
+use crate::arcs::coming_leg;
+use crate::arcs::times_behind;
+use crate::tables::limit_at;
+use crate::tables::next_at;
+use crate::tables::run_at;
+use crate::tables::stop_at;
+use crate::times::arrival_for;
+use crate::times::more_cost;
+
+// Whether a train that arrives by its last leg e at this minute or later is late, or costs more than the cut.
+fn end_fails(
+    m: &[u16; 352],
+    marks: &[u16; 368],
+    t: &[u16; 1104],
+    ds: &[u16; 176],
+    e: usize,
+    arrival: u16,
+    cost: u32,
+    cut: u32,
+) -> bool
+    requires { ⌜ Ready (now m) (now marks) (now t) (now ds) e cost cut ⌝ }
+    ensures { λ r. ⌜ (r ≡ true → NoneFrom (now (marks .entry)) (now (t .entry)) (now (ds .entry)) cut e 0 arrival (now (m .entry))) ⌝ }
+{
+    if arrival > limit_at(t, e) {
+        return true;
+    }
+    let former = m[176 + e];
+    if arrival <= former {
+        return false;
+    }
+    cost + more_cost(t, e, former, arrival) > cut
+}
+
+// Whether the train of leg e, which is to depart there at v and to arrive at w or later, is late at its end or costs more than the cut. A path has at most
+// 11 legs.
+fn train_fails(
+    m: &[u16; 352],
+    marks: &[u16; 368],
+    t: &[u16; 1104],
+    ds: &[u16; 176],
+    e: usize,
+    v: u16,
+    w: u16,
+    cost: u32,
+    cut: u32,
+) -> bool
+    requires { ⌜ Ready (now m) (now marks) (now t) (now ds) e cost cut × (v ≤ 20000) × (w ≤ 20000) ⌝ }
+    ensures { λ r. ⌜ (r ≡ true → NoneFrom (now (marks .entry)) (now (t .entry)) (now (ds .entry)) cut e v w (now (m .entry))) ⌝ }
+{
+    let mut leg = e;
+    let mut arrival = arrival_for(0, w, v, run_at(t, e));
+    let mut legs: usize = 1;
+    while legs < 11 {
+        let next = next_at(t, leg);
+        if next == leg {
+            return end_fails(m, marks, t, ds, leg, arrival, cost, cut);
+        }
+        arrival = arrival + stop_at(t, leg) + run_at(t, next);
+        leg = next;
+        legs = legs + 1;
+    }
+    end_fails(m, marks, t, ds, leg, arrival, cost, cut)
+}
+
+// Whether no minutes with the choice, marked already, that train j goes after that of leg e on its segment are in time for no more than the cut. A true
+// answer is what counts: what is not seen here, raising finds.
+pub fn follow_fails(
+    m: &[u16; 352],
+    marks: &[u16; 368],
+    t: &[u16; 1104],
+    ds: &[u16; 176],
+    e: usize,
+    j: usize,
+    cost: u32,
+    cut: u32,
+) -> bool
+    requires { ⌜ Choosing (Follows e j) (now m) (now marks) (now t) (now ds) e cost cut × (j < 12) × (inMask (getD (now marks) e 0) j ≡ true) ⌝ }
+    ensures { λ r. ⌜ (r ≡ true → NoneChosen (now (marks .entry)) (now (t .entry)) (now (ds .entry)) cut (now (m .entry))) ⌝ }
+{
+    let b = times_behind(m, t, ds, e, j);
+    train_fails(
+        m,
+        marks,
+        t,
+        ds,
+        16 * (e / 16) + j,
+        b.departure,
+        b.arrival,
+        cost,
+        cut,
+    )
+}
+
+// The same for the choice that train j comes to the station of leg e's departure after its train has left.
+pub fn come_after_fails(
+    m: &[u16; 352],
+    marks: &[u16; 368],
+    t: &[u16; 1104],
+    ds: &[u16; 176],
+    e: usize,
+    j: usize,
+    cost: u32,
+    cut: u32,
+) -> bool
+    requires { ⌜ Choosing (Comes e j) (now m) (now marks) (now t) (now ds) e cost cut × (j < 12) × (inMask (getD (now marks) (leaving (now ds) e) 0) j ≡ true) ⌝ }
+    ensures { λ r. ⌜ (r ≡ true → NoneChosen (now (marks .entry)) (now (t .entry)) (now (ds .entry)) cut (now (m .entry))) ⌝ }
+{
+    let f = coming_leg(ds, e, j);
+    train_fails(m, marks, t, ds, f, 0, m[e] + 1, cost, cut)
+}
