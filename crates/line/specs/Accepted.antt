@@ -26,7 +26,7 @@ use Rattle.line.specs.declared.reading.Path.{Path}
 use Rattle.line.specs.declared.reading.Head.{Head}
 use Rattle.line.specs.Ranges.{In, stationCount, tracks, gap, trainCount, station, time, weight, run, stop}
 use Rattle.line.specs.Record.{noSegment, noTrain, legsBetween, tidyTrain}
-use Rattle.line.specs.File.{number, stationLine, letterOf, onLetter, kindAt, segmentLine, pathAt, headAt, Journey, journeyAt, trainWith, trainLine, trainsPart, segmentsPart, stationsPart, lineFile}
+use Rattle.line.specs.File.{number, stationLine, letterOf, onLetter, kindAt, segmentLine, pathAt, headAt, Journey, journeyAt, trainWith, trainLine, trainsPart, segmentsPart, stationsPart, fileFrom, lineFile}
 use Rattle.line.specs.Spell.{field, stationText, letterByte, segmentText, journeyText, trainText}
 use Rattle.line.specs.RecordLaws.{path-legs}
 use Rattle.line.specs.FileLaws.{letter-byte, letter-inside}
@@ -347,7 +347,7 @@ stations-spelt s l end e =
     }
 
 pub file-spelt : (s : List ℕ) (l : Line) (end : Cursor) → lineFile s ≡ Parsed.got l end → LineRead s l
-unfolding lineFile
+unfolding lineFile fileFrom
 file-spelt s l end e = go (ltb 4096 (length s)) e
   where
     go : (b : Bool) → pick b (Parsed.bad 1 0) (stationsPart s (record { at = 0 })) ≡ Parsed.got l end → LineRead s l

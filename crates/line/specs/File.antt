@@ -130,9 +130,12 @@ stationsPart s c =
     thenRead (many n stationLine 2 s c₁) (λ ts c₂.
     segmentsPart n (padded 12 0 ts) s c₂))
 
--- "ASCII text of at most 4,096 bytes": over that is 1 at 0
+-- "ASCII text of at most 4,096 bytes": over that is 1 at 0; else the sections are read from position i on
+unfoldable pub fileFrom : List ℕ → ℕ → Parsed Line
+fileFrom s i = pick (ltb 4096 (length s)) (Parsed.bad 1 0) (stationsPart s (record { at = i }))
+
 unfoldable pub lineFile : List ℕ → Parsed Line
-lineFile s = pick (ltb 4096 (length s)) (Parsed.bad 1 0) (stationsPart s (record { at = 0 }))
+lineFile s = fileFrom s 0
 
 -- ---- the answer of `read`
 

@@ -17,7 +17,7 @@ use Rattle.line.specs.declared.Line.{Line}
 use Rattle.line.specs.declared.ReadLine.{ReadLine}
 use Rattle.line.specs.Ranges.{stationCount, trainCount}
 use Rattle.line.specs.Record.{noSegment, noTrain, emptyLine}
-use Rattle.line.specs.File.{number, stationLine, segmentLine, trainLine, trainsPart, segmentsPart, stationsPart, lineFile, answered}
+use Rattle.line.specs.File.{number, stationLine, segmentLine, trainLine, trainsPart, segmentsPart, stationsPart, fileFrom, lineFile, answered}
 
 -- ---- a section: a count, lines, and what follows them
 
@@ -75,10 +75,15 @@ pub segments-section : (n : ℕ) (ts s : List ℕ) (c : Cursor) → Section (seg
 unfolding segmentsPart
 segments-section n ts s c = record { reads = refl }
 
-pub file-long : (s : List ℕ) → 4096 < length s → lineFile s ≡ Parsed.bad 1 0
-unfolding lineFile
-file-long s long = rw (lt-ltb 4096 (length s) long) refl
+pub file-long : (s : List ℕ) (i : ℕ) → 4096 < length s → fileFrom s i ≡ Parsed.bad 1 0
+unfolding fileFrom
+file-long s i long = rw (lt-ltb 4096 (length s) long) refl
 
-pub stations-section : (s : List ℕ) → length s ≤ 4096 → Section (lineFile s) (number stationCount 10 1 s (record { at = 0 })) (λ n c₁. many n stationLine 2 s c₁) (padded 12 0) (λ n ts c₂. segmentsPart n ts s c₂)
-unfolding lineFile stationsPart
-stations-section s short = record { reads = rw (le-ltb 4096 (length s) short) refl }
+pub stations-section : (s : List ℕ) (i : ℕ) → length s ≤ 4096 → Section (fileFrom s i) (number stationCount 10 1 s (record { at = i })) (λ n c₁. many n stationLine 2 s c₁) (padded 12 0) (λ n ts c₂. segmentsPart n ts s c₂)
+unfolding fileFrom stationsPart
+stations-section s i short = record { reads = rw (le-ltb 4096 (length s) short) refl }
+
+-- a file is read from its first byte on
+pub file-first : (s : List ℕ) → fileFrom s 0 ≡ lineFile s
+unfolding lineFile
+file-first s = refl

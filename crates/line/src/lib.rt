@@ -5,6 +5,7 @@ ghost use Rattle.line.specs.Ranges.{station};
 ghost use Rattle.line.specs.Record.{legsBetween};
 use text::Limits;
 
+pub mod reader;
 pub mod reading;
 pub mod writing;
 

@@ -5,7 +5,7 @@ ghost use Rattle.text.specs.Parsed.{mapParsed, many};
 ghost use Rattle.text.specs.Told.{toldEnding};
 ghost use Rattle.text.specs.Lists.{padded};
 ghost use Rattle.line.specs.Record.{noSegment, noTrain, emptyLine};
-ghost use Rattle.line.specs.File.{faultsOn, toldKind, stationLine, letterOf, kindAt, segmentLine, pathAt, headAt, trainWith, trainLine, trainsPart, segmentsPart, stationsPart, lineFile, answered};
+ghost use Rattle.line.specs.File.{faultsOn, toldKind, stationLine, letterOf, kindAt, segmentLine, pathAt, headAt, trainWith, trainLine, trainsPart, segmentsPart, stationsPart, fileFrom, lineFile, answered};
 use crate::Answer;
 use crate::Kind;
 use crate::Line;
@@ -16,6 +16,8 @@ use crate::Station;
 use crate::Time;
 use crate::Train;
 use crate::legs_between;
+use crate::reader::open;
+use crate::reader::read_from;
 use text::Cursor;
 use text::Ending;
 use text::Faults;
@@ -464,23 +466,30 @@ fn segment_part(s: &[u8], start: Cursor, stations: u16, tracks: [u16; 12]) -> Re
     train_part(s, last, stations, tracks, segments)
 }
 
-// Reads a line file: its line, or the number and place of its first fault.
-pub fn read(file: &[u8]) -> ReadLine
-    ensures { λ r. ⌜ r ≡ answered (lineFile (now (file .entry))) ⌝ }
+// The line file from a position on, where the text is not too long: the count of stations, their lines, and the segments.
+pub fn file_from(s: &[u8], at: usize) -> ReadLine
+    ensures { λ r. ⌜ r ≡ answered (fileFrom (now (s .entry)) at) ⌝ }
 {
-    if MAX_BYTES < file.len() {
+    if MAX_BYTES < s.len() {
         return refused(Ending::Refused(1, 0));
     }
-    let start = Cursor { at: 0 };
-    let field = start.ranged(file, LINE_FEED, Station::COUNT, faults_on(1));
+    let start = Cursor { at };
+    let field = start.ranged(s, LINE_FEED, Station::COUNT, faults_on(1));
     let Field::Value(count, next) = field else {
         return refused(stopped(field));
     };
-    let section = station_lines(file, next, count as usize);
+    let section = station_lines(s, next, count as usize);
     let ending = section.ending;
     let Ending::Done(last) = ending else {
         return refused(ending);
     };
     let tracks = section.tracks;
-    segment_part(file, last, count, tracks)
+    segment_part(s, last, count, tracks)
+}
+
+// Reads a line file: its line, or the number and place of its first fault.
+pub fn read(file: &[u8]) -> ReadLine
+    ensures { λ r. ⌜ r ≡ answered (lineFile (now (file .entry))) ⌝ }
+{
+    read_from(open(file))
 }
