@@ -1,7 +1,7 @@
 //! The functions of the static library `screen`, and the only unsafe code: one call of each.
 //!
-//! Nothing checks these declarations against the Rattle source `crates/screen/src/lib.rt`: a change
-//! there is made here too. A Rattle `&[u8]` or `&mut [u8]` is passed as a pointer and a length.
+//! A Rattle `&[u8]` or `&mut [u8]` is passed as a pointer and a length. `tests/declarations.rs` holds these
+//! declarations and those of the C header to the Rattle source `crates/screen/src/lib.rt`.
 //!
 //! None of the functions has a `requires`, so each is proved to keep within the lent bytes and to
 //! return, for whatever bytes and lengths are lent.

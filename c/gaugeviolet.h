@@ -1,0 +1,50 @@
+/* Gaugeviolet for C and C++: the functions of the proved static library that `rt staticlib screen` writes to
+ * target/staticlib/libscreen.a.
+ *
+ * Lent bytes are passed as a pointer and a length. No function asks for anything of their content: whatever stands in
+ * them, each call keeps within them and returns. What the caller answers for:
+ *   - the pointer is to as many bytes as the length says, all of them initialised; it is not null, not even for length 0;
+ *   - `out` overlaps nothing else that is lent to the same call (`file` and `timetable` may overlap each other);
+ *   - nobody else writes to the bytes, or reads `out`, until the call returns;
+ *   - gaugeviolet_solve recurses: call it with 4 MB of stack left.
+ *
+ * Each answer is one number: see gaugeviolet_number and gaugeviolet_value. */
+#ifndef GAUGEVIOLET_H
+#define GAUGEVIOLET_H
+
+#include <stddef.h>
+#include <stdint.h>
+
+#ifdef __cplusplus
+extern "C" {
+#endif
+
+/* The most bytes that a line file or a timetable may have. As many lent bytes hold the text of every line and of every
+ * timetable. */
+#define GAUGEVIOLET_TEXT_BYTES 4096
+
+/* Reads a line file: value 0, or refused with 1 to 4. */
+uint64_t gaugeviolet_read(const uint8_t *file, size_t file_len);
+
+/* Reads a line file and writes its line out again to the front of `out`: the length of the text, or refused as by
+ * gaugeviolet_read, then with 6 where `out` has fewer bytes than the text. */
+uint64_t gaugeviolet_rewrite(const uint8_t *file, size_t file_len, uint8_t *out, size_t out_len);
+
+/* Checks a timetable against its line file: value 0, or refused as by gaugeviolet_read, then with 7 to 17. */
+uint64_t gaugeviolet_check(const uint8_t *file, size_t file_len, const uint8_t *timetable, size_t timetable_len);
+
+/* Solves a line file and writes its best timetable to the front of `out`: the length of the text, or refused as by
+ * gaugeviolet_read, then with 5 where no timetable keeps every rule, then with 6. */
+uint64_t gaugeviolet_solve(const uint8_t *file, size_t file_len, uint8_t *out, size_t out_len);
+
+/* The number of a refusal, and 0 where nothing is refused. Where it is not 0, no lent byte has changed. */
+static inline uint32_t gaugeviolet_number(uint64_t answer) { return (uint32_t)(answer >> 32); }
+
+/* The place of a refusal; where nothing is refused, the length of what was written. */
+static inline uint32_t gaugeviolet_value(uint64_t answer) { return (uint32_t)answer; }
+
+#ifdef __cplusplus
+}
+#endif
+
+#endif
