@@ -16,6 +16,8 @@
 //! assert_eq!(refusal.to_string(), "refused 3 1");
 //! ```
 //!
+//! [`Refusal::sentence`] says it in words.
+//!
 //! A timetable is checked against its line file:
 //!
 //! ```
@@ -34,11 +36,14 @@
 use std::fmt;
 
 mod screen;
+mod sentences;
 
 /// The most bytes that a line file may have. As many lent bytes hold the text of every line.
 pub const FILE_BYTES: usize = 4096;
-/// The most bytes that a timetable may have.
+/// The most bytes that a timetable may have. As many lent bytes hold the text of every timetable.
 pub const TIMETABLE_BYTES: usize = 4096;
+/// The bytes of stack that suffice for [`solve`], whatever file it is lent.
+pub const SOLVE_STACK: usize = 4 << 20;
 
 /// Why the planner turned something down. Nothing that was lent has changed then.
 #[derive(Clone, Copy, Debug, PartialEq, Eq, PartialOrd, Ord, Hash)]
@@ -47,6 +52,8 @@ pub struct Refusal {
     ///
     /// With the line file: 1 it is too long, 2 a field has the wrong form, 3 a number is outside its
     /// range, 4 a destination equals its origin.
+    ///
+    /// With the line: 5 no timetable keeps every rule.
     ///
     /// With the lent bytes: 6 they are too few for the text.
     ///
@@ -58,7 +65,7 @@ pub struct Refusal {
     pub number: u32,
     /// Where it is wrong: for 2, 3 and 4 the line of the file, for 8 and 9 the line of the timetable;
     /// for 10 to 13 the lowest train, for 14 the lowest segment, for 15 the lowest station and for 16
-    /// the lowest list of which it is true. All of them count from 1. For 1, 6, 7 and 17 always 0.
+    /// the lowest list of which it is true. All of them count from 1. For 1, 5, 6, 7 and 17 always 0.
     pub place: u32,
 }
 
@@ -71,6 +78,14 @@ impl fmt::Display for Refusal {
 impl std::error::Error for Refusal {}
 
 /// Reads a line file: whether it is one, or why not (numbers 1 to 4).
+///
+/// ```
+/// assert_eq!(gaugeviolet::read(b"2\n1\n1\n1\nS 5 4\n0\n"), Ok(()));
+///
+/// // Nothing is no line file: its first line is missing.
+/// let refusal = gaugeviolet::read(&[]).unwrap_err();
+/// assert_eq!((refusal.number, refusal.place), (2, 1));
+/// ```
 pub fn read(file: &[u8]) -> Result<(), Refusal> {
     unpacked(screen::read(file)).map(|_| ())
 }
@@ -78,6 +93,25 @@ pub fn read(file: &[u8]) -> Result<(), Refusal> {
 /// Reads a line file and writes its line out again to the front of `lent`. Returns the length of
 /// the text; the bytes past it keep their former content. Refused as in [`read`], then with 6 where
 /// `lent` has fewer bytes than the text.
+///
+/// ```
+/// let file = b"2\n1\n1\n1\nS 5 4\n0\n";
+/// let mut lent = [b'-'; 20];
+/// assert_eq!(gaugeviolet::rewrite(file, &mut lent), Ok(file.len()));
+/// assert_eq!(&lent, b"2\n1\n1\n1\nS 5 4\n0\n----");
+///
+/// // Too few bytes, none among them, stay as they are.
+/// let refusal = gaugeviolet::rewrite(file, &mut lent[..15]).unwrap_err();
+/// assert_eq!((refusal.number, refusal.place), (6, 0));
+/// assert_eq!(gaugeviolet::rewrite(file, &mut []), Err(refusal));
+/// ```
+///
+/// The file and the lent bytes are different bytes, or it is no program:
+///
+/// ```compile_fail,E0502
+/// let mut bytes = *b"2\n1\n1\n1\nS 5 4\n0\n";
+/// let written = gaugeviolet::rewrite(&bytes, &mut bytes);
+/// ```
 pub fn rewrite(file: &[u8], lent: &mut [u8]) -> Result<usize, Refusal> {
     unpacked(screen::rewrite(file, lent)).map(|length| length as usize)
 }
@@ -85,6 +119,19 @@ pub fn rewrite(file: &[u8], lent: &mut [u8]) -> Result<usize, Refusal> {
 /// Checks a timetable against its line file: whether it keeps every rule and gives the order lists and
 /// the total that follow from its minutes, or why not. Refused as in [`read`], then with the first of 7
 /// to 17: form and range (8 and 9) over the whole text, then each rule over all trains.
+///
+/// ```
+/// let file = b"2\n1\n1\n1\nS 5 4\n1\n1 2 0 10 1 10\n";
+/// assert_eq!(gaugeviolet::check(file, b"1\n0 10\n1\n1 1\n0\n"), Ok(()));
+///
+/// // Its total is not the weighted delay.
+/// let refusal = gaugeviolet::check(file, b"1\n0 10\n1\n1 1\n5\n").unwrap_err();
+/// assert_eq!((refusal.number, refusal.place), (17, 0));
+///
+/// // The same bytes may be lent as both: a line file is no timetable.
+/// let refusal = gaugeviolet::check(file, file).unwrap_err();
+/// assert_eq!((refusal.number, refusal.place), (9, 1));
+/// ```
 pub fn check(file: &[u8], timetable: &[u8]) -> Result<(), Refusal> {
     unpacked(screen::check(file, timetable)).map(|_| ())
 }
@@ -94,7 +141,26 @@ pub fn check(file: &[u8], timetable: &[u8]) -> Result<(), Refusal> {
 /// timetable keeps every rule, then with 6 where `lent` has fewer bytes than the text.
 ///
 /// The search is recursive and takes about 1.3 kB of stack for each choice of a plan; a plan has at
-/// most 1,386. Call it from a thread with 4 MB of stack.
+/// most 1,386. Call it from a thread with [`SOLVE_STACK`] bytes of stack.
+///
+/// ```
+/// let file = "3\n2\n2\n2\n2\nS 5 4\nS 5 4\n2\n1 3 0 200 1 20 0 20\n3 1 0 200 2 15 0 15\n";
+/// let solving = std::thread::Builder::new().stack_size(gaugeviolet::SOLVE_STACK).spawn(move || {
+///     let mut lent = [0; gaugeviolet::TIMETABLE_BYTES];
+///     let length = gaugeviolet::solve(file.as_bytes(), &mut lent)?;
+///     Ok::<_, gaugeviolet::Refusal>(lent[..length].to_vec())
+/// });
+/// let timetable = solving.unwrap().join().unwrap().unwrap();
+/// assert_eq!(timetable, b"2\n0 20 20 40\n0 15 24 39\n2\n2 1 2\n2 2 1\n18\n");
+/// assert_eq!(gaugeviolet::check(file.as_bytes(), &timetable), Ok(()));
+/// ```
+///
+/// The file and the lent bytes are different bytes, or it is no program:
+///
+/// ```compile_fail,E0502
+/// let mut bytes = *b"2\n1\n1\n1\nS 5 4\n0\n";
+/// let written = gaugeviolet::solve(&bytes, &mut bytes);
+/// ```
 pub fn solve(file: &[u8], lent: &mut [u8]) -> Result<usize, Refusal> {
     unpacked(screen::solve(file, lent)).map(|length| length as usize)
 }

@@ -1,0 +1,197 @@
+//! The sentences of refusals against a list of all of them, and that the library gives no refusal
+//! without one: on the samples and on damaged line files and timetables.
+
+use std::collections::BTreeMap;
+use std::path::Path;
+
+use gaugeviolet::{check, read, rewrite, solve, Refusal, FILE_BYTES, TIMETABLE_BYTES};
+use inputs::{damage_bytes, damage_lines, damaged, planned, sizes, Damage, Random, Traffic};
+
+/// Every number of the scope document, told for place 7 where it has a place, else for 0.
+const LIST: [(u32, u32, &str); 17] = [
+    (1, 0, "the line file has more than 4,096 bytes"),
+    (
+        2,
+        7,
+        "line 7: a field has the wrong form (a number is one to four digits without a leading zero, \
+         a kind is S, F or D), the wrong byte follows it, the file ends early, or bytes follow its \
+         last line",
+    ),
+    (
+        3,
+        7,
+        "line 7: a number is outside its range, or the number of segments is not that of the \
+         stations less 1",
+    ),
+    (4, 7, "line 7: the destination equals the origin"),
+    (5, 0, "no timetable keeps every rule"),
+    (6, 0, "the text has more bytes than were lent for it"),
+    (7, 0, "the timetable has more than 4,096 bytes"),
+    (
+        8,
+        7,
+        "line 7 of the timetable: a field has the wrong form (a number is one to four digits without \
+         a leading zero, the total up to seven), the wrong byte follows it, the text ends early, or \
+         bytes follow its last line",
+    ),
+    (
+        9,
+        7,
+        "line 7 of the timetable: a time is over 2,879, the number of trains or of order lists is \
+         not the line's, a list's own count is over the number of trains, or a train's number is not \
+         one of the line's",
+    ),
+    (
+        10,
+        7,
+        "train 7: its first departure is before its earliest minute",
+    ),
+    (
+        11,
+        7,
+        "train 7: on one of its segments arrival less departure is not its run",
+    ),
+    (
+        12,
+        7,
+        "train 7: at a middle station it departs before its arrival plus its stop",
+    ),
+    (
+        13,
+        7,
+        "train 7: its last arrival is after its latest minute",
+    ),
+    (14, 7, "segment 7: two trains on it do not keep their gap"),
+    (
+        15,
+        7,
+        "station 7: at some minute more trains stand there than it has tracks",
+    ),
+    (
+        16,
+        7,
+        "order list 7: it is not the trains of its segment and lane by departure minute",
+    ),
+    (17, 0, "the total is not the weighted delay of the minutes"),
+];
+
+fn sentence(number: u32, place: u32) -> String {
+    Refusal { number, place }.sentence()
+}
+
+#[test]
+fn every_number_has_its_sentence() {
+    for (at, (number, place, expected)) in LIST.into_iter().enumerate() {
+        assert_eq!(number as usize, at + 1, "a number is missing in the list");
+        assert_eq!(sentence(number, place), expected);
+    }
+}
+
+#[test]
+fn the_place_is_told() {
+    assert_eq!(
+        sentence(4, 26),
+        "line 26: the destination equals the origin"
+    );
+    assert!(sentence(9, 12).starts_with("line 12 of the timetable: "));
+    assert!(sentence(16, 22).starts_with("order list 22: "));
+    // Always 0 where the library gives it, so it says nothing.
+    assert_eq!(sentence(5, 26), "no timetable keeps every rule");
+}
+
+#[test]
+fn another_number_is_told_plainly() {
+    for number in [0, 18, 31, u32::MAX] {
+        assert_eq!(
+            sentence(number, 3),
+            format!("refused with number {number} at place 3, which has no sentence")
+        );
+    }
+}
+
+#[test]
+fn display_keeps_number_and_place() {
+    let refusal = Refusal {
+        number: 16,
+        place: 22,
+    };
+    assert_eq!(refusal.to_string(), "refused 16 22");
+}
+
+/// How often the library refused with each number.
+#[derive(Default)]
+struct Refused {
+    times: BTreeMap<u32, usize>,
+}
+
+impl Refused {
+    /// Holds that a refusal of the library has the sentence of the list, with its own place.
+    fn note<T>(&mut self, answer: Result<T, Refusal>) {
+        let Err(refusal) = answer else { return };
+        let listed = LIST.iter().find(|&&(number, ..)| number == refusal.number);
+        let &(_, listed_place, sentence) = listed.expect("a number of the scope document");
+        let expected = match sentence.split_once(": ") {
+            Some((place, cause)) => {
+                format!(
+                    "{}: {cause}",
+                    place.replace('7', &refusal.place.to_string())
+                )
+            }
+            None => sentence.to_string(),
+        };
+        assert_eq!(refusal.sentence(), expected);
+        // A place is told exactly where there is one.
+        assert_eq!(refusal.place == 0, listed_place == 0, "{refusal}");
+        *self.times.entry(refusal.number).or_insert(0) += 1;
+    }
+
+    fn file(&mut self, file: &[u8]) {
+        self.note(read(file));
+        self.note(rewrite(file, &mut [0; 10]));
+        self.note(rewrite(file, &mut [0; FILE_BYTES]));
+    }
+
+    fn ends(&self, numbers: impl Iterator<Item = u32>) {
+        println!("refused {:?}", self.times);
+        let seen: Vec<u32> = self.times.keys().copied().collect();
+        assert_eq!(seen, numbers.collect::<Vec<u32>>());
+    }
+}
+
+#[test]
+fn what_is_refused_of_the_samples() {
+    let folder = Path::new(env!("CARGO_MANIFEST_DIR")).join("../../samples");
+    let mut refused = Refused::default();
+    for entry in std::fs::read_dir(folder).expect("the samples") {
+        let path = entry.expect("a sample").path();
+        if path.extension().is_some_and(|end| end == "line") {
+            let file = std::fs::read(&path).expect("a line file");
+            refused.file(&file);
+            refused.note(solve(&file, &mut [0; TIMETABLE_BYTES]));
+            refused.note(check(&file, b""));
+        }
+    }
+    refused.ends([1, 2, 3, 5, 6, 8].into_iter());
+}
+
+#[test]
+fn what_is_refused_of_damaged_texts() {
+    let mut random = Random::new(5_000);
+    let mut refused = Refused::default();
+    for (stations, trains) in sizes() {
+        let traffic = random.one_of(&[Traffic::Mixed, Traffic::Full]);
+        let planned = planned(&mut random, stations, trains, traffic);
+        for damage in [Damage::ALL; 20].concat() {
+            let pair = damaged(&mut random, &planned, damage);
+            refused.note(check(&pair.file, &pair.timetable));
+            refused.file(&pair.file);
+            refused.file(&damage_lines(&mut random, &pair.file));
+        }
+        let mut long = planned.pair().file;
+        long.resize(FILE_BYTES + 1, b'\n');
+        damage_bytes(&mut random, &mut long, 3);
+        refused.file(&long);
+    }
+    // 5 comes from solving alone.
+    refused.ends((1..=17).filter(|&number| number != 5));
+}
