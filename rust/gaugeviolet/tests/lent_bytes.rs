@@ -2,8 +2,8 @@
 
 mod common;
 
-use common::{Compared, Least};
-use inputs::{full_size, sizes, Density, Fields, Random};
+use common::Compared;
+use inputs::{full_size, sizes, Density, Fields, Least, Random};
 
 #[test]
 fn every_lent_length_for_an_accepted_file() {
@@ -25,13 +25,12 @@ fn every_lent_length_for_an_accepted_file() {
             compared.lent(text, lent, Ok(text));
         }
     }
-    let least = Least {
+    compared.seen.ends(&Least {
+        name: "lent to an accepted file",
         inputs: 144,
         accepted: 144,
-        numbers: &[6],
-        places: 1,
-    };
-    compared.ends("lent to an accepted file", least);
+        numbers: &[(6, 432, 1)],
+    });
 }
 
 #[test]
@@ -55,11 +54,10 @@ fn every_lent_length_for_a_refused_file() {
             compared.lent(file.as_bytes(), lent, Err(*refusal));
         }
     }
-    let least = Least {
+    compared.seen.ends(&Least {
+        name: "lent to a refused file",
         inputs: 5,
         accepted: 0,
-        numbers: &[1, 2, 3, 4],
-        places: 3,
-    };
-    compared.ends("lent to a refused file", least);
+        numbers: &[(1, 1, 1), (2, 2, 2), (3, 1, 1), (4, 1, 1)],
+    });
 }

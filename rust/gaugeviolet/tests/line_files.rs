@@ -3,32 +3,26 @@
 
 mod common;
 
-use common::{Compared, Least};
+use common::Compared;
 use independent::{Line, FILE_BYTES};
-use inputs::{damage_bytes, damage_lines, full_size, sizes, Density, Fields, Random};
+use inputs::{
+    damage_bytes, damage_lines, full_size, sizes, with_one_byte_damaged, Density, Fields, Least,
+    Random,
+};
 
-// The inputs that each test compares at least.
-const VALID: usize = 28_000;
-const EVERY_NUMBER: usize = 260_000;
-const LIMITS: usize = 170_000;
-const ONE_BYTE: usize = 41_000;
-const ONE_BYTE_EVERY_SIZE: usize = 60_000;
-const MANY_BYTES: usize = 100_000;
-const WHOLE_LINES: usize = 50_000;
-const CUT_SHORT: usize = 40_000;
-const BYTES_AFTER: usize = 37_000;
-const LENGTHS: usize = 1_000;
-
-const ALL: usize = VALID
-    + EVERY_NUMBER
-    + LIMITS
-    + ONE_BYTE
-    + ONE_BYTE_EVERY_SIZE
-    + MANY_BYTES
-    + WHOLE_LINES
-    + CUT_SHORT
-    + BYTES_AFTER
-    + LENGTHS;
+// What each test must at least have seen stands before it; here are the inputs of all of them.
+const ALL: usize = Least::inputs_of(&[
+    &VALID,
+    &EVERY_NUMBER,
+    &LIMITS,
+    &ONE_BYTE,
+    &ONE_BYTE_EVERY_SIZE,
+    &MANY_BYTES,
+    &WHOLE_LINES,
+    &CUT_SHORT,
+    &BYTES_AFTER,
+    &LENGTHS,
+]);
 const _: () = assert!(ALL >= 200_000);
 
 /// A small file that has every field, with two trains, one each way.
@@ -44,6 +38,13 @@ fn random_line(random: &mut Random) -> Line {
 fn random_text(random: &mut Random) -> Vec<u8> {
     Fields::of(&random_line(random)).text()
 }
+
+const VALID: Least = Least {
+    name: "valid files",
+    inputs: 28_000,
+    accepted: 28_000,
+    numbers: &[(6, 84_000, 1)],
+};
 
 #[test]
 fn valid_files_of_every_size() {
@@ -63,14 +64,15 @@ fn valid_files_of_every_size() {
     for _ in 0..100 {
         compared.file(&Fields::of(&full_size(&mut random)).text());
     }
-    let least = Least {
-        inputs: VALID,
-        accepted: VALID,
-        numbers: &[6],
-        places: 1,
-    };
-    compared.ends("valid files", least);
+    compared.seen.ends(&VALID);
 }
+
+const EVERY_NUMBER: Least = Least {
+    name: "every number",
+    inputs: 260_000,
+    accepted: 5_000,
+    numbers: &[(2, 20_000, 5), (3, 220_000, 10), (4, 4, 2), (6, 15_000, 1)],
+};
 
 #[test]
 fn every_number_in_every_field() {
@@ -82,13 +84,7 @@ fn every_number_in_every_field() {
             compared.file(&fields.text_with(place, &number.to_string()));
         }
     }
-    let least = Least {
-        inputs: EVERY_NUMBER,
-        accepted: 5_000,
-        numbers: &[2, 3, 4, 6],
-        places: 10,
-    };
-    compared.ends("every number", least);
+    compared.seen.ends(&EVERY_NUMBER);
 }
 
 /// At each limit of the ranges, next to it and past it; what wraps to a good number at 8, 16, 32 or
@@ -105,6 +101,18 @@ const FIELD_TEXTS: &[&str] = &[
     "0x1", "\0", "1\0", "\u{7f}", "\u{e9}",
     "S", "F", "D", "s", "f", "d", "SS", "SF", "S5", "E", "T", "R",
 ];
+
+const LIMITS: Least = Least {
+    name: "limits",
+    inputs: 170_000,
+    accepted: 10_000,
+    numbers: &[
+        (2, 80_000, 38),
+        (3, 20_000, 37),
+        (4, 2_000, 30),
+        (6, 30_000, 1),
+    ],
+};
 
 #[test]
 fn each_field_to_and_past_its_limits() {
@@ -123,13 +131,7 @@ fn each_field_to_and_past_its_limits() {
     }
     let longest = full_size(&mut random);
     put_texts(&mut compared, &mut random, &longest, 1);
-    let least = Least {
-        inputs: LIMITS,
-        accepted: 10_000,
-        numbers: &[2, 3, 4, 6],
-        places: 38,
-    };
-    compared.ends("limits", least);
+    compared.seen.ends(&LIMITS);
 }
 
 /// Puts every `each`th of the texts, from a random one on, in the place of each field of `line`.
@@ -163,95 +165,94 @@ fn destinations_equal_to_origins(compared: &mut Compared, line: &Line, fields: &
     }
 }
 
+const ONE_BYTE: Least = Least {
+    name: "one byte",
+    inputs: 41_000,
+    accepted: 500,
+    numbers: &[(2, 39_000, 11), (3, 1_000, 10), (4, 10, 2), (6, 1_500, 1)],
+};
+
 #[test]
 fn one_damaged_byte() {
     let mut compared = Compared::new();
     for file in [SMALL, b"2\n1\n12\n1\nF 60 1\n0\n"] {
-        for at in 0..=file.len() {
-            let (before, after) = file.split_at(at);
-            for byte in 0..=255 {
-                compared.file(&[before, &[byte], after].concat());
-                if let Some((_, after)) = after.split_first() {
-                    compared.file(&[before, &[byte], after].concat());
-                }
-            }
-            if let Some((_, after)) = after.split_first() {
-                compared.file(&[before, after].concat());
-            }
-        }
-        for (at, other) in pairs(file.len()) {
-            let mut swapped = file.to_vec();
-            swapped.swap(at, other);
-            compared.file(&swapped);
+        for damaged in with_one_byte_damaged(file) {
+            compared.file(&damaged);
         }
     }
-    let least = Least {
-        inputs: ONE_BYTE,
-        accepted: 500,
-        numbers: &[2, 3, 4, 6],
-        places: 12,
-    };
-    compared.ends("one byte", least);
+    compared.seen.ends(&ONE_BYTE);
 }
 
-/// All pairs of different positions below `end`.
-fn pairs(end: usize) -> impl Iterator<Item = (usize, usize)> {
-    (0..end).flat_map(move |at| (at + 1..end).map(move |other| (at, other)))
+/// Compares random files, as many as `least` asks for, each of them damaged.
+fn compare_damaged(seed: u64, least: &Least, damage: impl Fn(&mut Random, Vec<u8>) -> Vec<u8>) {
+    let mut random = Random::new(seed);
+    let mut compared = Compared::new();
+    for _ in 0..least.inputs {
+        let text = random_text(&mut random);
+        compared.file(&damage(&mut random, text));
+    }
+    compared.seen.ends(least);
 }
+
+const ONE_BYTE_EVERY_SIZE: Least = Least {
+    name: "one byte, every size",
+    inputs: 60_000,
+    accepted: 5_000,
+    numbers: &[
+        (2, 40_000, 38),
+        (3, 7_000, 37),
+        (4, 100, 25),
+        (6, 15_000, 1),
+    ],
+};
 
 #[test]
 fn one_damaged_byte_in_files_of_every_size() {
-    let mut random = Random::new(12);
-    let mut compared = Compared::new();
-    for _ in 0..ONE_BYTE_EVERY_SIZE {
-        let mut text = random_text(&mut random);
-        damage_bytes(&mut random, &mut text, 1);
-        compared.file(&text);
-    }
-    let least = Least {
-        inputs: ONE_BYTE_EVERY_SIZE,
-        accepted: 5_000,
-        numbers: &[2, 3, 4, 6],
-        places: 38,
-    };
-    compared.ends("one byte, every size", least);
+    compare_damaged(12, &ONE_BYTE_EVERY_SIZE, |random, mut text| {
+        damage_bytes(random, &mut text, 1);
+        text
+    });
 }
+
+const MANY_BYTES: Least = Least {
+    name: "many bytes",
+    inputs: 100_000,
+    accepted: 500,
+    numbers: &[
+        (2, 75_000, 37),
+        (3, 18_000, 37),
+        (4, 100, 25),
+        (6, 1_500, 1),
+    ],
+};
 
 #[test]
 fn many_damaged_bytes() {
-    let mut random = Random::new(13);
-    let mut compared = Compared::new();
-    for _ in 0..MANY_BYTES {
-        let mut text = random_text(&mut random);
+    compare_damaged(13, &MANY_BYTES, |random, mut text| {
         let times = 2 + random.below(7);
-        damage_bytes(&mut random, &mut text, times);
-        compared.file(&text);
-    }
-    let least = Least {
-        inputs: MANY_BYTES,
-        accepted: 500,
-        numbers: &[2, 3, 4, 6],
-        places: 38,
-    };
-    compared.ends("many bytes", least);
+        damage_bytes(random, &mut text, times);
+        text
+    });
 }
+
+const WHOLE_LINES: Least = Least {
+    name: "lines",
+    inputs: 50_000,
+    accepted: 500,
+    numbers: &[(2, 35_000, 38), (3, 4_000, 35), (6, 20_000, 1)],
+};
 
 #[test]
 fn damaged_lines() {
-    let mut random = Random::new(14);
-    let mut compared = Compared::new();
-    for _ in 0..WHOLE_LINES {
-        let text = random_text(&mut random);
-        compared.file(&damage_lines(&mut random, &text));
-    }
-    let least = Least {
-        inputs: WHOLE_LINES,
-        accepted: 500,
-        numbers: &[2, 3, 6],
-        places: 38,
-    };
-    compared.ends("lines", least);
+    compare_damaged(14, &WHOLE_LINES, |random, text| damage_lines(random, &text));
 }
+
+const CUT_SHORT: Least = Least {
+    name: "cut short",
+    inputs: 40_000,
+    accepted: 62,
+    numbers: &[(2, 39_000, 37), (3, 30, 3), (6, 186, 1)],
+};
 
 #[test]
 fn cut_short_at_every_byte() {
@@ -266,14 +267,15 @@ fn cut_short_at_every_byte() {
             compared.file(&[&text[..end], b"\n"].concat());
         }
     }
-    let least = Least {
-        inputs: CUT_SHORT,
-        accepted: 62,
-        numbers: &[2, 3, 6],
-        places: 38,
-    };
-    compared.ends("cut short", least);
+    compared.seen.ends(&CUT_SHORT);
 }
+
+const BYTES_AFTER: Least = Least {
+    name: "bytes after",
+    inputs: 37_000,
+    accepted: 0,
+    numbers: &[(2, 37_000, 33)],
+};
 
 #[test]
 fn bytes_after_the_last_line() {
@@ -295,14 +297,15 @@ fn bytes_after_the_last_line() {
         }
         compared.file(&[&text[..], &text[..]].concat());
     }
-    let least = Least {
-        inputs: BYTES_AFTER,
-        accepted: 0,
-        numbers: &[2],
-        places: 33,
-    };
-    compared.ends("bytes after", least);
+    compared.seen.ends(&BYTES_AFTER);
 }
+
+const LENGTHS: Least = Least {
+    name: "lengths",
+    inputs: 1_000,
+    accepted: 0,
+    numbers: &[(1, 500, 1), (2, 400, 5), (3, 30, 2)],
+};
 
 #[test]
 fn lengths() {
@@ -343,11 +346,5 @@ fn lengths() {
         file.fill_with(|| random.one_of(b"1234567890\n\n\n   SFD"));
         compared.file(&file);
     }
-    let least = Least {
-        inputs: LENGTHS,
-        accepted: 0,
-        numbers: &[1, 2, 3],
-        places: 4,
-    };
-    compared.ends("lengths", least);
+    compared.seen.ends(&LENGTHS);
 }

@@ -1,73 +1,55 @@
 //! The library's check beside the independent one, on some hundred thousand pairs of a line file and
 //! a timetable: right ones, damaged ones, and unlawful minutes with the lists and total of their own.
 
-use std::collections::{BTreeMap, BTreeSet};
-
 use gaugeviolet::{FILE_BYTES, TIMETABLE_BYTES};
 use independent::rules::Minutes;
 use independent::{Limits, Line, Train};
 use inputs::{
-    damage_bytes, damage_lines, damaged, full_size_planned, planned, sizes, small_planned, Damage,
-    Density, Fields, Pair, Planned, Random, Traffic,
+    damage_bytes, damage_lines, damaged, full_size_planned, planned, shown, sizes, small_planned,
+    with_one_byte_damaged, Damage, Density, Fields, Least, Pair, Planned, Random, Seen, Traffic,
 };
 
-// The pairs that each test compares at least.
-const EVERY_DAMAGE: usize = 142_000;
-const SMALL_LINES: usize = 42_000;
-const SEVERAL_FAULTS: usize = 80_000;
-const ANY_MINUTES: usize = 40_000;
-const GREATEST_TOTAL: usize = 200;
-const TWO_ON_A_SEGMENT: usize = 129_000;
-const THREE_AT_A_STATION: usize = 78_000;
-const EVERY_NUMBER: usize = 180_000;
-const ONE_BYTE: usize = 57_000;
-const CUT_SHORT: usize = 35_000;
-const DAMAGED_FILES: usize = 30_000;
-const ARBITRARY_BYTES: usize = 30_000;
-const LENGTHS: usize = 390;
-
-const ALL: usize = EVERY_DAMAGE
-    + SMALL_LINES
-    + SEVERAL_FAULTS
-    + ANY_MINUTES
-    + GREATEST_TOTAL
-    + TWO_ON_A_SEGMENT
-    + THREE_AT_A_STATION
-    + EVERY_NUMBER
-    + ONE_BYTE
-    + CUT_SHORT
-    + DAMAGED_FILES
-    + ARBITRARY_BYTES
-    + LENGTHS;
+// What each test must at least have seen stands before it; here are the inputs of all of them.
+const ALL: usize = Least::inputs_of(&[
+    &EVERY_DAMAGE,
+    &SMALL_LINES,
+    &SEVERAL_FAULTS,
+    &ANY_MINUTES,
+    &GREATEST_TOTAL,
+    &TWO_ON_A_SEGMENT,
+    &THREE_AT_A_STATION,
+    &EVERY_NUMBER,
+    &ONE_BYTE,
+    &CUT_SHORT,
+    &DAMAGED_FILES,
+    &ARBITRARY_BYTES,
+    &LENGTHS,
+]);
 const _: () = assert!(ALL >= 200_000);
 
 const FILE_A: &[u8] = include_bytes!("../../../samples/a.line");
 const TIMETABLE_A: &[u8] = include_bytes!("../../../samples/a.timetable");
 
-/// How often each number has come with each place. Passing is number 0 with place 0.
+/// What has been compared so far.
 #[derive(Default)]
 struct Compared {
-    seen: BTreeMap<(u32, u32), usize>,
+    seen: Seen,
 }
 
 impl Compared {
     /// Compares the check of one pair.
     fn pair(&mut self, file: &[u8], timetable: &[u8]) {
-        let expected = match independent::check(file, timetable) {
-            Ok(()) => (0, 0),
-            Err(refusal) => (refusal.number, refusal.place),
-        };
-        let answer = match gaugeviolet::check(file, timetable) {
-            Ok(()) => (0, 0),
-            Err(refusal) => (refusal.number, refusal.place),
-        };
+        let expected = independent::check(file, timetable);
+        let expected = expected.map_err(|refusal| (refusal.number, refusal.place));
+        let answer = gaugeviolet::check(file, timetable);
+        let answer = answer.map_err(|refusal| (refusal.number, refusal.place));
         assert!(
             answer == expected,
             "{answer:?} and not {expected:?} for {} with {}",
             shown(file),
             shown(timetable)
         );
-        *self.seen.entry(expected).or_insert(0) += 1;
+        self.seen.input(expected);
     }
 
     /// Compares the check of these minutes, with the lists and the total that follow from them.
@@ -80,53 +62,6 @@ impl Compared {
         .pair();
         self.pair(&file, &timetable);
     }
-
-    fn times(&self, number: u32) -> usize {
-        let of_number = self.seen.range((number, 0)..=(number, u32::MAX));
-        of_number.map(|(_, times)| times).sum()
-    }
-
-    fn places(&self, number: u32) -> usize {
-        self.seen.range((number, 0)..=(number, u32::MAX)).count()
-    }
-
-    /// Holds that enough was seen. A comparison that looked at little shows nothing.
-    fn ends(&self, name: &str, least: Least) {
-        let pairs: usize = self.seen.values().sum();
-        let numbers: BTreeSet<u32> = self.seen.keys().map(|&(number, _)| number).collect();
-        println!("{name}: {pairs} pairs, {} passed", self.times(0));
-        for &number in numbers.iter().filter(|&&number| number > 0) {
-            println!(
-                "  {number:2}: {:6} times, {:2} places",
-                self.times(number),
-                self.places(number)
-            );
-        }
-        assert!(pairs >= least.pairs, "only {pairs} pairs");
-        assert!(self.times(0) >= least.passed, "only {} pass", self.times(0));
-        for &(number, times, places) in least.numbers {
-            assert!(self.times(number) >= times, "number {number}: too rare");
-            assert!(self.places(number) >= places, "number {number}: places");
-        }
-    }
-}
-
-/// What a comparison must at least have seen.
-struct Least {
-    pairs: usize,
-    passed: usize,
-    /// Each number, how often, and with how many places.
-    numbers: &'static [(u32, usize, usize)],
-}
-
-/// The bytes in a form to copy into a test, the first 2,000 of them.
-fn shown(bytes: &[u8]) -> String {
-    let end = bytes.len().min(2000);
-    format!(
-        "b\"{}\" ({} bytes)",
-        bytes[..end].escape_ascii(),
-        bytes.len()
-    )
 }
 
 fn random_planned(random: &mut Random) -> Planned {
@@ -134,6 +69,30 @@ fn random_planned(random: &mut Random) -> Planned {
     let traffic = random.one_of(&[Traffic::Mixed, Traffic::Full]);
     planned(random, stations, trains, traffic)
 }
+
+// All trains, segments, middle stations, lists and lines that there can be. Line 38 is past the
+// last one; line 37 is the total, which has no range.
+const EVERY_DAMAGE: Least = Least {
+    name: "every damage",
+    inputs: 142_000,
+    accepted: 25_000,
+    numbers: &[
+        (2, 1000, 36),
+        (3, 1000, 36),
+        (4, 40, 12),
+        (7, 4000, 1),
+        (8, 35_000, 38),
+        (9, 10_000, 36),
+        (10, 2000, 12),
+        (11, 15_000, 12),
+        (12, 7000, 12),
+        (13, 3000, 12),
+        (14, 2500, 11),
+        (15, 700, 10),
+        (16, 6000, 22),
+        (17, 7000, 1),
+    ],
+};
 
 #[test]
 fn every_damage_to_lines_of_every_size() {
@@ -148,30 +107,30 @@ fn every_damage_to_lines_of_every_size() {
             compared.pair(&pair.file, &pair.timetable);
         }
     }
-    // All trains, segments, middle stations, lists and lines that there can be. Line 38 is past the
-    // last one; line 37 is the total, which has no range.
-    let least = Least {
-        pairs: EVERY_DAMAGE,
-        passed: 25_000,
-        numbers: &[
-            (2, 1000, 36),
-            (3, 1000, 36),
-            (4, 40, 12),
-            (7, 4000, 1),
-            (8, 35_000, 38),
-            (9, 10_000, 36),
-            (10, 2000, 12),
-            (11, 15_000, 12),
-            (12, 7000, 12),
-            (13, 3000, 12),
-            (14, 2500, 11),
-            (15, 700, 10),
-            (16, 6000, 22),
-            (17, 7000, 1),
-        ],
-    };
-    compared.ends("every damage", least);
+    compared.seen.ends(&EVERY_DAMAGE);
 }
+
+const SMALL_LINES: Least = Least {
+    name: "small lines",
+    inputs: 42_000,
+    accepted: 9000,
+    numbers: &[
+        (2, 400, 13),
+        (3, 600, 12),
+        (4, 40, 5),
+        (7, 1200, 1),
+        (8, 10_000, 12),
+        (9, 4000, 10),
+        (10, 1200, 3),
+        (11, 3500, 3),
+        (12, 1000, 3),
+        (13, 1000, 3),
+        (14, 500, 3),
+        (15, 30, 2),
+        (16, 1000, 5),
+        (17, 1500, 1),
+    ],
+};
 
 #[test]
 fn every_damage_to_small_lines() {
@@ -184,27 +143,7 @@ fn every_damage_to_small_lines() {
             compared.pair(&pair.file, &pair.timetable);
         }
     }
-    let least = Least {
-        pairs: SMALL_LINES,
-        passed: 9000,
-        numbers: &[
-            (2, 400, 13),
-            (3, 600, 12),
-            (4, 40, 5),
-            (7, 1200, 1),
-            (8, 10_000, 12),
-            (9, 4000, 10),
-            (10, 1200, 3),
-            (11, 3500, 3),
-            (12, 1000, 3),
-            (13, 1000, 3),
-            (14, 500, 3),
-            (15, 30, 2),
-            (16, 1000, 5),
-            (17, 1500, 1),
-        ],
-    };
-    compared.ends("small lines", least);
+    compared.seen.ends(&SMALL_LINES);
 }
 
 /// The same line with minutes in which some trains, from some leg on, run earlier or later.
@@ -234,6 +173,28 @@ fn careless(random: &mut Random, planned: &Planned) -> Planned {
     }
 }
 
+const SEVERAL_FAULTS: Least = Least {
+    name: "several faults",
+    inputs: 80_000,
+    accepted: 18_000,
+    numbers: &[
+        (2, 1000, 28),
+        (3, 3500, 33),
+        (4, 200, 10),
+        (7, 500, 1),
+        (8, 6000, 32),
+        (9, 4000, 27),
+        (10, 6000, 12),
+        (11, 8000, 12),
+        (12, 6000, 12),
+        (13, 5000, 12),
+        (14, 2000, 11),
+        (15, 250, 9),
+        (16, 800, 17),
+        (17, 1500, 1),
+    ],
+};
+
 /// Minutes of several trains, a list or total on top, and a harder line: the order of the numbers
 /// and the lowest place decide.
 #[test]
@@ -260,35 +221,28 @@ fn several_faults_at_once() {
             compared.pair(&other.file, &timetable);
         }
     }
-    let least = Least {
-        pairs: SEVERAL_FAULTS,
-        passed: 18_000,
-        numbers: &[
-            (2, 1000, 28),
-            (3, 3500, 33),
-            (4, 200, 10),
-            (7, 500, 1),
-            (8, 6000, 32),
-            (9, 4000, 27),
-            (10, 6000, 12),
-            (11, 8000, 12),
-            (12, 6000, 12),
-            (13, 5000, 12),
-            (14, 2000, 11),
-            (15, 250, 9),
-            (16, 800, 17),
-            (17, 1500, 1),
-        ],
-    };
-    compared.ends("several faults", least);
+    compared.seen.ends(&SEVERAL_FAULTS);
 }
+
+const ANY_MINUTES: Least = Least {
+    name: "any minutes",
+    inputs: 40_000,
+    accepted: 2500,
+    numbers: &[
+        (10, 7000, 12),
+        (11, 8000, 9),
+        (13, 18_000, 4),
+        (14, 150, 2),
+        (15, 5, 1),
+    ],
+};
 
 /// Minutes up to the last one on lines with numbers over the whole of their ranges.
 #[test]
 fn any_minutes_on_any_line() {
     let mut random = Random::new(57);
     let mut compared = Compared::default();
-    for _ in 0..ANY_MINUTES {
+    for _ in 0..ANY_MINUTES.inputs {
         let density = random.one_of(&[Density::Sparse, Density::Dense]);
         let (stations, trains) = (random.within(2, 12), random.within(1, 12));
         let (stations, trains) = random.one_of(&[(2, 1), (2, 2), (3, 2), (stations, trains)]);
@@ -300,18 +254,7 @@ fn any_minutes_on_any_line() {
             .collect();
         compared.rows(&line, &rows);
     }
-    let least = Least {
-        pairs: ANY_MINUTES,
-        passed: 2500,
-        numbers: &[
-            (10, 7000, 12),
-            (11, 8000, 9),
-            (13, 18_000, 4),
-            (14, 150, 2),
-            (15, 5, 1),
-        ],
-    };
-    compared.ends("any minutes", least);
+    compared.seen.ends(&ANY_MINUTES);
 }
 
 /// Minutes with runs and stops as the train has them and some waits, as long as the day lasts.
@@ -328,6 +271,13 @@ fn any_row(random: &mut Random, train: &Train) -> Vec<u16> {
     }
     row
 }
+
+const GREATEST_TOTAL: Least = Least {
+    name: "greatest total",
+    inputs: 200,
+    accepted: 1,
+    numbers: &[(8, 2, 1), (17, 200, 1)],
+};
 
 /// The greatest total of a lawful timetable, and others that fewer bits would not tell from it.
 #[test]
@@ -350,12 +300,7 @@ fn totals_near_the_greatest() {
     for number in near.chain(wrapped).chain(longer) {
         compared.pair(&file, &fields.text_with(total, &number.to_string()));
     }
-    let least = Least {
-        pairs: GREATEST_TOTAL,
-        passed: 1,
-        numbers: &[(8, 2, 1), (17, 200, 1)],
-    };
-    compared.ends("greatest total", least);
+    compared.seen.ends(&GREATEST_TOTAL);
 }
 
 /// A line of these segments and trains, with so many tracks at each station.
@@ -369,6 +314,13 @@ fn line(tracks: u16, segments: &[&str], trains: &[String]) -> Line {
     }
     independent::read(file.as_bytes()).expect("a line file")
 }
+
+const TWO_ON_A_SEGMENT: Least = Least {
+    name: "two on a segment",
+    inputs: 129_000,
+    accepted: 80_000,
+    numbers: &[(13, 12_000, 1), (14, 25_000, 1)],
+};
 
 /// Both trains at every minute near each other, on each kind and in each direction.
 #[test]
@@ -393,13 +345,15 @@ fn two_trains_on_a_segment() {
             }
         }
     }
-    let least = Least {
-        pairs: TWO_ON_A_SEGMENT,
-        passed: 80_000,
-        numbers: &[(13, 12_000, 1), (14, 25_000, 1)],
-    };
-    compared.ends("two on a segment", least);
+    compared.seen.ends(&TWO_ON_A_SEGMENT);
 }
+
+const THREE_AT_A_STATION: Least = Least {
+    name: "three at a station",
+    inputs: 78_000,
+    accepted: 50_000,
+    numbers: &[(14, 16_000, 2), (15, 11_000, 1)],
+};
 
 /// Three trains that stand at station 2, two of them at every minute near the first, in each
 /// direction, with fewer and more tracks.
@@ -425,13 +379,21 @@ fn three_trains_at_a_station() {
             }
         }
     }
-    let least = Least {
-        pairs: THREE_AT_A_STATION,
-        passed: 50_000,
-        numbers: &[(14, 16_000, 2), (15, 11_000, 1)],
-    };
-    compared.ends("three at a station", least);
+    compared.seen.ends(&THREE_AT_A_STATION);
 }
+
+const EVERY_NUMBER: Least = Least {
+    name: "every number",
+    inputs: 180_000,
+    accepted: 17,
+    numbers: &[
+        (8, 100, 3),
+        (9, 130_000, 6),
+        (11, 23_000, 2),
+        (16, 4, 2),
+        (17, 19_000, 1),
+    ],
+};
 
 #[test]
 fn every_number_in_every_field() {
@@ -447,38 +409,29 @@ fn every_number_in_every_field() {
     for number in (9_000_000..10_010_000).step_by(101) {
         compared.pair(FILE_A, &fields.text_with(total, &number.to_string()));
     }
-    let least = Least {
-        pairs: EVERY_NUMBER,
-        passed: 17,
-        numbers: &[
-            (8, 100, 3),
-            (9, 130_000, 6),
-            (11, 23_000, 2),
-            (16, 4, 2),
-            (17, 19_000, 1),
-        ],
-    };
-    compared.ends("every number", least);
+    compared.seen.ends(&EVERY_NUMBER);
 }
 
-/// The text with one byte replaced, inserted or left out, and with two exchanged.
-fn with_one_byte_damaged(text: &[u8]) -> Vec<Vec<u8>> {
-    let mut texts = Vec::new();
-    for at in 0..=text.len() {
-        let (before, after) = text.split_at(at);
-        texts.extend((0..=255).map(|byte| [before, &[byte], after].concat()));
-        if let Some((_, after)) = after.split_first() {
-            texts.extend((0..=255).map(|byte| [before, &[byte], after].concat()));
-            texts.push([before, after].concat());
-        }
-        for other in at + 1..text.len() {
-            let mut swapped = text.to_vec();
-            swapped.swap(at, other);
-            texts.push(swapped);
-        }
-    }
-    texts
-}
+const ONE_BYTE: Least = Least {
+    name: "one byte",
+    inputs: 57_000,
+    accepted: 300,
+    numbers: &[
+        (2, 30_000, 11),
+        (3, 400, 10),
+        (4, 4, 2),
+        (8, 20_000, 8),
+        (9, 250, 5),
+        (10, 30, 2),
+        (11, 400, 2),
+        (12, 25, 2),
+        (13, 4, 2),
+        (14, 35, 2),
+        (15, 1, 1),
+        (16, 4, 2),
+        (17, 80, 1),
+    ],
+};
 
 #[test]
 fn one_damaged_byte() {
@@ -489,27 +442,15 @@ fn one_damaged_byte() {
     for file in with_one_byte_damaged(FILE_A) {
         compared.pair(&file, TIMETABLE_A);
     }
-    let least = Least {
-        pairs: ONE_BYTE,
-        passed: 300,
-        numbers: &[
-            (2, 30_000, 11),
-            (3, 400, 10),
-            (4, 4, 2),
-            (8, 20_000, 8),
-            (9, 250, 5),
-            (10, 30, 2),
-            (11, 400, 2),
-            (12, 25, 2),
-            (13, 4, 2),
-            (14, 35, 2),
-            (15, 1, 1),
-            (16, 4, 2),
-            (17, 80, 1),
-        ],
-    };
-    compared.ends("one byte", least);
+    compared.seen.ends(&ONE_BYTE);
 }
+
+const CUT_SHORT: Least = Least {
+    name: "cut short",
+    inputs: 35_000,
+    accepted: 25,
+    numbers: &[(2, 7000, 36), (8, 25_000, 30), (9, 10, 5), (17, 40, 1)],
+};
 
 #[test]
 fn cut_short_at_every_byte() {
@@ -529,13 +470,28 @@ fn cut_short_at_every_byte() {
             compared.pair(&file[..end], timetable);
         }
     }
-    let least = Least {
-        pairs: CUT_SHORT,
-        passed: 25,
-        numbers: &[(2, 7000, 36), (8, 25_000, 30), (9, 10, 5), (17, 40, 1)],
-    };
-    compared.ends("cut short", least);
+    compared.seen.ends(&CUT_SHORT);
 }
+
+const DAMAGED_FILES: Least = Least {
+    name: "damaged files",
+    inputs: 30_000,
+    accepted: 2000,
+    numbers: &[
+        (2, 20_000, 36),
+        (3, 3000, 35),
+        (4, 20, 12),
+        (8, 10, 5),
+        (10, 150, 9),
+        (11, 600, 12),
+        (12, 70, 9),
+        (13, 100, 8),
+        (14, 70, 8),
+        (15, 25, 7),
+        (16, 5, 4),
+        (17, 180, 1),
+    ],
+};
 
 #[test]
 fn damaged_line_files_with_a_good_timetable() {
@@ -551,26 +507,15 @@ fn damaged_line_files_with_a_good_timetable() {
             compared.pair(&damage_lines(&mut random, &file), &timetable);
         }
     }
-    let least = Least {
-        pairs: DAMAGED_FILES,
-        passed: 2000,
-        numbers: &[
-            (2, 20_000, 36),
-            (3, 3000, 35),
-            (4, 20, 12),
-            (8, 10, 5),
-            (10, 150, 9),
-            (11, 600, 12),
-            (12, 70, 9),
-            (13, 100, 8),
-            (14, 70, 8),
-            (15, 25, 7),
-            (16, 5, 4),
-            (17, 180, 1),
-        ],
-    };
-    compared.ends("damaged files", least);
+    compared.seen.ends(&DAMAGED_FILES);
 }
+
+const ARBITRARY_BYTES: Least = Least {
+    name: "arbitrary bytes",
+    inputs: 30_000,
+    accepted: 0,
+    numbers: &[(8, 25_000, 30), (9, 1000, 25), (17, 1, 1)],
+};
 
 /// Bytes from anywhere, alone and behind the first part of a good timetable.
 #[test]
@@ -594,13 +539,15 @@ fn arbitrary_bytes_as_a_timetable() {
             compared.pair(&file, &bytes);
         }
     }
-    let least = Least {
-        pairs: ARBITRARY_BYTES,
-        passed: 0,
-        numbers: &[(8, 25_000, 30), (9, 1000, 25)],
-    };
-    compared.ends("arbitrary bytes", least);
+    compared.seen.ends(&ARBITRARY_BYTES);
 }
+
+const LENGTHS: Least = Least {
+    name: "lengths",
+    inputs: 390,
+    accepted: 0,
+    numbers: &[(1, 98, 1), (2, 98, 1), (7, 112, 1), (8, 80, 3)],
+};
 
 #[test]
 fn lengths() {
@@ -629,10 +576,5 @@ fn lengths() {
             }
         }
     }
-    let least = Least {
-        pairs: LENGTHS,
-        passed: 0,
-        numbers: &[(1, 98, 1), (2, 98, 1), (7, 112, 1), (8, 80, 3)],
-    };
-    compared.ends("lengths", least);
+    compared.seen.ends(&LENGTHS);
 }

@@ -2,9 +2,10 @@
 //! what the check says of it and of worse timetables, and what trying every order and the walk find.
 
 use crate::exhaustive::{best, plan, Unplanned, WorkLimit};
-use crate::rules::{first_breach, weighted_delay, Minutes};
+use crate::rules::{first_breach, weighted_delay};
+use crate::test_texts::{line, minutes, minutes_checked, refused};
 use crate::walk::{plan_by_walk, solve};
-use crate::{check, read, timetable, Line, Refusal, FILE_BYTES};
+use crate::{check, timetable, Refusal, FILE_BYTES};
 
 const WORK: u64 = 1_000_000;
 
@@ -16,25 +17,6 @@ macro_rules! sample {
 
 const FILE_A: &[u8] = sample!("a.line");
 const TIMETABLE_A: &[u8] = b"2\n0 20 20 40\n0 15 24 39\n2\n2 1 2\n2 2 1\n18\n";
-
-fn line(file: &[u8]) -> Line {
-    read(file).expect("a line file")
-}
-
-fn minutes(file: &[u8], rows: &[&[u16]]) -> Minutes {
-    let rows: Vec<Vec<u16>> = rows.iter().map(|row| row.to_vec()).collect();
-    Minutes::of_rows(&line(file), &rows)
-}
-
-/// What the check says of the text of these minutes.
-fn checked(file: &[u8], rows: &[&[u16]]) -> Result<(), Refusal> {
-    let minutes = minutes(file, rows);
-    check(file, &timetable::write(&line(file), &minutes))
-}
-
-fn refused(number: u32, place: u32) -> Result<(), Refusal> {
-    Err(Refusal { number, place })
-}
 
 /// Holds that `rows` are the best timetable of `file` and cost `total`, that its text is that of the
 /// sample, and that the check passes it.
@@ -73,7 +55,7 @@ fn e1_file_a() {
     );
     // Train 2 first on segment 1 is lawful too, and costs more.
     assert_eq!(
-        checked(FILE_A, &[&[34, 54, 54, 74], &[0, 15, 15, 30]]),
+        minutes_checked(FILE_A, &[&[34, 54, 54, 74], &[0, 15, 15, 30]]),
         Ok(())
     );
 }
@@ -120,10 +102,10 @@ fn e7_arrival_gap_on_f() {
     let file = sample!("e7.line");
     plans(file, sample!("e7.timetable"), 3, &[&[3, 13], &[0, 4]]);
     // The fast train behind the slow one keeps the gap at departure only.
-    assert_eq!(checked(file, &[&[0, 10], &[3, 7]]), refused(14, 1));
-    assert_eq!(checked(file, &[&[0, 10], &[8, 12]]), refused(14, 1));
-    assert_eq!(checked(file, &[&[0, 10], &[9, 13]]), Ok(()));
-    assert_eq!(checked(file, &[&[2, 12], &[0, 4]]), refused(14, 1));
+    assert_eq!(minutes_checked(file, &[&[0, 10], &[3, 7]]), refused(14, 1));
+    assert_eq!(minutes_checked(file, &[&[0, 10], &[8, 12]]), refused(14, 1));
+    assert_eq!(minutes_checked(file, &[&[0, 10], &[9, 13]]), Ok(()));
+    assert_eq!(minutes_checked(file, &[&[2, 12], &[0, 4]]), refused(14, 1));
 }
 
 #[test]
@@ -140,8 +122,8 @@ fn e8_equal_delay() {
 fn e9_as_e7_on_s() {
     let file = sample!("e9.line");
     plans(file, sample!("e9.timetable"), 7, &[&[7, 17], &[0, 4]]);
-    assert_eq!(checked(file, &[&[3, 13], &[0, 4]]), refused(14, 1));
-    assert_eq!(checked(file, &[&[6, 16], &[0, 4]]), refused(14, 1));
+    assert_eq!(minutes_checked(file, &[&[3, 13], &[0, 4]]), refused(14, 1));
+    assert_eq!(minutes_checked(file, &[&[6, 16], &[0, 4]]), refused(14, 1));
 }
 
 #[test]
@@ -151,7 +133,7 @@ fn e10_the_last_minute_counts() {
     plans(file, sample!("e10.timetable"), 1, &rows);
     // At minute 20 train 1 still stands there.
     assert_eq!(
-        checked(file, &[&[0, 10, 20, 30], &[0, 20, 20, 30]]),
+        minutes_checked(file, &[&[0, 10, 20, 30], &[0, 20, 20, 30]]),
         refused(15, 2)
     );
 }

@@ -28,6 +28,8 @@ mod examples;
 #[cfg(test)]
 mod readings;
 #[cfg(test)]
+mod test_texts;
+#[cfg(test)]
 mod timetable_readings;
 
 pub use checker::check;

@@ -1,12 +1,9 @@
 //! The examples of the scope document and the settled readings of its open points, one by one.
 
+use crate::test_texts::{refused, with};
 use crate::{read, rewrite, write, write_into, Kind, Line, Refusal, Segment, FILE_BYTES};
 
 const FILE_A: &str = include_str!("../../../samples/a.line");
-
-fn refused(number: u32, place: u32) -> Result<Line, Refusal> {
-    Err(Refusal { number, place })
-}
 
 fn of(text: &str) -> Result<Line, Refusal> {
     read(text.as_bytes())
@@ -18,9 +15,7 @@ fn line_a() -> Line {
 
 /// File A with its line `place` (from 1) replaced.
 fn a_with(place: usize, replaced: &str) -> String {
-    let mut lines: Vec<&str> = FILE_A.lines().collect();
-    lines[place - 1] = replaced;
-    lines.join("\n") + "\n"
+    with(FILE_A, place, replaced)
 }
 
 /// Holds that writing `line` is refused with the line's place, whatever is lent, and changes nothing.

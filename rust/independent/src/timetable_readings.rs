@@ -1,40 +1,19 @@
 //! The timetable text field by field, and the settled readings of its open points, one by one.
 
 use crate::rules::{free_arrival, is_order_list, lists, order_list, weighted_delay, Minutes};
-use crate::{check, read, timetable, Line, Refusal, FILE_BYTES};
+use crate::test_texts::{line, minutes_checked, refused, with};
+use crate::{check, timetable, Refusal, FILE_BYTES};
 
 const FILE_A: &str = include_str!("../../../samples/a.line");
 const TIMETABLE_A: &str = include_str!("../../../samples/a.timetable");
-
-fn refused(number: u32, place: u32) -> Result<(), Refusal> {
-    Err(Refusal { number, place })
-}
-
-fn line(file: &str) -> Line {
-    read(file.as_bytes()).expect("a line file")
-}
 
 fn checked(file: &str, timetable: &str) -> Result<(), Refusal> {
     check(file.as_bytes(), timetable.as_bytes())
 }
 
-/// `text` with its line `place` (from 1) replaced.
-fn with(text: &str, place: usize, replaced: &str) -> String {
-    let mut lines: Vec<&str> = text.lines().collect();
-    lines[place - 1] = replaced;
-    lines.join("\n") + "\n"
-}
-
 /// What the check says of the printed timetable of file A with one line replaced.
 fn a_with(place: usize, replaced: &str) -> Result<(), Refusal> {
     checked(FILE_A, &with(TIMETABLE_A, place, replaced))
-}
-
-/// What the check says of these minutes with the lists and the total that follow from them.
-fn minutes_checked(file: &str, rows: &[&[u16]]) -> Result<(), Refusal> {
-    let rows: Vec<Vec<u16>> = rows.iter().map(|row| row.to_vec()).collect();
-    let minutes = Minutes::of_rows(&line(file), &rows);
-    check(file.as_bytes(), &timetable::write(&line(file), &minutes))
 }
 
 #[test]
@@ -184,11 +163,11 @@ fn rule_14_lowest_segment() {
         format!("3\n2\n2\n2\n2\nS 3 1\nS 3 1\n2\n{train}{train}")
     };
     let rows: [&[u16]; 2] = [&[0, 5, 5, 10], &[7, 12, 12, 17]];
-    assert_eq!(minutes_checked(&follow("1 3"), &rows), refused(14, 1));
-    assert_eq!(minutes_checked(&follow("3 1"), &rows), refused(14, 1));
+    assert_eq!(minutes_checked(follow("1 3"), &rows), refused(14, 1));
+    assert_eq!(minutes_checked(follow("3 1"), &rows), refused(14, 1));
     let later: [&[u16]; 2] = [&[0, 5, 5, 10], &[7, 12, 13, 18]];
-    assert_eq!(minutes_checked(&follow("1 3"), &later), refused(14, 1));
-    assert_eq!(minutes_checked(&follow("3 1"), &later), refused(14, 2));
+    assert_eq!(minutes_checked(follow("1 3"), &later), refused(14, 1));
+    assert_eq!(minutes_checked(follow("3 1"), &later), refused(14, 2));
 }
 
 #[test]

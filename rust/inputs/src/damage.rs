@@ -1,4 +1,4 @@
-//! Damage to the text of a line file.
+//! Damage to the text of a line file or a timetable.
 
 use crate::Random;
 
@@ -25,6 +25,25 @@ pub fn damage_bytes(random: &mut Random, text: &mut Vec<u8>, times: usize) {
             }
         }
     }
+}
+
+/// Every text that comes of replacing, inserting or leaving out one byte, or exchanging two.
+pub fn with_one_byte_damaged(text: &[u8]) -> Vec<Vec<u8>> {
+    let mut texts = Vec::new();
+    for at in 0..=text.len() {
+        let (before, after) = text.split_at(at);
+        texts.extend((0..=255).map(|byte| [before, &[byte], after].concat()));
+        if let Some((_, after)) = after.split_first() {
+            texts.extend((0..=255).map(|byte| [before, &[byte], after].concat()));
+            texts.push([before, after].concat());
+        }
+        for other in at + 1..text.len() {
+            let mut swapped = text.to_vec();
+            swapped.swap(at, other);
+            texts.push(swapped);
+        }
+    }
+    texts
 }
 
 /// Leaves out, doubles or swaps whole lines, or joins or parts fields: damage that keeps the bytes

@@ -1,24 +1,32 @@
 //! Line files and timetables for tests and benchmarks: random lines within the limits, lines for the
-//! walk through plans, lawful timetables, texts with fields altered, texts with bytes damaged.
+//! walk through plans, lawful timetables, texts with fields altered, texts with bytes damaged; and the
+//! count of what came of them.
 //! Everything comes from a seed, so a failure can be seen again.
 
 #![forbid(unsafe_code)]
 
 mod damage;
 mod fields;
+mod parts;
 mod planned;
 mod random;
+mod seen;
+mod shown;
 mod timetable_damage;
 mod walks;
 
-pub use damage::{damage_bytes, damage_lines};
+pub use damage::{damage_bytes, damage_lines, with_one_byte_damaged};
 pub use fields::Fields;
 pub use planned::{full_size_planned, planned, small_line, small_planned, Pair, Planned, Traffic};
 pub use random::Random;
+pub use seen::{Least, Seen};
+pub use shown::shown;
 pub use timetable_damage::{damaged, Damage};
 pub use walks::{dense_line, dense_walk, short_walk, walk_line, LineWalk, Shape};
 
-use independent::{Kind, Limits, Line, Segment, Train, SEGMENTS, STATIONS, TRAINS};
+use independent::{Kind, Limits, Line, Segment, Train, STATIONS, TRAINS};
+
+use parts::{of_size, used_parts, used_runs_and_stops};
 
 /// How much a random line holds.
 #[derive(Clone, Copy, Debug, PartialEq, Eq)]
@@ -37,24 +45,15 @@ pub fn sizes() -> impl Iterator<Item = (u16, u16)> {
 
 /// A random line within the limits.
 pub fn line(random: &mut Random, stations: u16, trains: u16, density: Density) -> Line {
-    let mut line = Line {
-        station_count: stations,
-        train_count: trains,
-        ..Line::default()
-    };
-    for tracks in &mut line.tracks[..usize::from(stations)] {
-        *tracks = number(random, Limits::TRACKS, density);
-    }
-    for segment in &mut line.segments[..usize::from(stations) - 1] {
-        *segment = Segment {
-            kind: [Kind::S, Kind::F, Kind::D][random.below(3)],
-            following: number(random, Limits::GAP, density),
-            opposing: number(random, Limits::GAP, density),
-        };
-    }
-    for train in &mut line.trains[..usize::from(trains)] {
-        *train = self::train(random, stations, density);
-    }
+    let mut line = of_size(stations, trains);
+    let (tracks, segments, trains) = used_parts(&mut line);
+    tracks.fill_with(|| number(random, Limits::TRACKS, density));
+    segments.fill_with(|| Segment {
+        kind: random.one_of(&[Kind::S, Kind::F, Kind::D]),
+        following: number(random, Limits::GAP, density),
+        opposing: number(random, Limits::GAP, density),
+    });
+    trains.fill_with(|| train(random, stations, density));
     line
 }
 
@@ -68,13 +67,9 @@ fn train(random: &mut Random, stations: u16, density: Density) -> Train {
         weight: number(random, Limits::WEIGHT, density),
         ..Train::default()
     };
-    let legs = train.legs();
-    for run in &mut train.runs[..legs] {
-        *run = number(random, Limits::RUN, density);
-    }
-    for stop in &mut train.stops[..legs - 1] {
-        *stop = number(random, Limits::STOP, density);
-    }
+    let (runs, stops) = used_runs_and_stops(&mut train);
+    runs.fill_with(|| number(random, Limits::RUN, density));
+    stops.fill_with(|| number(random, Limits::STOP, density));
     train
 }
 
@@ -105,18 +100,15 @@ fn number(random: &mut Random, limits: Limits, density: Density) -> u16 {
 /// The line with the longest text: 12 stations, 12 trains over the whole line, every number as long
 /// as its range allows. The numbers vary, and so do the kinds and directions.
 pub fn full_size(random: &mut Random) -> Line {
-    let mut line = Line {
-        station_count: STATIONS as u16,
-        train_count: TRAINS as u16,
-        ..Line::default()
-    };
-    line.tracks.fill_with(|| random.within(10, 12));
-    line.segments.fill_with(|| Segment {
-        kind: [Kind::S, Kind::F, Kind::D][random.below(3)],
+    let mut line = of_size(STATIONS as u16, TRAINS as u16);
+    let (tracks, segments, trains) = used_parts(&mut line);
+    tracks.fill_with(|| random.within(10, 12));
+    segments.fill_with(|| Segment {
+        kind: random.one_of(&[Kind::S, Kind::F, Kind::D]),
         following: random.within(10, 60),
         opposing: random.within(10, 60),
     });
-    line.trains.fill_with(|| full_size_train(random));
+    trains.fill_with(|| full_size_train(random));
     line
 }
 
@@ -131,8 +123,9 @@ fn full_size_train(random: &mut Random) -> Train {
         weight: random.within(10, 99),
         ..Train::default()
     };
-    train.runs.fill_with(|| random.within(100, 240));
-    train.stops[..SEGMENTS - 1].fill_with(|| random.within(100, 240));
+    let (runs, stops) = used_runs_and_stops(&mut train);
+    runs.fill_with(|| random.within(100, 240));
+    stops.fill_with(|| random.within(100, 240));
     train
 }
 

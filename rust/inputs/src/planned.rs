@@ -3,6 +3,7 @@
 use independent::rules::{first_breach, Minutes};
 use independent::{exhaustive, Kind, Limits, Line, Segment, Train, STATIONS, TRAINS};
 
+use crate::parts::{of_size, used_parts, used_runs_and_stops};
 use crate::Random;
 
 /// The last minute of a timetable.
@@ -67,12 +68,9 @@ pub fn full_size_planned(random: &mut Random) -> Planned {
 }
 
 /// A line whose trains fit into the day even if each waits for the one before to be through.
-fn roomy_line(random: &mut Random, stations: u16, trains: u16, traffic: Traffic) -> Line {
-    let mut line = Line {
-        station_count: stations,
-        train_count: trains,
-        ..Line::default()
-    };
+fn roomy_line(random: &mut Random, stations: u16, train_count: u16, traffic: Traffic) -> Line {
+    let mut line = of_size(stations, train_count);
+    let (tracks, segments, trains) = used_parts(&mut line);
     let widest_gap = random.one_of(&[2, 6, 20, 60]);
     let kinds = random.one_of(&[
         &[Kind::S, Kind::F, Kind::D][..],
@@ -81,19 +79,13 @@ fn roomy_line(random: &mut Random, stations: u16, trains: u16, traffic: Traffic)
         &[Kind::D],
         &[Kind::D, Kind::D, Kind::F],
     ]);
-    for tracks in &mut line.tracks[..usize::from(stations)] {
-        *tracks = random.within(1, 4);
-    }
-    for segment in &mut line.segments[..usize::from(stations) - 1] {
-        *segment = Segment {
-            kind: random.one_of(kinds),
-            following: random.within(1, widest_gap),
-            opposing: random.within(1, widest_gap),
-        };
-    }
-    for train in &mut line.trains[..usize::from(trains)] {
-        *train = roomy_train(random, stations, trains, traffic);
-    }
+    tracks.fill_with(|| random.within(1, 4));
+    segments.fill_with(|| Segment {
+        kind: random.one_of(kinds),
+        following: random.within(1, widest_gap),
+        opposing: random.within(1, widest_gap),
+    });
+    trains.fill_with(|| roomy_train(random, stations, train_count, traffic));
     line
 }
 
@@ -114,16 +106,14 @@ fn roomy_train(random: &mut Random, stations: u16, trains: u16, traffic: Traffic
         weight: random.one_of(&[0, 1, 2, 9, 10, 99]),
         ..Train::default()
     };
-    let legs = train.legs();
+    let (runs, stops) = used_runs_and_stops(&mut train);
     // What each leg may take, with a gap of 60 minutes before the next train.
-    let each = (2000 / trains - 60) / legs as u16;
-    for run in &mut train.runs[..legs] {
-        *run = random.within(1, (each * 2 / 3).min(Limits::RUN.most));
-    }
-    for stop in &mut train.stops[..legs - 1] {
+    let each = (2000 / trains - 60) / runs.len() as u16;
+    runs.fill_with(|| random.within(1, (each * 2 / 3).min(Limits::RUN.most)));
+    stops.fill_with(|| {
         let some = random.within(0, (each / 3).min(Limits::STOP.most));
-        *stop = random.one_of(&[0, some]);
-    }
+        random.one_of(&[0, some])
+    });
     train
 }
 
@@ -201,24 +191,15 @@ fn make_tight(random: &mut Random, planned: &mut Planned) {
 /// A random small line: few stations and trains, short times, latest arrivals near what is possible.
 /// It may have no timetable, several of the least delay, or trains of weight 0.
 pub fn small_line(random: &mut Random, stations: u16, trains: u16) -> Line {
-    let mut line = Line {
-        station_count: stations,
-        train_count: trains,
-        ..Line::default()
-    };
-    for tracks in &mut line.tracks[..usize::from(stations)] {
-        *tracks = random.within(1, 2);
-    }
-    for segment in &mut line.segments[..usize::from(stations) - 1] {
-        *segment = Segment {
-            kind: random.one_of(&[Kind::S, Kind::F, Kind::D]),
-            following: random.within(1, 3),
-            opposing: random.within(1, 3),
-        };
-    }
-    for train in &mut line.trains[..usize::from(trains)] {
-        *train = small_train(random, stations);
-    }
+    let mut line = of_size(stations, trains);
+    let (tracks, segments, trains) = used_parts(&mut line);
+    tracks.fill_with(|| random.within(1, 2));
+    segments.fill_with(|| Segment {
+        kind: random.one_of(&[Kind::S, Kind::F, Kind::D]),
+        following: random.within(1, 3),
+        opposing: random.within(1, 3),
+    });
+    trains.fill_with(|| small_train(random, stations));
     line
 }
 
@@ -231,13 +212,9 @@ fn small_train(random: &mut Random, stations: u16) -> Train {
         weight: random.within(0, 3),
         ..Train::default()
     };
-    let legs = train.legs();
-    for run in &mut train.runs[..legs] {
-        *run = random.within(1, 3);
-    }
-    for stop in &mut train.stops[..legs - 1] {
-        *stop = random.one_of(&[0, 0, 1, 2]);
-    }
+    let (runs, stops) = used_runs_and_stops(&mut train);
+    runs.fill_with(|| random.within(1, 3));
+    stops.fill_with(|| random.one_of(&[0, 0, 1, 2]));
     let spare = random.one_of(&[0, 1, 2, 3, 4, 5, 6, 7]);
     train.latest = independent::rules::free_arrival(&train) as u16 + spare;
     train

@@ -4,6 +4,7 @@ use independent::rules::free_arrival;
 use independent::walk::{solve_within, Walked};
 use independent::{Kind, Limits, Line, Segment, Train};
 
+use crate::parts::{of_size, used_parts, used_runs_and_stops};
 use crate::Random;
 
 /// What the trains of a line have to do with each other.
@@ -44,31 +45,22 @@ pub fn walk_line(random: &mut Random, stations: u16, trains: u16, shape: Shape) 
     if shape == Shape::Wide {
         return wide_line(random, stations, trains);
     }
-    let mut line = Line {
-        station_count: stations,
-        train_count: trains,
-        ..Line::default()
-    };
-    for tracks in &mut line.tracks[..usize::from(stations)] {
-        *tracks = match shape {
-            Shape::OneTrack => 1,
-            _ => random.within(1, 3),
-        };
-    }
+    let mut line = of_size(stations, trains);
+    let (tracks, segments, trains) = used_parts(&mut line);
+    tracks.fill_with(|| match shape {
+        Shape::OneTrack => 1,
+        _ => random.within(1, 3),
+    });
     let alike = segment(random);
-    for place in &mut line.segments[..usize::from(stations) - 1] {
-        *place = match shape {
-            Shape::Ties => alike,
-            _ => segment(random),
-        };
-    }
+    segments.fill_with(|| match shape {
+        Shape::Ties => alike,
+        _ => segment(random),
+    });
     let run = random.within(1, 20);
-    for train in &mut line.trains[..usize::from(trains)] {
-        *train = match shape {
-            Shape::Ties => alike_train(random, stations, run),
-            _ => self::train(random, stations, shape),
-        };
-    }
+    trains.fill_with(|| match shape {
+        Shape::Ties => alike_train(random, stations, run),
+        _ => train(random, stations, shape),
+    });
     line
 }
 
@@ -85,7 +77,24 @@ fn train(random: &mut Random, stations: u16, shape: Shape) -> Train {
         Shape::Sparse => (crate::Density::Sparse, 200),
         _ => (crate::Density::Dense, 30),
     };
-    let (origin, destination) = crate::path(random, stations, density);
+    let ends = crate::path(random, stations, density);
+    let mut train = train_between(random, ends, latest_start, 1, &[0, 0, 1, 5]);
+    match shape {
+        Shape::Tight => train.latest = free_arrival(&train) as u16 + random.within(0, 60),
+        Shape::ZeroWeights => train.weight = random.one_of(&[0, 0, 0, 1]),
+        _ => {}
+    }
+    train
+}
+
+/// A train from the first of `ends` to the second that may arrive up to the last minute.
+fn train_between(
+    random: &mut Random,
+    (origin, destination): (u16, u16),
+    latest_start: u16,
+    shortest_run: u16,
+    stop_choices: &[u16],
+) -> Train {
     let mut train = Train {
         origin,
         destination,
@@ -94,18 +103,9 @@ fn train(random: &mut Random, stations: u16, shape: Shape) -> Train {
         weight: random.within(1, 9),
         ..Train::default()
     };
-    let legs = train.legs();
-    for run in &mut train.runs[..legs] {
-        *run = random.within(1, 20);
-    }
-    for stop in &mut train.stops[..legs - 1] {
-        *stop = random.one_of(&[0, 0, 1, 5]);
-    }
-    match shape {
-        Shape::Tight => train.latest = free_arrival(&train) as u16 + random.within(0, 60),
-        Shape::ZeroWeights => train.weight = random.one_of(&[0, 0, 0, 1]),
-        _ => {}
-    }
+    let (runs, stops) = used_runs_and_stops(&mut train);
+    runs.fill_with(|| random.within(shortest_run, 20));
+    stops.fill_with(|| random.one_of(stop_choices));
     train
 }
 
@@ -119,14 +119,13 @@ fn alike_train(random: &mut Random, stations: u16, run: u16) -> Train {
         weight: 1,
         ..Train::default()
     };
-    let legs = train.legs();
-    train.runs[..legs].fill(run);
+    used_runs_and_stops(&mut train).0.fill(run);
     train
 }
 
 fn wide_line(random: &mut Random, stations: u16, trains: u16) -> Line {
     let mut line = crate::line(random, stations, trains, crate::Density::Dense);
-    for train in &mut line.trains[..usize::from(trains)] {
+    for train in used_parts(&mut line).2 {
         if random.below(16) > 0 {
             train.earliest /= 8;
             train.latest = Limits::MINUTE.most;
@@ -180,37 +179,17 @@ pub fn dense_walk(
 /// A line for the benchmark of the walk: every train over the whole line, each second one the other
 /// way, all of them within an hour, mostly on single track, with two tracks at each station.
 pub fn dense_line(random: &mut Random, stations: u16, trains: u16) -> Line {
-    let mut line = Line {
-        station_count: stations,
-        train_count: trains,
-        ..Line::default()
-    };
-    line.tracks[..usize::from(stations)].fill(2);
-    for segment in &mut line.segments[..usize::from(stations) - 1] {
-        *segment = Segment {
-            kind: random.one_of(&[Kind::S, Kind::S, Kind::S, Kind::F, Kind::D]),
-            following: random.within(2, 5),
-            opposing: random.within(1, 4),
-        };
-    }
-    for (number, train) in line.trains[..usize::from(trains)].iter_mut().enumerate() {
-        let ends = [(1, stations), (stations, 1)];
-        let (origin, destination) = ends[number % 2];
-        *train = Train {
-            origin,
-            destination,
-            earliest: random.within(0, 60),
-            latest: Limits::MINUTE.most,
-            weight: random.within(1, 9),
-            ..Train::default()
-        };
-        let legs = train.legs();
-        for run in &mut train.runs[..legs] {
-            *run = random.within(5, 20);
-        }
-        for stop in &mut train.stops[..legs - 1] {
-            *stop = random.one_of(&[0, 0, 1, 3]);
-        }
+    let mut line = of_size(stations, trains);
+    let (tracks, segments, trains) = used_parts(&mut line);
+    tracks.fill(2);
+    segments.fill_with(|| Segment {
+        kind: random.one_of(&[Kind::S, Kind::S, Kind::S, Kind::F, Kind::D]),
+        following: random.within(2, 5),
+        opposing: random.within(1, 4),
+    });
+    let ends = [(1, stations), (stations, 1)];
+    for (train, &ends) in trains.iter_mut().zip(ends.iter().cycle()) {
+        *train = train_between(random, ends, 60, 5, &[0, 0, 1, 3]);
     }
     line
 }

@@ -1,48 +1,13 @@
 //! What the independent check says of planned lines after every kind of damage: each number with
 //! many places. A comparison of two checks over these inputs has then seen them all.
 
-use std::collections::{BTreeMap, BTreeSet};
+use inputs::{damaged, planned, sizes, small_planned, Damage, Planned, Random, Seen, Traffic};
 
-use inputs::{damaged, planned, sizes, small_planned, Damage, Planned, Random, Traffic};
-
-/// How often each number came, and with which places. Passing is number 0.
-#[derive(Default)]
-struct Seen {
-    pairs: usize,
-    numbers: BTreeMap<u32, (usize, BTreeSet<u32>)>,
-}
-
-impl Seen {
-    fn note(&mut self, answer: Result<(), independent::Refusal>) {
-        let (number, place) =
-            answer.map_or_else(|refusal| (refusal.number, refusal.place), |()| (0, 0));
-        let (times, places) = self.numbers.entry(number).or_default();
-        *times += 1;
-        places.insert(place);
-        self.pairs += 1;
-    }
-
-    fn damage(&mut self, random: &mut Random, planned: &Planned, damage: Damage) {
-        let pair = damaged(random, planned, damage);
-        self.note(independent::check(&pair.file, &pair.timetable));
-    }
-
-    fn places(&self, number: u32) -> usize {
-        self.numbers
-            .get(&number)
-            .map_or(0, |(_, places)| places.len())
-    }
-
-    fn times(&self, number: u32) -> usize {
-        self.numbers.get(&number).map_or(0, |&(times, _)| times)
-    }
-
-    fn print(&self, name: &str) {
-        println!("{name}: {} pairs", self.pairs);
-        for (number, (times, places)) in &self.numbers {
-            println!("  {number:2}: {times:6} times, {:2} places", places.len());
-        }
-    }
+/// Counts what the check says of the planned line after this damage.
+fn count(seen: &mut Seen, random: &mut Random, planned: &Planned, damage: Damage) {
+    let pair = damaged(random, planned, damage);
+    let answer = independent::check(&pair.file, &pair.timetable);
+    seen.input(answer.map_err(|refusal| (refusal.number, refusal.place)));
 }
 
 #[test]
@@ -55,7 +20,7 @@ fn every_number_is_seen_with_many_places() {
         let planned = planned(&mut random, stations, trains, traffic);
         for _ in 0..50 {
             for damage in Damage::ALL {
-                seen.damage(&mut random, &planned, damage);
+                count(&mut seen, &mut random, &planned, damage);
             }
         }
     }
@@ -93,7 +58,7 @@ fn tight_small_lines() {
         let planned = small_planned(&mut random);
         for damage in Damage::ALL {
             for _ in 0..3 {
-                seen.damage(&mut random, &planned, damage);
+                count(&mut seen, &mut random, &planned, damage);
             }
         }
     }
@@ -130,7 +95,7 @@ fn each_damage_does_its_part() {
         let mut seen = Seen::default();
         for planned in &lines {
             for _ in 0..40 {
-                seen.damage(&mut random, planned, damage);
+                count(&mut seen, &mut random, planned, damage);
             }
         }
         seen.print(&format!("{damage:?}"));
@@ -149,8 +114,9 @@ fn cut_short_at_every_byte() {
         let pair = planned(&mut random, stations, trains, Traffic::Mixed).pair();
         for end in 0..pair.timetable.len() {
             let answer = independent::check(&pair.file, &pair.timetable[..end]);
-            assert_eq!(answer.map_err(|refusal| refusal.number), Err(8));
-            seen.note(answer);
+            let refusal = answer.expect_err("a part is no timetable");
+            assert_eq!(refusal.number, 8);
+            seen.input(Err((refusal.number, refusal.place)));
         }
     }
     seen.print("cut short");

@@ -275,6 +275,28 @@ impl Compared {
     }
 }
 
+/// Calls `compare` so many times and prints what it has compared.
+fn compared(name: &str, times: usize, mut compare: impl FnMut(&mut Compared)) -> Compared {
+    let mut compared = Compared::default();
+    for _ in 0..times {
+        compare(&mut compared);
+    }
+    println!("{name}: {compared:?}");
+    compared
+}
+
+/// The same for each shape.
+fn compared_by_shape(
+    times: usize,
+    mut compare: impl FnMut(&mut Compared, Shape),
+) -> [Compared; Shape::ALL.len()] {
+    Shape::ALL.map(|shape| {
+        compared(&format!("{shape:?}"), times, |compared| {
+            compare(compared, shape)
+        })
+    })
+}
+
 /// A size for which trying every order is mostly quick.
 fn small_size(random: &mut Random) -> (u16, u16) {
     random.one_of(&[
@@ -292,12 +314,10 @@ fn small_size(random: &mut Random) -> (u16, u16) {
 #[test]
 fn small_lines_beside_every_order() {
     let mut random = Random::new(60);
-    let mut compared = Compared::default();
-    for _ in 0..3000 {
+    let compared = compared("short times", 3000, |compared| {
         let (stations, trains) = small_size(&mut random);
         compared.by_orders(&small_line(&mut random, stations, trains));
-    }
-    println!("short times: {compared:?}");
+    });
     assert!(compared.files >= 2000);
     assert!(compared.without >= 200 && compared.delayed >= 200);
 }
@@ -305,42 +325,32 @@ fn small_lines_beside_every_order() {
 #[test]
 fn lines_of_every_shape_beside_every_order() {
     let mut random = Random::new(61);
-    for shape in Shape::ALL {
-        let mut compared = Compared::default();
-        for _ in 0..500 {
-            let (stations, trains) = small_size(&mut random);
-            compared.by_orders(&walk_line(&mut random, stations, trains, shape));
-        }
-        println!("{shape:?}: {compared:?}");
-        assert!(compared.files >= 400);
-    }
+    let by_shape = compared_by_shape(500, |compared, shape| {
+        let (stations, trains) = small_size(&mut random);
+        compared.by_orders(&walk_line(&mut random, stations, trains, shape));
+    });
+    assert!(by_shape.iter().all(|compared| compared.files >= 400));
 }
 
 #[test]
 fn lines_of_every_shape_word_by_word() {
     let mut random = Random::new(62);
-    for shape in Shape::ALL {
-        let mut compared = Compared::default();
-        for _ in 0..500 {
-            let (stations, trains) = (random.within(2, 7), random.within(0, 7));
-            let line = walk_line(&mut random, stations, trains, shape);
-            compared.word_by_word(&line, 200);
-        }
-        println!("{shape:?}: {compared:?}");
-        assert!(compared.files >= 300);
-    }
+    let by_shape = compared_by_shape(500, |compared, shape| {
+        let (stations, trains) = (random.within(2, 7), random.within(0, 7));
+        let line = walk_line(&mut random, stations, trains, shape);
+        compared.word_by_word(&line, 200);
+    });
+    assert!(by_shape.iter().all(|compared| compared.files >= 300));
 }
 
 #[test]
 fn small_lines_word_by_word() {
     let mut random = Random::new(63);
-    let mut compared = Compared::default();
-    for _ in 0..2000 {
+    let compared = compared("short times", 2000, |compared| {
         let (stations, trains) = (random.within(2, 6), random.within(0, 5));
         let line = small_line(&mut random, stations, trains);
         compared.word_by_word(&line, 200);
-    }
-    println!("short times: {compared:?}");
+    });
     assert!(compared.files >= 1900);
 }
 
@@ -348,11 +358,9 @@ fn small_lines_word_by_word() {
 #[test]
 fn dense_lines_word_by_word() {
     let mut random = Random::new(64);
-    let mut compared = Compared::default();
-    for _ in 0..10 {
+    let compared = compared("dense", 10, |compared| {
         compared.word_by_word(&dense_line(&mut random, 5, 6), 4000);
-    }
-    println!("dense: {compared:?}");
+    });
     assert!(compared.files >= 3);
 }
 
@@ -361,22 +369,18 @@ fn dense_lines_word_by_word() {
 #[test]
 fn lines_with_short_walks() {
     let mut random = Random::new(65);
-    for shape in Shape::ALL {
-        let mut compared = Compared::default();
-        for _ in 0..200 {
-            let short = short_walk(&mut random, shape, 5000);
-            assert!(short.walked.plans <= 5000);
-            assert_eq!(solve(&short.line), short.walked);
-            let file = text(&short.line).into_bytes();
-            match plan_by_walk(&file) {
-                Ok(timetable) => assert_eq!(check(&file, &timetable), Ok(())),
-                Err(refusal) => assert_eq!((refusal.number, refusal.place), (5, 0)),
-            }
-            compared.count(&short.line);
+    let by_shape = compared_by_shape(200, |compared, shape| {
+        let short = short_walk(&mut random, shape, 5000);
+        assert!(short.walked.plans <= 5000);
+        assert_eq!(solve(&short.line), short.walked);
+        let file = text(&short.line).into_bytes();
+        match plan_by_walk(&file) {
+            Ok(timetable) => assert_eq!(check(&file, &timetable), Ok(())),
+            Err(refusal) => assert_eq!((refusal.number, refusal.place), (5, 0)),
         }
-        println!("{shape:?}: {compared:?}");
-        assert!(compared.split >= 20);
-    }
+        compared.count(&short.line);
+    });
+    assert!(by_shape.iter().all(|compared| compared.split >= 20));
 }
 
 #[test]

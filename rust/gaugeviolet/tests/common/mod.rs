@@ -1,7 +1,8 @@
 //! Holds the library to the independent reader and writer, input by input, and counts.
 
-use std::collections::{BTreeMap, BTreeSet};
 use std::hint::black_box;
+
+use inputs::{shown, Seen};
 
 /// Bytes before and after the lent part that nobody may touch.
 const GUARD: usize = 64;
@@ -10,11 +11,7 @@ const MOST_LENT: usize = 8192;
 
 /// What has been compared so far.
 pub struct Compared {
-    inputs: usize,
-    accepted: usize,
-    /// How often each number was refused with.
-    numbers: BTreeMap<u32, usize>,
-    places: BTreeSet<u32>,
+    pub seen: Seen,
     /// The former content of the lent bytes and their guards. No byte of it occurs in a line file,
     /// so a written byte shows and so does one left out.
     former: Vec<u8>,
@@ -27,10 +24,7 @@ impl Compared {
             .map(|at| 0x80 | (at * 37 % 128) as u8)
             .collect();
         Compared {
-            inputs: 0,
-            accepted: 0,
-            numbers: BTreeMap::new(),
-            places: BTreeSet::new(),
+            seen: Seen::default(),
             buffer: former.clone(),
             former,
         }
@@ -40,24 +34,16 @@ impl Compared {
     pub fn file(&mut self, file: &[u8]) {
         let before = file.to_vec();
         let expected = independent::read(&before);
+        let answer = expected.map(|_| ()).map_err(own_pair);
         let read = gaugeviolet::read(file);
-        assert_eq!(
-            read.map_err(pair),
-            expected.map(|_| ()).map_err(own_pair),
-            "reading {}",
-            shown(&before)
-        );
-        self.inputs += 1;
+        assert_eq!(read.map_err(pair), answer, "reading {}", shown(&before));
+        self.seen.input(answer);
         match expected {
             Ok(line) => {
-                self.accepted += 1;
-                self.accepted_file(
-                    file,
-                    &independent::write(&line).expect("a line that was read"),
-                );
+                let text = independent::write(&line).expect("a line that was read");
+                self.accepted_file(file, &text);
             }
             Err(refusal) => {
-                self.note(own_pair(refusal));
                 for lent in [0, 1, before.len().min(MOST_LENT)] {
                     self.lent(file, lent, Err(own_pair(refusal)));
                 }
@@ -74,12 +60,12 @@ impl Compared {
     fn accepted_file(&mut self, file: &[u8], text: &[u8]) {
         for lent in [0, 1, text.len() - 1] {
             self.lent(file, lent, Err((6, 0)));
-            self.note((6, 0));
+            self.seen.answer(Err((6, 0)));
         }
         for lent in [
             text.len(),
             text.len() + 1,
-            text.len() + 1 + self.inputs % 600,
+            text.len() + 1 + self.seen.inputs() % 600,
         ] {
             self.lent(file, lent, Ok(text));
         }
@@ -112,44 +98,6 @@ impl Compared {
             told()
         );
     }
-
-    fn note(&mut self, (number, place): (u32, u32)) {
-        *self.numbers.entry(number).or_insert(0) += 1;
-        self.places.insert(place);
-    }
-
-    /// Holds that enough was seen: inputs, accepted files, the refusal numbers (these and no other)
-    /// and places. A comparison that looked at little shows nothing.
-    pub fn ends(&self, name: &str, least: Least) {
-        let numbers: Vec<u32> = self.numbers.keys().copied().collect();
-        println!(
-            "{name}: {} inputs, {} accepted, {} places, refused {:?}",
-            self.inputs,
-            self.accepted,
-            self.places.len(),
-            self.numbers
-        );
-        assert!(self.inputs >= least.inputs, "only {} inputs", self.inputs);
-        assert!(
-            self.accepted >= least.accepted,
-            "only {} files accepted",
-            self.accepted
-        );
-        assert_eq!(numbers, least.numbers, "numbers refused with");
-        assert!(
-            self.places.len() >= least.places,
-            "only {} places",
-            self.places.len()
-        );
-    }
-}
-
-/// What a comparison must at least have seen.
-pub struct Least {
-    pub inputs: usize,
-    pub accepted: usize,
-    pub numbers: &'static [u32],
-    pub places: usize,
 }
 
 fn pair(refusal: gaugeviolet::Refusal) -> (u32, u32) {
@@ -158,14 +106,4 @@ fn pair(refusal: gaugeviolet::Refusal) -> (u32, u32) {
 
 fn own_pair(refusal: independent::Refusal) -> (u32, u32) {
     (refusal.number, refusal.place)
-}
-
-/// The bytes in a form to copy into a test, the first 2,000 of them.
-fn shown(bytes: &[u8]) -> String {
-    let end = bytes.len().min(2000);
-    format!(
-        "b\"{}\" ({} bytes)",
-        bytes[..end].escape_ascii(),
-        bytes.len()
-    )
 }
