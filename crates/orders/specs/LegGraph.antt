@@ -2,11 +2,12 @@
 use Prim.Native.Nat.{ℕ, _+_, _*_, _-_, _/_, _%_, _≤_, _<_}
 use mathlib.Core.Path.{_≡_}
 use mathlib.Core.Bool.{Bool, true, false, cond, _&&_}
+use mathlib.Core.Logic.{_⊎_}
 use mathlib.Core.List.{List}
 use lib.ListN.{length, getD}
 use lib.Dec.{eqb}
 use Rattle.orders.specs.Bits.{inMask}
-use Rattle.orders.specs.Tables.{runIn, stopIn, nextIn, limitIn, weightIn, sharedIn, followingIn, opposingIn}
+use Rattle.orders.specs.Tables.{runIn, stopIn, nextIn, limitIn, weightIn, restIn, lastIn, sharedIn, followingIn, opposingIn}
 use Rattle.orders.specs.Raising.{Graph}
 
 -- a leg of a train takes its run, no less (`runs`) and no more (`slow`); the train's next leg; train j after the train of this leg on the segment, by
@@ -115,10 +116,19 @@ legGraph marks t ds =
 abbrev pub InLimits : List ℕ → List ℕ → List ℕ → Type 0
 InLimits t ds m = (e : ℕ) → UsedLeg m t ds e → getD m (176 + e) 0 ≤ limitIn t e
 
--- the tables and marks are of a shape that raising can go by: lengths and bounds, and every arc that is there ends at a leg of a train
+-- leg e is its train's last: nothing is left after it
+abbrev pub Ends : List ℕ → ℕ → Type 0
+Ends t e = (nextIn t e ≡ e) × (restIn t e ≡ 0) × (lastIn t e ≡ e)
+
+-- after leg e its train stops, runs over leg f, and has what is left from there
+abbrev pub GoesOn : List ℕ → ℕ → ℕ → Type 0
+GoesOn t e f = (1 ≤ runIn t f) × (restIn t e ≡ stopIn t e + runIn t f + restIn t f) × (lastIn t e ≡ lastIn t f)
+
+-- the tables and marks are of a shape that raising can go by: lengths and bounds, every arc that is there ends at a leg of a train, and what is left of a
+-- train gets less from leg to leg
 pub record Shaped (marks t ds : List ℕ) : Type 0 where
   pub marks-size : length marks ≡ 368
-  pub tables-size : length t ≡ 1104
+  pub tables-size : length t ≡ 1456
   pub directions-size : length ds ≡ 176
   pub run-most : (e : ℕ) → e < 176 → runIn t e ≤ 240
   pub stop-most : (e : ℕ) → e < 176 → stopIn t e ≤ 240
@@ -126,5 +136,8 @@ pub record Shaped (marks t ds : List ℕ) : Type 0 where
   pub weight-most : (e : ℕ) → e < 176 → weightIn t e ≤ 99
   pub gap-most : (p : ℕ) → p < 11 → (followingIn t p ≤ 60) × (opposingIn t p ≤ 60)
   pub next-used : (e : ℕ) → UsedLeg marks t ds e → UsedLeg marks t ds (nextIn t e)
+  pub last-used : (e : ℕ) → UsedLeg marks t ds e → UsedLeg marks t ds (lastIn t e)
+  pub rest-most : (e : ℕ) → UsedLeg marks t ds e → restIn t e ≤ 4800
+  pub rest-falls : (e : ℕ) → UsedLeg marks t ds e → Ends t e ⊎ GoesOn t e (nextIn t e)
   pub beside-used : (e j : ℕ) → UsedLeg marks t ds e → j < 12 → inMask (getD marks e 0) j ≡ true → UsedLeg marks t ds (beside e j)
   pub comes-used : (e j : ℕ) → UsedLeg marks t ds e → j < 12 → inMask (getD marks (leaving ds e) 0) j ≡ true → UsedLeg marks t ds (comesOn ds (stationOf ds e) j)

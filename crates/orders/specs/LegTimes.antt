@@ -37,7 +37,7 @@ moreCost t e a b = weightIn t e * ((b - freeIn t e) - (a - freeIn t e))
 -- the tables are of a shape by which a train behind another can be told its minutes
 pub record Seen (m t ds : List ℕ) (e j : ℕ) : Type 0 where
   pub size : length m ≡ 352
-  pub tables-size : length t ≡ 1104
+  pub tables-size : length t ≡ 1456
   pub directions-size : length ds ≡ 176
   pub within : WithinDays m
   pub gap-most : (p : ℕ) → p < 11 → (followingIn t p ≤ 60) × (opposingIn t p ≤ 60)

@@ -1,6 +1,6 @@
 -- Laws of a first look at a choice: minutes that no solution can be before, along the legs of the train that has to wait, and what they cost at least.
-use Prim.Native.Nat.{ℕ, _+_, _*_, _≤_, _<_}
-use mathlib.Core.Path.{_≡_, sym, _∙_, ap}
+use Prim.Native.Nat.{ℕ, zero, suc, _+_, _≤_, _<_}
+use mathlib.Core.Path.{_≡_, sym, ap}
 use mathlib.Core.Logic.{_⊎_, inl, inr, ⊎-elim}
 use mathlib.Core.List.{List}
 use native.Mathlib.Omega.{arith}
@@ -8,22 +8,18 @@ use lib.ListN.{getD, set}
 use lib.Seq.{getD-set-same}
 use Rattle.orders.specs.NoLater.{_⊑_}
 use Rattle.orders.specs.ArcsLaws.{stored}
-use Rattle.orders.specs.Tables.{runIn, stopIn, nextIn, limitIn, costIn}
+use Rattle.orders.specs.Tables.{runIn, nextIn, limitIn, restIn, lastIn, costIn}
 use Rattle.orders.specs.CostLaws.{cost-grows, cost-one}
 use Rattle.orders.specs.Raising.{Graph, KeepsAll}
-use Rattle.orders.specs.LegGraph.{LegArc, runs, next, UsedLeg, Used, legGraph, Shaped}
+use Rattle.orders.specs.LegGraph.{LegArc, runs, next, UsedLeg, Used, legGraph, Ends, GoesOn, Shaped}
 use Rattle.orders.specs.LegTimes.{Arrives, moreCost}
 use Rattle.orders.specs.Lifting.{Ready, NoneChosen}
 use Rattle.orders.specs.Prospects.{NoneFrom}
 use Rattle.orders.specs.ServingLaws.{Calls, Serves}
 
--- no sum of a train's minutes along its legs is great
+-- the arrival by the leg that has to wait is no great minute
 pub arrives-small : (w v run a : ℕ) → Arrives 0 w v run a → v ≤ 20000 → w ≤ 20000 → run ≤ 240 → a ≤ 20240
 arrives-small w v run a p i j k = ⊎-elim (λ o. omega arith) (λ o. ⊎-elim (λ o. omega arith) (λ o. omega arith) o) (p .one)
-
-pub next-small : {marks t ds : List ℕ} (f g a stop run legs : ℕ) → Shaped marks t ds → f < 176 → g < 176 → stop ≡ stopIn t f → run ≡ runIn t g →
-    a ≤ 20240 + 480 * legs → a + stop + run ≤ 20240 + 480 * (legs + 1)
-next-small f g a stop run legs s i j p q h = omega (arith, s .stop-most f i, s .run-most g j)
 
 module _ (marks t ds : List ℕ) where
   abbrev G : Graph
@@ -52,32 +48,43 @@ module _ (marks t ds : List ℕ) where
         below : m₁ ⊑ y
         below i = ⊎-elim (λ z. omega (arith, above i)) (λ z. omega (arith, z .1, ap (λ (x : ℕ). getD y x 0) (z .0))) (stored m (176 + e) a i)
 
-  -- ---- along the train: where leg e departs at v and arrives at w or later, leg f arrives at a or later
+  -- ---- along the train: from leg e to its last leg it takes the runs and stops that are left, which get less from leg to leg
 
-  module _ (e v w : ℕ) where
-    unfoldable pub ArrivesBy : ℕ → ℕ → Type 0
-    ArrivesBy f a = (y : List ℕ) → KeepsAll G y → v ≤ getD y e 0 → w ≤ getD y (176 + e) 0 → a ≤ getD y (176 + f) 0
+  module _ (s : Shaped marks t ds) (y : List ℕ) (keeps : KeepsAll G y) where
+    abbrev RestKept : ℕ → Type 0
+    RestKept e = getD y (176 + e) 0 + restIn t e ≤ getD y (176 + lastIn t e) 0
 
-    pub arrives-first : (a run : ℕ) → UsedLeg marks t ds e → run ≡ runIn t e → Arrives 0 w v run a → ArrivesBy e a
-    unfolding ArrivesBy KeepsAll
-    arrives-first a run u q p y keeps dep arr =
-        ⊎-elim (λ o. omega arith) (λ o. ⊎-elim (λ o. omega arith) (λ o. omega (arith, keeps (runs e) u)) o) (p .one)
+    kept-last : (e : ℕ) → Ends t e → RestKept e
+    kept-last e h = omega (arith, h .1, ap (λ (i : ℕ). getD y (176 + i) 0) (h .2))
 
-    pub arrives-next : (f a g stop run : ℕ) → UsedLeg marks t ds f → UsedLeg marks t ds g → g ≡ nextIn t f → (g ≡ f → ⊥) →
-        stop ≡ stopIn t f → run ≡ runIn t g → ArrivesBy f a → ArrivesBy g (a + stop + run)
-    unfolding ArrivesBy KeepsAll
-    arrives-next f a g stop run u u′ q n s k h y keeps dep arr =
+    kept-on : (e : ℕ) → UsedLeg marks t ds e → GoesOn t e (nextIn t e) → RestKept (nextIn t e) → RestKept e
+    unfolding KeepsAll
+    kept-on e u h k =
         omega (
           arith,
-          h y keeps dep arr,
-          keeps (next f) (u, λ z. n (q ∙ z)),
-          keeps (runs g) u′,
-          ap (λ (i : ℕ). getD y i 0) q,
+          k,
+          h .1,
+          keeps (next e) (u, λ z. omega (arith, h .0, h .1, ap (restIn t) z)),
+          keeps (runs (nextIn t e)) (s .next-used e u),
+          ap (λ (i : ℕ). getD y (176 + i) 0) (h .2),
         )
 
-    pub none-by : (m : List ℕ) (f a cut : ℕ) → ArrivesBy f a → NoneFrom marks t ds cut f 0 a m → NoneFrom marks t ds cut e v w m
-    unfolding ArrivesBy NoneFrom
-    none-by m f a cut h none y within keeps above dep arr = none y within keeps above (omega arith) (h y keeps dep arr)
+    rest-kept : (n e : ℕ) → restIn t e ≤ n → UsedLeg marks t ds e → RestKept e
+    rest-kept zero e few u = ⊎-elim (kept-last e) (λ h. absurd (omega (arith, h .0, h .1))) (s .rest-falls e u)
+    rest-kept (suc n) e few u =
+        ⊎-elim (kept-last e) (λ h. kept-on e u h (rest-kept n (nextIn t e) (omega (arith, h .0, h .1)) (s .next-used e u))) (s .rest-falls e u)
+
+  module _ (m : List ℕ) (e v w cost cut : ℕ) (r : Ready m marks t ds e cost cut) where
+    -- a train that fails by the minute at which it comes to its end at the earliest fails
+    pub none-by : (run a f rest : ℕ) → run ≡ runIn t e → Arrives 0 w v run a → f ≡ lastIn t e → rest ≡ restIn t e →
+        NoneFrom marks t ds cut f 0 (a + rest) m → NoneFrom marks t ds cut e v w m
+    unfolding NoneFrom KeepsAll
+    none-by run a f rest q p last left none y within keeps above dep arr =
+        none y within keeps above (omega arith)
+        (omega (arith, arrived, rest-kept (r .shaped) y keeps (restIn t e) e (omega arith) (r .leg), ap (λ (i : ℕ). getD y (176 + i) 0) last))
+      where
+        arrived : a ≤ getD y (176 + e) 0
+        arrived = ⊎-elim (λ o. omega arith) (λ o. ⊎-elim (λ o. omega arith) (λ o. omega (arith, keeps (runs e) (r .leg))) o) (p .one)
 
   -- ---- the choice: its arcs ask that leg f depart at v and arrive at w, so every solution has them
 

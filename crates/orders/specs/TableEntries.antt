@@ -5,7 +5,7 @@ use lib.Dec.{eqb}
 use Rattle.line.specs.declared.Train.{Train}
 use Rattle.line.specs.declared.Segment.{Segment}
 use Rattle.rules.specs.Delay.{freeArrival}
-use Rattle.orders.specs.Tables.{legOn, runOver, stopAfter, limitOf, atLast, nextLeg, shares}
+use Rattle.orders.specs.Tables.{legOn, runOver, stopAfter, restAfter, limitOf, atLast, nextLeg, lastLeg, shares}
 
 -- of table n at entry e, the leg k of the train there
 abbrev pub legValue : ℕ → Train → ℕ → ℕ → ℕ
@@ -14,13 +14,15 @@ legValue (suc zero) t e k = stopAfter t k
 legValue (suc (suc zero)) t e k = nextLeg e t k
 legValue (suc (suc (suc zero))) t e k = limitOf t k
 legValue (suc (suc (suc (suc zero)))) t e k = atLast (λ s. s .weight) t k
-legValue (suc (suc (suc (suc (suc n))))) t e k = atLast freeArrival t k
+legValue (suc (suc (suc (suc (suc zero))))) t e k = atLast freeArrival t k
+legValue (suc (suc (suc (suc (suc (suc zero)))))) t e k = restAfter t k
+legValue (suc (suc (suc (suc (suc (suc (suc n))))))) t e k = lastLeg e t
 
 unfoldable pub legEntry : ℕ → Train → ℕ → ℕ
 legEntry n t e = legValue n t e (legOn t (e / 16))
 
 unfoldable pub noLegEntry : ℕ → ℕ → ℕ
-noLegEntry n e = cond (eqb n 2) e 0
+noLegEntry n e = cond (eqb n 2) e (cond (eqb n 7) e 0)
 
 -- of the n-th table of segments
 unfoldable pub segmentEntry : ℕ → Segment → ℕ

@@ -27,6 +27,8 @@ use Rattle.orders.specs.Tables.{
   limitIn,
   weightIn,
   freeIn,
+  restIn,
+  lastIn,
   sharedIn,
   followingIn,
   opposingIn,
@@ -34,31 +36,33 @@ use Rattle.orders.specs.Tables.{
   isLast,
   runOver,
   stopAfter,
+  restAfter,
   limitOf,
   atLast,
   onLeg,
   nextLeg,
+  lastLeg,
   shares,
   ofSegment,
   tableEntry,
   tablesOf,
 }
 
--- ---- one list of seven tables
+-- ---- one list of nine tables
 
-pub tables-size : (l : Line) → length (tablesOf l) ≡ 1104
+pub tables-size : (l : Line) → length (tablesOf l) ≡ 1456
 unfolding tablesOf
-tables-size l = table-size _ 1104
+tables-size l = table-size _ 1456
 
 -- entry x is entry e of table n
-entry-at : (l : Line) (n e x : ℕ) → x ≡ 176 * n + e → e < 176 → x < 1104 → getD (tablesOf l) x 0 ≡ tableEntry l n e
+entry-at : (l : Line) (n e x : ℕ) → x ≡ 176 * n + e → e < 176 → x < 1456 → getD (tablesOf l) x 0 ≡ tableEntry l n e
 unfolding tablesOf
 entry-at l n e x q a b =
     let s : x / 176 ≡ n = omega arith in
     let t : x % 176 ≡ e = omega arith in
-    table-at _ 1104 x b ∙ rw (s, t) refl
+    table-at _ 1456 x b ∙ rw (s, t) refl
 
-leg-entry : (l : Line) (n e : ℕ) → n < 6 → e < 176 → getD (tablesOf l) (176 * n + e) 0 ≡ tableEntry l n e
+leg-entry : (l : Line) (n e : ℕ) → n < 8 → e < 176 → getD (tablesOf l) (176 * n + e) 0 ≡ tableEntry l n e
 leg-entry l n e a b = entry-at l n e (176 * n + e) refl b (omega arith)
 
 module _ (l : Line) (p : ℕ) (low : p < 11) where
@@ -66,14 +70,14 @@ module _ (l : Line) (p : ℕ) (low : p < 11) where
   unfolding tableEntry
   following-entry =
       let back : 16 + p - 16 ≡ p = omega arith in
-      entry-at l 6 (16 + p) (1072 + p) (omega arith) (omega arith) (omega arith) ∙
+      entry-at l 8 (16 + p) (1424 + p) (omega arith) (omega arith) (omega arith) ∙
       rw (le-ltb (16 + p) 16 (omega arith), lt-ltb (16 + p) 32 (omega arith), back) refl
 
   opposing-entry : opposingIn (tablesOf l) p ≡ ofSegment l (λ g. g .opposing) p
   unfolding tableEntry
   opposing-entry =
       let back : 32 + p - 32 ≡ p = omega arith in
-      entry-at l 6 (32 + p) (1088 + p) (omega arith) (omega arith) (omega arith) ∙
+      entry-at l 8 (32 + p) (1440 + p) (omega arith) (omega arith) (omega arith) ∙
       rw (le-ltb (32 + p) 16 (omega arith), le-ltb (32 + p) 32 (omega arith), back) refl
 
 -- ---- a leg by its segment
@@ -129,7 +133,7 @@ module _ (l : Line) (w : Within l) (r : Arrays l) where
       each-at TrainArrays 12 (l .trains) i pastTrain (omega (arith, r .trains)) (omega (arith, w .trains .1))
       (each-take TrainArrays 12 (l .trains) (r .each-train))
 
-  run-in : (i k : ℕ) → i < l .«train_count» → k < legs l i → In run (runOf l i k)
+  pub run-in : (i k : ℕ) → i < l .«train_count» → k < legs l i → In run (runOf l i k)
   run-in i k n h =
       each-at (In run) (legs l i) (train l i .runs) k 0 (omega (arith, arrays i n .0, legs-few (train l i) (routed l i w (r .trains) n) .1)) h
       (train-within l i w (r .trains) n .runs)
@@ -152,7 +156,7 @@ module _ (l : Line) (w : Within l) (r : Arrays l) where
     here = train-leg l w r i b k h .0
 
     -- entry e of a table of legs is the value of leg k
-    at-leg : (n : ℕ) (f : Train → ℕ → ℕ) (z : ℕ) → n < 6 → tableEntry l n e ≡ onLeg l f z e → getD (tablesOf l) (176 * n + e) 0 ≡ f (train l i) k
+    at-leg : (n : ℕ) (f : Train → ℕ → ℕ) (z : ℕ) → n < 8 → tableEntry l n e ≡ onLeg l f z e → getD (tablesOf l) (176 * n + e) 0 ≡ f (train l i) k
     at-leg n f z few is = leg-entry l n e few here ∙ is ∙ value-at f z i k b h
 
     pub run-at : runIn (tablesOf l) e ≡ runOf l i k
@@ -162,6 +166,14 @@ module _ (l : Line) (w : Within l) (r : Arrays l) where
     pub limit-at : limitIn (tablesOf l) e ≡ limitOf (train l i) k
     unfolding tableEntry
     limit-at = at-leg 3 limitOf 0 (omega arith) refl
+
+    pub rest-at : restIn (tablesOf l) e ≡ restAfter (train l i) k
+    unfolding tableEntry
+    rest-at = at-leg 6 restAfter 0 (omega arith) refl
+
+    pub last-at : lastIn (tablesOf l) e ≡ departs (segmentOf (train l i) (legs l i - 1)) i
+    unfolding tableEntry
+    last-at = at-leg 7 (λ t k. lastLeg e t) e (omega arith) refl ∙ omega (arith, w .trains .1)
 
     module _ (m : k + 1 < legs l i) where
       later : isLast (train l i) k ≡ false
@@ -208,7 +220,7 @@ module _ (l : Line) (w : Within l) (r : Arrays l) where
     pub shared-at : sharedIn (tablesOf l) p ≡ shares (segment l p .kind)
     unfolding tableEntry
     shared-at =
-        entry-at l 6 p (1056 + p) (omega arith) (omega (arith, low)) (omega (arith, low)) ∙
+        entry-at l 8 p (1408 + p) (omega arith) (omega (arith, low)) (omega (arith, low)) ∙
         rw (lt-ltb p 16 (omega (arith, low)), lt-ltb p (segmentCount l) h) refl
 
     pub following-at : followingIn (tablesOf l) p ≡ segment l p .following

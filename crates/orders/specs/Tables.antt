@@ -1,5 +1,5 @@
--- The tables of a line that raising reads, one list of 1,104 entries. Leg e = 16 p + i is that of train i on segment p; six tables have an entry for each
--- of the 176 legs, three an entry for each segment.
+-- The tables of a line that raising reads, one list of 1,456 entries. Leg e = 16 p + i is that of train i on segment p; eight tables have an entry for
+-- each of the 176 legs, three an entry for each segment.
 use Prim.Native.Nat.{ℕ, zero, suc, _+_, _*_, _-_, _/_, _%_}
 use mathlib.Core.Bool.{Bool, cond, _&&_}
 use mathlib.Core.List.{List}
@@ -38,15 +38,22 @@ weightIn t e = getD t (704 + e) 0
 abbrev pub freeIn : List ℕ → ℕ → ℕ
 freeIn t e = getD t (880 + e) 0
 
+-- the runs and stops of the train after the leg (0 at its last), the train's last leg
+abbrev pub restIn : List ℕ → ℕ → ℕ
+restIn t e = getD t (1056 + e) 0
+
+abbrev pub lastIn : List ℕ → ℕ → ℕ
+lastIn t e = getD t (1232 + e) 0
+
 -- 1 where a following train may depart while the first is still on segment p (F and D), else 0; its two gaps
 abbrev pub sharedIn : List ℕ → ℕ → ℕ
-sharedIn t p = getD t (1056 + p) 0
+sharedIn t p = getD t (1408 + p) 0
 
 abbrev pub followingIn : List ℕ → ℕ → ℕ
-followingIn t p = getD t (1072 + p) 0
+followingIn t p = getD t (1424 + p) 0
 
 abbrev pub opposingIn : List ℕ → ℕ → ℕ
-opposingIn t p = getD t (1088 + p) 0
+opposingIn t p = getD t (1440 + p) 0
 
 -- what the minutes cost by these tables
 unfoldable pub costIn : List ℕ → List ℕ → ℕ
@@ -73,8 +80,11 @@ runOver t k = getD (t .runs) k 0
 abbrev pub stopAfter : Train → ℕ → ℕ
 stopAfter t k = cond (isLast t k) 0 (getD (t .stops) k 0)
 
+abbrev pub restAfter : Train → ℕ → ℕ
+restAfter t k = restOf t (legsOf t - 1 - k)
+
 abbrev pub limitOf : Train → ℕ → ℕ
-limitOf t k = t .latest - restOf t (legsOf t - 1 - k)
+limitOf t k = t .latest - restAfter t k
 
 abbrev pub atLast : (Train → ℕ) → Train → ℕ → ℕ
 atLast f t k = cond (isLast t k) (f t) 0
@@ -88,6 +98,9 @@ onLeg l f z e =
 
 abbrev pub nextLeg : ℕ → Train → ℕ → ℕ
 nextLeg e t k = cond (isLast t k) e (16 * segmentOf t (k + 1) + e % 16)
+
+abbrev pub lastLeg : ℕ → Train → ℕ
+lastLeg e t = 16 * segmentOf t (legsOf t - 1) + e % 16
 
 abbrev pub shares : Kind → ℕ
 shares Kind.S = 0
@@ -106,9 +119,11 @@ tableEntry l (suc (suc zero)) e = onLeg l (nextLeg e) e e
 tableEntry l (suc (suc (suc zero))) e = onLeg l limitOf 0 e
 tableEntry l (suc (suc (suc (suc zero)))) e = onLeg l (atLast (λ t. t .weight)) 0 e
 tableEntry l (suc (suc (suc (suc (suc zero))))) e = onLeg l (atLast freeArrival) 0 e
-tableEntry l (suc (suc (suc (suc (suc (suc k)))))) x =
+tableEntry l (suc (suc (suc (suc (suc (suc zero)))))) e = onLeg l restAfter 0 e
+tableEntry l (suc (suc (suc (suc (suc (suc (suc zero))))))) e = onLeg l (λ t k. lastLeg e t) e e
+tableEntry l (suc (suc (suc (suc (suc (suc (suc (suc k)))))))) x =
     cond (ltb x 16) (ofSegment l (λ g. shares (g .kind)) x)
     (cond (ltb x 32) (ofSegment l (λ g. g .following) (x - 16)) (ofSegment l (λ g. g .opposing) (x - 32)))
 
 unfoldable pub tablesOf : Line → List ℕ
-tablesOf l = table (λ x. tableEntry l (x / 176) (x % 176)) 1104
+tablesOf l = table (λ x. tableEntry l (x / 176) (x % 176)) 1456

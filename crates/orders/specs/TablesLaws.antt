@@ -21,7 +21,7 @@ use Rattle.rules.specs.PathsLaws.{routed-within}
 use Rattle.rules.specs.RulesLaws.{free-start, free-next}
 use Rattle.rules.specs.Delay.{freeAfter}
 use Rattle.orders.specs.LegsLaws.{Leg, leg-test}
-use Rattle.orders.specs.Tables.{legOn, restOf, stopAfter, limitOf, nextLeg, shares, tableEntry, tablesOf}
+use Rattle.orders.specs.Tables.{legOn, restOf, stopAfter, restAfter, limitOf, nextLeg, lastLeg, shares, tableEntry, tablesOf}
 use Rattle.orders.specs.FillLaws.{Begun, begun-all}
 use Rattle.orders.specs.TableEntries.{legEntry, noLegEntry, segmentEntry}
 
@@ -85,6 +85,18 @@ pub rest-next : (t : Train) (j : ℕ) → restOf t (j + 1) ≡ restOf t j + getD
 unfolding restOf
 rest-next t j = rw add-one refl
 
+-- what is left after a leg: a stop, the run over the next leg, and what is left after that
+pub rest-on : (t : Train) (k : ℕ) → k + 1 < legsOf t → restAfter t k ≡ restAfter t (k + 1) + getD (t .stops) k 0 + getD (t .runs) (k + 1) 0
+rest-on t k h =
+    let p = counted (legsOf t) k h in
+    ap (restOf t) (p .0) ∙ rest-next t (legsOf t - 1 - (k + 1)) ∙ rw (p .1, p .2) refl
+  where
+    counted : (n k : ℕ) → k + 1 < n → (n - 1 - k ≡ n - 1 - (k + 1) + 1) × (n - 2 - (n - 1 - (k + 1)) ≡ k) × (n - 1 - (n - 1 - (k + 1)) ≡ k + 1)
+    counted n k h = (omega arith, omega arith, omega arith)
+
+pub last-on : (t : Train) (e p legs : ℕ) → legs ≡ legsOf t → p ≡ segmentOf t (legs - 1) → 16 * p + e % 16 ≡ lastLeg e t
+last-on t e p legs h q = rw (q, h) refl
+
 module _ (t : Train) (k : ℕ) where
   pub stop-last : k + 1 ≡ legsOf t → 0 ≡ stopAfter t k
   stop-last h = rw (eq-eqb (k + 1) (legsOf t) h) refl
@@ -109,6 +121,10 @@ module _ (t : Train) (k : ℕ) where
 
 -- ---- entries, by the number of the table
 
+pub entry-last : (t : Train) (e n : ℕ) → n ≡ 7 → lastLeg e t ≡ legEntry n t e
+unfolding legEntry
+entry-last t e n q = rw q refl
+
 module _ (t : Train) (e n k : ℕ) (here : k ≡ legOn t (e / 16)) where
   pub entry-run : n ≡ 0 → getD (t .runs) k 0 ≡ legEntry n t e
   unfolding legEntry
@@ -125,6 +141,10 @@ module _ (t : Train) (e n k : ℕ) (here : k ≡ legOn t (e / 16)) where
   pub entry-limit : n ≡ 3 → limitOf t k ≡ legEntry n t e
   unfolding legEntry
   entry-limit q = rw (here, q) refl
+
+  pub entry-rest : (legs rest : ℕ) → n ≡ 6 → legs ≡ legsOf t → rest ≡ restOf t (legs - 1 - k) → rest ≡ legEntry n t e
+  unfolding legEntry
+  entry-rest legs rest q l h = h ∙ rw (here, q, l) refl
 
   -- only at the last leg are a weight and a free arrival
   pub entry-middle : 4 ≤ n → n < 6 → k + 1 < legsOf t → 0 ≡ legEntry n t e
@@ -148,13 +168,18 @@ module _ (t : Train) (e n k : ℕ) (here : k ≡ legOn t (e / 16)) where
       let last : k ≡ legsOf t - 1 = omega arith in
       rw (q, ← here, eq-eqb (k + 1) (legsOf t) l) (ap (freeAfter t) last)
 
-pub no-leg-next : (n e : ℕ) → n ≡ 2 → e ≡ noLegEntry n e
-unfolding noLegEntry
-no-leg-next n e q = rw (eq-eqb n 2 q) refl
+module _ (n e : ℕ) where
+  pub no-leg-next : n ≡ 2 → e ≡ noLegEntry n e
+  unfolding noLegEntry
+  no-leg-next q = rw (eq-eqb n 2 q) refl
 
-pub no-leg-other : (n e : ℕ) → (n ≡ 2 → ⊥) → 0 ≡ noLegEntry n e
-unfolding noLegEntry
-no-leg-other n e q = rw (ne-eqb n 2 q) refl
+  pub no-leg-last : n ≡ 7 → e ≡ noLegEntry n e
+  unfolding noLegEntry
+  no-leg-last q = rw (ne-eqb n 2 (omega arith), eq-eqb n 7 q) refl
+
+  pub no-leg-other : (n ≡ 2 → ⊥) → (n ≡ 7 → ⊥) → 0 ≡ noLegEntry n e
+  unfolding noLegEntry
+  no-leg-other q r = rw (ne-eqb n 2 q, ne-eqb n 7 r) refl
 
 module _ (g : Segment) (n : ℕ) where
   pub segment-following : n ≡ 1 → g .following ≡ segmentEntry n g
@@ -172,7 +197,7 @@ module _ (g : Segment) (n : ℕ) where
 -- ---- entries of a line
 
 module _ (l : Line) (e : ℕ) where
-  pub leg-entry-is : (n : ℕ) → n < 6 → Leg l e → legEntry n (train l (e % 16)) e ≡ tableEntry l n e
+  pub leg-entry-is : (n : ℕ) → n < 8 → Leg l e → legEntry n (train l (e % 16)) e ≡ tableEntry l n e
   unfolding legEntry tableEntry
   leg-entry-is zero b h = rw (is-true (leg-test l e) h) refl
   leg-entry-is (suc zero) b h = rw (is-true (leg-test l e) h) refl
@@ -180,9 +205,11 @@ module _ (l : Line) (e : ℕ) where
   leg-entry-is (suc (suc (suc zero))) b h = rw (is-true (leg-test l e) h) refl
   leg-entry-is (suc (suc (suc (suc zero)))) b h = rw (is-true (leg-test l e) h) refl
   leg-entry-is (suc (suc (suc (suc (suc zero))))) b h = rw (is-true (leg-test l e) h) refl
-  leg-entry-is (suc (suc (suc (suc (suc (suc n)))))) b h = absurd (omega arith)
+  leg-entry-is (suc (suc (suc (suc (suc (suc zero)))))) b h = rw (is-true (leg-test l e) h) refl
+  leg-entry-is (suc (suc (suc (suc (suc (suc (suc zero))))))) b h = rw (is-true (leg-test l e) h) refl
+  leg-entry-is (suc (suc (suc (suc (suc (suc (suc (suc n)))))))) b h = absurd (omega arith)
 
-  pub no-leg-is : (n : ℕ) → n < 6 → (Leg l e → ⊥) → noLegEntry n e ≡ tableEntry l n e
+  pub no-leg-is : (n : ℕ) → n < 8 → (Leg l e → ⊥) → noLegEntry n e ≡ tableEntry l n e
   unfolding noLegEntry tableEntry
   no-leg-is zero b h = rw (is-false (leg-test l e) h) refl
   no-leg-is (suc zero) b h = rw (is-false (leg-test l e) h) refl
@@ -190,11 +217,13 @@ module _ (l : Line) (e : ℕ) where
   no-leg-is (suc (suc (suc zero))) b h = rw (is-false (leg-test l e) h) refl
   no-leg-is (suc (suc (suc (suc zero)))) b h = rw (is-false (leg-test l e) h) refl
   no-leg-is (suc (suc (suc (suc (suc zero))))) b h = rw (is-false (leg-test l e) h) refl
-  no-leg-is (suc (suc (suc (suc (suc (suc n)))))) b h = absurd (omega arith)
+  no-leg-is (suc (suc (suc (suc (suc (suc zero)))))) b h = rw (is-false (leg-test l e) h) refl
+  no-leg-is (suc (suc (suc (suc (suc (suc (suc zero))))))) b h = rw (is-false (leg-test l e) h) refl
+  no-leg-is (suc (suc (suc (suc (suc (suc (suc (suc n)))))))) b h = absurd (omega arith)
 
 -- the tables of segments: entry y is that of segment y % 16 in the table y / 16 of them
 module _ (l : Line) (y : ℕ) where
-  segment-entry-is : y < 48 → y % 16 < segmentCount l → segmentEntry (y / 16) (segment l (y % 16)) ≡ tableEntry l 6 y
+  segment-entry-is : y < 48 → y % 16 < segmentCount l → segmentEntry (y / 16) (segment l (y % 16)) ≡ tableEntry l 8 y
   unfolding segmentEntry tableEntry
   segment-entry-is b few = elim (decLt y 16) [
     | yes h ↦
@@ -215,7 +244,7 @@ module _ (l : Line) (y : ℕ) where
   ]
 
   -- past the last segment all are 0
-  no-segment-is : y < 48 → segmentCount l ≤ y % 16 → 0 ≡ tableEntry l 6 y
+  no-segment-is : y < 48 → segmentCount l ≤ y % 16 → 0 ≡ tableEntry l 8 y
   unfolding tableEntry
   no-segment-is b past = elim (decLt y 16) [
     | yes h ↦ rw (lt-ltb y 16 h, le-ltb y (segmentCount l) (omega arith)) refl
@@ -231,19 +260,19 @@ module _ (l : Line) (y : ℕ) where
 abbrev pub entryAt : Line → ℕ → ℕ
 entryAt l x = tableEntry l (x / 176) (x % 176)
 
-pub tables-made : (l : Line) (x : ℕ) (t : List ℕ) → Begun (entryAt l) 1104 x t → x ≡ 1104 → t ≡ tablesOf l
+pub tables-made : (l : Line) (x : ℕ) (t : List ℕ) → Begun (entryAt l) 1456 x t → x ≡ 1456 → t ≡ tablesOf l
 unfolding tablesOf
-tables-made l x t b q = begun-all (entryAt l) 1104 x t b q
+tables-made l x t b q = begun-all (entryAt l) 1456 x t b q
 
-module _ (l : Line) (x : ℕ) (low : 1056 ≤ x) (high : x < 1104) where
-  past-legs : tableEntry l 6 (x - 1056) ≡ entryAt l x
+module _ (l : Line) (x : ℕ) (low : 1408 ≤ x) (high : x < 1456) where
+  past-legs : tableEntry l 8 (x - 1408) ≡ entryAt l x
   past-legs =
-      let n : x / 176 ≡ 6 = omega arith in
-      let e : x % 176 ≡ x - 1056 = omega arith in
+      let n : x / 176 ≡ 8 = omega arith in
+      let e : x % 176 ≡ x - 1408 = omega arith in
       rw (n, e) refl
 
-  pub segment-at : (x - 1056) % 16 < segmentCount l → segmentEntry ((x - 1056) / 16) (segment l ((x - 1056) % 16)) ≡ entryAt l x
-  segment-at h = segment-entry-is l (x - 1056) (omega arith) h ∙ past-legs
+  pub segment-at : (x - 1408) % 16 < segmentCount l → segmentEntry ((x - 1408) / 16) (segment l ((x - 1408) % 16)) ≡ entryAt l x
+  segment-at h = segment-entry-is l (x - 1408) (omega arith) h ∙ past-legs
 
-  pub no-segment-at : segmentCount l ≤ (x - 1056) % 16 → 0 ≡ entryAt l x
-  no-segment-at h = no-segment-is l (x - 1056) (omega arith) h ∙ past-legs
+  pub no-segment-at : segmentCount l ≤ (x - 1408) % 16 → 0 ≡ entryAt l x
+  no-segment-at h = no-segment-is l (x - 1408) (omega arith) h ∙ past-legs

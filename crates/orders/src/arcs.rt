@@ -16,7 +16,7 @@ pub struct Behind {
     pub arrival: u16,
 }
 
-pub fn times_behind(m: &[u16; 352], t: &[u16; 1104], ds: &[u16; 176], e: usize, j: usize) -> Behind
+pub fn times_behind(m: &[u16; 352], t: &[u16; 1456], ds: &[u16; 176], e: usize, j: usize) -> Behind
     requires { ⌜ Seen (now m) (now t) (now ds) e j ⌝ }
     ensures { λ r. ⌜ GoesBehind (now (m .entry)) (now (t .entry)) (now (ds .entry)) e j (r .departure) (r .arrival) × (r .departure ≤ 2939) × (r .arrival ≤ 2939) ⌝ }
 {
@@ -40,8 +40,8 @@ pub fn times_behind(m: &[u16; 352], t: &[u16; 1104], ds: &[u16; 176], e: usize, 
 }
 
 // The event that this choice starts from.
-pub fn source_of(t: &[u16; 1104], ds: &[u16; 176], e: usize, j: usize) -> usize
-    requires { ⌜ (length (now t) ≡ 1104) × (length (now ds) ≡ 176) × (e < 176) × (j < 12) ⌝ }
+pub fn source_of(t: &[u16; 1456], ds: &[u16; 176], e: usize, j: usize) -> usize
+    requires { ⌜ (length (now t) ≡ 1456) × (length (now ds) ≡ 176) × (e < 176) × (j < 12) ⌝ }
     ensures { λ r. ⌜ r ≡ sourceOf (now (t .entry)) (now (ds .entry)) e j ⌝ }
 {
     if ds[e] == ds[16 * (e / 16) + j] {

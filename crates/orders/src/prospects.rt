@@ -9,10 +9,10 @@ ghost use Rattle.orders.specs.Lifting.{Ready, Choosing, Follows, Comes, 
 ghost use Rattle.orders.specs.Prospects.{NoneFrom};
 use crate::arcs::coming_leg;
 use crate::arcs::times_behind;
+use crate::tables::last_at;
 use crate::tables::limit_at;
-use crate::tables::next_at;
+use crate::tables::rest_at;
 use crate::tables::run_at;
-use crate::tables::stop_at;
 use crate::times::arrival_for;
 use crate::times::more_cost;
 
@@ -20,7 +20,7 @@ use crate::times::more_cost;
 fn end_fails(
     m: &[u16; 352],
     marks: &[u16; 368],
-    t: &[u16; 1104],
+    t: &[u16; 1456],
     ds: &[u16; 176],
     e: usize,
     arrival: u16,
@@ -40,12 +40,12 @@ fn end_fails(
     cost + more_cost(t, e, former, arrival) > cut
 }
 
-// Whether the train of leg e, which is to depart there at v and to arrive at w or later, is late at its end or costs more than the cut. A path has at most
-// 11 legs.
+// Whether the train of leg e, which is to depart there at v and to arrive at w or later, is late at its end or costs more than the cut: from there it needs
+// the runs and stops that are left.
 fn train_fails(
     m: &[u16; 352],
     marks: &[u16; 368],
-    t: &[u16; 1104],
+    t: &[u16; 1456],
     ds: &[u16; 176],
     e: usize,
     v: u16,
@@ -56,19 +56,17 @@ fn train_fails(
     requires { ⌜ Ready (now m) (now marks) (now t) (now ds) e cost cut × (v ≤ 20000) × (w ≤ 20000) ⌝ }
     ensures { λ r. ⌜ (r ≡ true → NoneFrom (now (marks .entry)) (now (t .entry)) (now (ds .entry)) cut e v w (now (m .entry))) ⌝ }
 {
-    let mut leg = e;
-    let mut arrival = arrival_for(0, w, v, run_at(t, e));
-    let mut legs: usize = 1;
-    while legs < 11 {
-        let next = next_at(t, leg);
-        if next == leg {
-            return end_fails(m, marks, t, ds, leg, arrival, cost, cut);
-        }
-        arrival = arrival + stop_at(t, leg) + run_at(t, next);
-        leg = next;
-        legs = legs + 1;
-    }
-    end_fails(m, marks, t, ds, leg, arrival, cost, cut)
+    let arrival = arrival_for(0, w, v, run_at(t, e));
+    end_fails(
+        m,
+        marks,
+        t,
+        ds,
+        last_at(t, e),
+        arrival + rest_at(t, e),
+        cost,
+        cut,
+    )
 }
 
 // Whether no minutes with the choice, marked already, that train j goes after that of leg e on its segment are in time for no more than the cut. A true
@@ -76,7 +74,7 @@ fn train_fails(
 pub fn follow_fails(
     m: &[u16; 352],
     marks: &[u16; 368],
-    t: &[u16; 1104],
+    t: &[u16; 1456],
     ds: &[u16; 176],
     e: usize,
     j: usize,
@@ -104,7 +102,7 @@ pub fn follow_fails(
 pub fn come_after_fails(
     m: &[u16; 352],
     marks: &[u16; 368],
-    t: &[u16; 1104],
+    t: &[u16; 1456],
     ds: &[u16; 176],
     e: usize,
     j: usize,

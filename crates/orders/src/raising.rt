@@ -30,7 +30,7 @@ pub const DEAD: u32 = 4294967295;
 fn lift(
     m: &mut [u16; 352],
     marks: &[u16; 368],
-    t: &[u16; 1104],
+    t: &[u16; 1456],
     ds: &[u16; 176],
     e: usize,
     v: u16,
@@ -74,7 +74,7 @@ fn lift(
 fn onward(
     m: &mut [u16; 352],
     marks: &[u16; 368],
-    t: &[u16; 1104],
+    t: &[u16; 1456],
     ds: &[u16; 176],
     e: usize,
     src: usize,
@@ -99,7 +99,7 @@ fn onward(
 fn followers(
     m: &mut [u16; 352],
     marks: &[u16; 368],
-    t: &[u16; 1104],
+    t: &[u16; 1456],
     ds: &[u16; 176],
     e: usize,
     src: usize,
@@ -135,7 +135,7 @@ fn followers(
 fn comers(
     m: &mut [u16; 352],
     marks: &[u16; 368],
-    t: &[u16; 1104],
+    t: &[u16; 1456],
     ds: &[u16; 176],
     e: usize,
     src: usize,
@@ -171,7 +171,7 @@ fn comers(
 pub fn follow(
     m: &mut [u16; 352],
     marks: &[u16; 368],
-    t: &[u16; 1104],
+    t: &[u16; 1456],
     ds: &[u16; 176],
     e: usize,
     j: usize,
@@ -196,7 +196,7 @@ pub fn follow(
 pub fn come_after(
     m: &mut [u16; 352],
     marks: &[u16; 368],
-    t: &[u16; 1104],
+    t: &[u16; 1456],
     ds: &[u16; 176],
     e: usize,
     j: usize,

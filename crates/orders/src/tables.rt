@@ -14,6 +14,8 @@ ghost use Rattle.orders.specs.Tables.{
   limitIn,
   weightIn,
   freeIn,
+  restIn,
+  lastIn,
   sharedIn,
   followingIn,
   opposingIn,
@@ -22,6 +24,7 @@ ghost use Rattle.orders.specs.Tables.{
   stopAfter,
   limitOf,
   nextLeg,
+  lastLeg,
   shares,
   tablesOf,
 };
@@ -40,67 +43,81 @@ fn place(x: u16) -> usize
     x as usize
 }
 
-pub fn run_at(t: &[u16; 1104], e: usize) -> u16
-    requires { ⌜ (length (now t) ≡ 1104) × (e < 176) ⌝ }
+pub fn run_at(t: &[u16; 1456], e: usize) -> u16
+    requires { ⌜ (length (now t) ≡ 1456) × (e < 176) ⌝ }
     ensures { λ r. ⌜ r ≡ runIn (now (t .entry)) e ⌝ }
 {
     t[e]
 }
 
-pub fn stop_at(t: &[u16; 1104], e: usize) -> u16
-    requires { ⌜ (length (now t) ≡ 1104) × (e < 176) ⌝ }
+pub fn stop_at(t: &[u16; 1456], e: usize) -> u16
+    requires { ⌜ (length (now t) ≡ 1456) × (e < 176) ⌝ }
     ensures { λ r. ⌜ r ≡ stopIn (now (t .entry)) e ⌝ }
 {
     t[176 + e]
 }
 
-pub fn next_at(t: &[u16; 1104], e: usize) -> usize
-    requires { ⌜ (length (now t) ≡ 1104) × (e < 176) ⌝ }
+pub fn next_at(t: &[u16; 1456], e: usize) -> usize
+    requires { ⌜ (length (now t) ≡ 1456) × (e < 176) ⌝ }
     ensures { λ r. ⌜ r ≡ nextIn (now (t .entry)) e ⌝ }
 {
     place(t[352 + e])
 }
 
-pub fn limit_at(t: &[u16; 1104], e: usize) -> u16
-    requires { ⌜ (length (now t) ≡ 1104) × (e < 176) ⌝ }
+pub fn limit_at(t: &[u16; 1456], e: usize) -> u16
+    requires { ⌜ (length (now t) ≡ 1456) × (e < 176) ⌝ }
     ensures { λ r. ⌜ r ≡ limitIn (now (t .entry)) e ⌝ }
 {
     t[528 + e]
 }
 
-pub fn weight_at(t: &[u16; 1104], e: usize) -> u16
-    requires { ⌜ (length (now t) ≡ 1104) × (e < 176) ⌝ }
+pub fn weight_at(t: &[u16; 1456], e: usize) -> u16
+    requires { ⌜ (length (now t) ≡ 1456) × (e < 176) ⌝ }
     ensures { λ r. ⌜ r ≡ weightIn (now (t .entry)) e ⌝ }
 {
     t[704 + e]
 }
 
-pub fn free_at(t: &[u16; 1104], e: usize) -> u16
-    requires { ⌜ (length (now t) ≡ 1104) × (e < 176) ⌝ }
+pub fn free_at(t: &[u16; 1456], e: usize) -> u16
+    requires { ⌜ (length (now t) ≡ 1456) × (e < 176) ⌝ }
     ensures { λ r. ⌜ r ≡ freeIn (now (t .entry)) e ⌝ }
 {
     t[880 + e]
 }
 
-pub fn shared_at(t: &[u16; 1104], p: usize) -> bool
-    requires { ⌜ (length (now t) ≡ 1104) × (p < 11) ⌝ }
+pub fn rest_at(t: &[u16; 1456], e: usize) -> u16
+    requires { ⌜ (length (now t) ≡ 1456) × (e < 176) ⌝ }
+    ensures { λ r. ⌜ r ≡ restIn (now (t .entry)) e ⌝ }
+{
+    t[1056 + e]
+}
+
+pub fn last_at(t: &[u16; 1456], e: usize) -> usize
+    requires { ⌜ (length (now t) ≡ 1456) × (e < 176) ⌝ }
+    ensures { λ r. ⌜ r ≡ lastIn (now (t .entry)) e ⌝ }
+{
+    place(t[1232 + e])
+}
+
+pub fn shared_at(t: &[u16; 1456], p: usize) -> bool
+    requires { ⌜ (length (now t) ≡ 1456) × (p < 11) ⌝ }
     ensures { λ r. ⌜ r ≡ eqb (sharedIn (now (t .entry)) p) 1 ⌝ }
 {
-    t[1056 + p] == 1
+    t[1408 + p] == 1
 }
 
-pub fn following_at(t: &[u16; 1104], p: usize) -> u16
-    requires { ⌜ (length (now t) ≡ 1104) × (p < 11) ⌝ }
+pub fn following_at(t: &[u16; 1456], p: usize) -> u16
+    requires { ⌜ (length (now t) ≡ 1456) × (p < 11) ⌝ }
     ensures { λ r. ⌜ r ≡ followingIn (now (t .entry)) p ⌝ }
 {
-    t[1072 + p]
+    t[1424 + p]
 }
 
-pub fn opposing_at(t: &[u16; 1104], p: usize) -> u16
-    requires { ⌜ (length (now t) ≡ 1104) × (p < 11) ⌝ }
+pub fn opposing_at(t: &[u16; 1456], p: usize) -> u16
+    requires { ⌜ (length (now t) ≡ 1456) × (p < 11) ⌝ }
     ensures { λ r. ⌜ r ≡ opposingIn (now (t .entry)) p ⌝ }
 {
-    t[1088 + p]
+    t[1440 + p]
 }
 
 // The leg of a train on a segment that it uses.
@@ -169,6 +186,17 @@ fn next_leg(train: Train, k: usize, e: usize) -> u16
     next as u16
 }
 
+// The entry of a train's last leg, from that of any.
+fn last_leg(train: Train, e: usize) -> u16
+    requires { ⌜ TrainWithin 12 train × (e < 176) ⌝ }
+    ensures { λ r. ⌜ r ≡ lastLeg e train ⌝ }
+{
+    let legs = legs_between(train.origin, train.destination);
+    let p = segment_between(train.origin, train.destination, legs - 1);
+    let last = 16 * p + e % 16;
+    last as u16
+}
+
 // The latest arrival after leg k from which a train still ends in time.
 fn limit_of(train: Train, k: usize) -> u16
     requires { ⌜ TrainWithin 12 train × (k < legsOf train) ⌝ }
@@ -184,7 +212,7 @@ fn limit_of(train: Train, k: usize) -> u16
 
 // Entry e of table n, where it is a leg of the train.
 fn leg_entry(n: usize, train: Train, e: usize) -> u16
-    requires { ⌜ TrainWithin 12 train × (n < 6) × (e < 176) × Uses train (e / 16) ⌝ }
+    requires { ⌜ TrainWithin 12 train × (n < 8) × (e < 176) × Uses train (e / 16) ⌝ }
     ensures { λ r. ⌜ r ≡ legEntry n train e ⌝ }
 {
     let k = leg_on(train, e / 16);
@@ -200,7 +228,14 @@ fn leg_entry(n: usize, train: Train, e: usize) -> u16
     if n == 3 {
         return limit_of(train, k);
     }
-    if k + 1 < legs_between(train.origin, train.destination) {
+    let after = legs_between(train.origin, train.destination) - 1 - k;
+    if n == 6 {
+        return rest_of(train, after);
+    }
+    if n == 7 {
+        return last_leg(train, e);
+    }
+    if after > 0 {
         return 0;
     }
     if n == 4 {
@@ -214,7 +249,13 @@ fn no_leg_entry(n: usize, e: usize) -> u16
     requires { ⌜ e < 176 ⌝ }
     ensures { λ r. ⌜ r ≡ noLegEntry n e ⌝ }
 {
-    if n == 2 { e as u16 } else { 0 }
+    if n == 2 {
+        return e as u16;
+    }
+    if n == 7 {
+        return e as u16;
+    }
+    0
 }
 
 fn shared(kind: Kind) -> u16
@@ -242,14 +283,14 @@ fn segment_entry(n: usize, segment: Segment) -> u16
 }
 
 // The tables of a line within the limits, entry after entry.
-pub fn tables_of(line: Line) -> [u16; 1104]
+pub fn tables_of(line: Line) -> [u16; 1456]
     requires { ⌜ Within line ⌝ }
     ensures { λ r. ⌜ r ≡ tablesOf line ⌝ }
 {
     let ds = directions_of(line);
-    let mut table = [0u16; 1104];
+    let mut table = [0u16; 1456];
     let mut x: usize = 0;
-    while x < 1056 {
+    while x < 1408 {
         let n = x / 176;
         let e = x % 176;
         let mut entry = no_leg_entry(n, e);
@@ -261,9 +302,9 @@ pub fn tables_of(line: Line) -> [u16; 1104]
         x = x + 1;
     }
     let segments = line.station_count as usize - 1;
-    while x < 1104 {
-        let n = (x - 1056) / 16;
-        let p = (x - 1056) % 16;
+    while x < 1456 {
+        let n = (x - 1408) / 16;
+        let p = (x - 1408) % 16;
         let mut entry: u16 = 0;
         if p < segments {
             let segment = line.segments[p];

@@ -72,8 +72,8 @@ fn wide(x: u16) -> u32
 }
 
 // What it costs more that leg e arrives at `to` and not at `from`.
-pub fn more_cost(t: &[u16; 1104], e: usize, from: u16, to: u16) -> u32
-    requires { ⌜ (length (now t) ≡ 1104) × (e < 176) × (weightIn (now t) e ≤ 99) × (from ≤ to) × (to ≤ 2879) ⌝ }
+pub fn more_cost(t: &[u16; 1456], e: usize, from: u16, to: u16) -> u32
+    requires { ⌜ (length (now t) ≡ 1456) × (e < 176) × (weightIn (now t) e ≤ 99) × (from ≤ to) × (to ≤ 2879) ⌝ }
     ensures { λ r. ⌜ (r ≡ moreCost (now (t .entry)) e from to) × (r ≤ 285021) ⌝ }
 {
     let weight = weight_at(t, e);

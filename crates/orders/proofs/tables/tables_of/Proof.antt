@@ -14,22 +14,22 @@ use Rattle.orders.proofs.tables.tables_of.Statement.{statement}
 use Rattle.orders.proofs.tables.tables_of.Tie as tie
 
 abbrev Inv-loop : tie.InvT-loop
-Inv-loop line ds table₀ x₀ table x = (x ≤ 1056) × Begun (entryAt line) 1104 x table
+Inv-loop line ds table₀ x₀ table x = (x ≤ 1408) × Begun (entryAt line) 1456 x table
 
 abbrev μ-loop : tie.MeasureT-loop
-μ-loop line ds table₀ x₀ table x = 1056 - x
+μ-loop line ds table₀ x₀ table x = 1408 - x
 
 abbrev Inv-loop2 : tie.InvT-loop2
-Inv-loop2 line table₀ x₀ segments table x = (1056 ≤ x) × (x ≤ 1104) × Begun (entryAt line) 1104 x table
+Inv-loop2 line table₀ x₀ segments table x = (1408 ≤ x) × (x ≤ 1456) × Begun (entryAt line) 1456 x table
 
 abbrev μ-loop2 : tie.MeasureT-loop2
-μ-loop2 line table₀ x₀ segments table x = 1104 - x
+μ-loop2 line table₀ x₀ segments table x = 1456 - x
 
 directions-of-requires : tie.Need-directions-of-requires Inv-loop μ-loop Inv-loop2 μ-loop2
 directions-of-requires c κs = c .pre .trains .1
 
 loop-holds : tie.Need-loop-holds Inv-loop μ-loop Inv-loop2 μ-loop2
-loop-holds c = (omega arith, begun-none _ 1104)
+loop-holds c = (omega arith, begun-none _ 1456)
 
 no-leg-entry-requires : tie.Need-no-leg-entry-requires Inv-loop μ-loop Inv-loop2 μ-loop2
 no-leg-entry-requires c κs = search needs
@@ -88,7 +88,7 @@ loop-again c =
     (λ h. h .1 ∙ c .before .no-leg-entry .ensures ∙ no-leg-is (a .args .t1) (w .x % 176) (w .x / 176) (omega arith)
     (leg-not (a .args .t1) (w .x % 176) _ few (omega arith) ds (h .0 .left)))
     (c .if1 .came) in
-    (omega arith, begun-more (entryAt (a .args .t1)) 1104 (w .x) _ _ (w .inv .1) (omega arith) entry)
+    (omega arith, begun-more (entryAt (a .args .t1)) 1456 (w .x) _ _ (w .inv .1) (omega arith) entry)
 
 cast-segments : tie.Need-cast-segments Inv-loop μ-loop Inv-loop2 μ-loop2
 cast-segments c = search needs
@@ -135,7 +135,7 @@ loop2-again c =
     (λ h. h .3 ∙ h .2 .ensures ∙ segment-at (a .args .t1) (w .x) (w .inv .0) b (h .0 .taken))
     (λ h. h .1 ∙ no-segment-at (a .args .t1) (w .x) (w .inv .0) b (h .0 .left))
     (c .if2 .came) in
-    (omega arith, omega arith, begun-more (entryAt (a .args .t1)) 1104 (w .x) _ _ (w .inv .2) b entry)
+    (omega arith, omega arith, begun-more (entryAt (a .args .t1)) 1456 (w .x) _ _ (w .inv .2) b entry)
 
 returns : tie.Need-returns Inv-loop μ-loop Inv-loop2 μ-loop2
 returns c = tables-made _ _ _ (c .before .loop2 .inv .2) (omega (arith, c .before .loop2 .inv .1, c .loop2-test .left))
