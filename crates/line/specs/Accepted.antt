@@ -37,14 +37,16 @@ pub record NumberSpelt (r : Limits) (b : ℕ) (s : List ℕ) (c : Cursor) (n : �
   pub range : In r n
   pub text : from s c ≡ field n b (from s next)
 
-number-spelt : (r : Limits) (b p : ℕ) (s : List ℕ) (c : Cursor) (n : ℕ) (next : Cursor) → b < 256 → number r b p s c ≡ Parsed.got n next → NumberSpelt r b s c n next
+number-spelt : (r : Limits) (b p : ℕ) (s : List ℕ) (c : Cursor) (n : ℕ) (next : Cursor) → b < 256 → number r b p s c ≡ Parsed.got n next →
+    NumberSpelt r b s c n next
 number-spelt r b p s c n next h e =
     let a = ranged-spelt 2 3 (r .min) (r .max) b p s c n next h e in
     record { range = (a .low, a .high); text = a .text }
 
 -- ---- stations
 
-station-spelt : (s : List ℕ) (p : ℕ) (c : Cursor) (t : ℕ) (next : Cursor) → stationLine p s c ≡ Parsed.got t next → PartSpelt (In tracks) stationText stationLine s c t next
+station-spelt : (s : List ℕ) (p : ℕ) (c : Cursor) (t : ℕ) (next : Cursor) → stationLine p s c ≡ Parsed.got t next →
+    PartSpelt (In tracks) stationText stationLine s c t next
 station-spelt s p c t next e =
     let a = number-spelt tracks 10 p s c t next (omega arith) e in
     record { valid = a .range; spelt = a .text }
@@ -55,7 +57,8 @@ kind-spelt : (p : ℕ) (s : List ℕ) (c : Cursor) (k : Kind) (next : Cursor) �
 unfolding kindAt
 kind-spelt p s c k next e = go (letterOf (byteAt s c)) refl e
   where
-    step : (m : Kind) → letterOf (byteAt s c) ≡ Letter.Found m → (y : Step) → pastOf s (ahead c) 32 ≡ y → onStep y (λ x. Parsed.got m x) (Parsed.bad 2 p) ≡ Parsed.got k next → from s c ≡ letterByte k ∷ (32 ∷ from s next)
+    step : (m : Kind) → letterOf (byteAt s c) ≡ Letter.Found m → (y : Step) → pastOf s (ahead c) 32 ≡ y →
+        onStep y (λ x. Parsed.got m x) (Parsed.bad 2 p) ≡ Parsed.got k next → from s c ≡ letterByte k ∷ (32 ∷ from s next)
     step m hx (Step.Next x) hy f =
         let q : m ≡ k = cc in
         let z : x ≡ next = cc in
@@ -64,11 +67,14 @@ kind-spelt p s c k next e = go (letterOf (byteAt s c)) refl e
         rw (← q, ← z) (t ∙ ap (λ (l : List ℕ). letterByte m ∷ l) (past-spelt s (ahead c) x 32 (omega arith) hy))
     step m hx Step.Wrong hy f = let z : _≡_ {A = ℕ} 0 1 = cc in absurd (omega arith)
 
-    go : (x : Letter) → letterOf (byteAt s c) ≡ x → onLetter x (λ m. onStep (pastOf s (ahead c) 32) (λ y. Parsed.got m y) (Parsed.bad 2 p)) (Parsed.bad 2 p) ≡ Parsed.got k next → from s c ≡ letterByte k ∷ (32 ∷ from s next)
+    go : (x : Letter) → letterOf (byteAt s c) ≡ x →
+        onLetter x (λ m. onStep (pastOf s (ahead c) 32) (λ y. Parsed.got m y) (Parsed.bad 2 p)) (Parsed.bad 2 p) ≡ Parsed.got k next →
+        from s c ≡ letterByte k ∷ (32 ∷ from s next)
     go (Letter.Found m) hx f = step m hx (pastOf s (ahead c) 32) refl f
     go Letter.Other hx f = let z : _≡_ {A = ℕ} 0 1 = cc in absurd (omega arith)
 
-segment-spelt : (s : List ℕ) (p : ℕ) (c : Cursor) (g : Segment) (next : Cursor) → segmentLine p s c ≡ Parsed.got g next → PartSpelt SegmentWithin segmentText segmentLine s c g next
+segment-spelt : (s : List ℕ) (p : ℕ) (c : Cursor) (g : Segment) (next : Cursor) → segmentLine p s c ≡ Parsed.got g next →
+    PartSpelt SegmentWithin segmentText segmentLine s c g next
 unfolding segmentLine
 segment-spelt s p c g next e =
     let k = then-got (kindAt p s c) _ g next e in
@@ -103,7 +109,8 @@ path-spelt n p s c h next e =
     (from-o .text ∙ ap (λ (l : List ℕ). field (o .value) 32 l) (to-d .text))
     (d .after)
   where
-    go : (o d : ℕ) (m : Cursor) (b : Bool) → eqb d o ≡ b → In (station n) o → In (station n) d → from s c ≡ field o 32 (field d 32 (from s m)) → pick b (Parsed.bad 4 p) (Parsed.got (record { origin = o; destination = d }) m) ≡ Parsed.got h next → PathSpelt n s c h next
+    go : (o d : ℕ) (m : Cursor) (b : Bool) → eqb d o ≡ b → In (station n) o → In (station n) d → from s c ≡ field o 32 (field d 32 (from s m)) →
+        pick b (Parsed.bad 4 p) (Parsed.got (record { origin = o; destination = d }) m) ≡ Parsed.got h next → PathSpelt n s c h next
     go o d m true q io id t f = let z : _≡_ {A = ℕ} 0 1 = cc in absurd (omega arith)
     go o d m false q io id t f =
         let same : _≡_ {A = Path} (record { origin = o; destination = d }) h = cc in
@@ -165,7 +172,8 @@ unfolding journeyAt
 journey-spelt zero p s c j next e =
     let r = then-got (number run 10 p s c) _ j next e in
     let last = number-spelt run 10 p s c (r .value) (r .next) (omega arith) (r .first) in
-    got-is (λ x end. JourneySpelt 0 s c x end) (r .after) (record { many-runs = refl; many-stops = refl; runs = (last .range, tt); stops = tt; text = last .text })
+    got-is (λ x end. JourneySpelt 0 s c x end) (r .after)
+    (record { many-runs = refl; many-stops = refl; runs = (last .range, tt); stops = tt; text = last .text })
 journey-spelt (suc k) p s c j next e =
     let r = then-got (number run 32 p s c) _ j next e in
     let t = then-got (number stop 32 p s (r .next)) _ j next (r .after) in
@@ -190,17 +198,23 @@ pub record TrainRead (n : ℕ) (t : Train) : Type 0 where
   pub arrays : TrainArrays t
   pub tidy : tidyTrain t ≡ t
 
-tidy-is : (h : Head) (rs ts : List ℕ) → take (legsBetween (h .origin) (h .destination)) (padded 11 0 rs) ≡ rs → take (legsBetween (h .origin) (h .destination) - 1) (padded 11 0 ts) ≡ ts → tidyTrain (trainWith h (padded 11 0 rs) (padded 11 0 ts)) ≡ trainWith h (padded 11 0 rs) (padded 11 0 ts)
+tidy-is : (h : Head) (rs ts : List ℕ) → take (legsBetween (h .origin) (h .destination)) (padded 11 0 rs) ≡ rs →
+    take (legsBetween (h .origin) (h .destination) - 1) (padded 11 0 ts) ≡ ts →
+    tidyTrain (trainWith h (padded 11 0 rs) (padded 11 0 ts)) ≡ trainWith h (padded 11 0 rs) (padded 11 0 ts)
 unfolding tidyTrain
 tidy-is h rs ts e f = λ i. trainWith h (padded 11 0 (e i)) (padded 11 0 (f i))
 
 module _ (n : ℕ) (few : n ≤ 12) (s : List ℕ) where
-  train-read : (c m : Cursor) (h : Head) (j : Journey) (end : Cursor) → HeadSpelt n s c h m → JourneySpelt (legsBetween (h .origin) (h .destination) - 1) s m j end → PartSpelt (TrainRead n) trainText (trainLine n) s c (trainWith h (padded 11 0 (j .runs)) (padded 11 0 (j .stops))) end
+  train-read : (c m : Cursor) (h : Head) (j : Journey) (end : Cursor) → HeadSpelt n s c h m →
+      JourneySpelt (legsBetween (h .origin) (h .destination) - 1) s m j end →
+      PartSpelt (TrainRead n) trainText (trainLine n) s c (trainWith h (padded 11 0 (j .runs)) (padded 11 0 (j .stops))) end
   train-read c m h j end a b =
       let legs = path-legs n (h .origin) (h .destination) few (a .origin) (a .destination) (a .apart) in
       let many : length (j .runs) ≡ legsBetween (h .origin) (h .destination) = b .many-runs ∙ (omega (arith, legs .0)) in
-      let rs : take (legsBetween (h .origin) (h .destination)) (padded 11 0 (j .runs)) ≡ j .runs = rw many at (take-padded 11 0 (j .runs) (omega (arith, many, legs .1))) in
-      let ts : take (legsBetween (h .origin) (h .destination) - 1) (padded 11 0 (j .stops)) ≡ j .stops = rw (b .many-stops) at (take-padded 11 0 (j .stops) (omega (arith, b .many-stops, legs .1))) in
+      let rs : take (legsBetween (h .origin) (h .destination)) (padded 11 0 (j .runs)) ≡ j .runs = rw many at
+      (take-padded 11 0 (j .runs) (omega (arith, many, legs .1))) in
+      let ts : take (legsBetween (h .origin) (h .destination) - 1) (padded 11 0 (j .stops)) ≡ j .stops = rw (b .many-stops) at
+      (take-padded 11 0 (j .stops) (omega (arith, b .many-stops, legs .1))) in
       record {
         valid = record {
           limits = record {
@@ -218,23 +232,27 @@ module _ (n : ℕ) (few : n ≤ 12) (s : List ℕ) where
         };
         spelt =
             a .text
-            ∙ ap (λ (l : List ℕ). field (h .origin) 32 (field (h .destination) 32 (field (h .earliest) 32 (field (h .latest) 32 (field (h .weight) 32 l))))) (b .text)
+            ∙ ap (λ (l : List ℕ). field (h .origin) 32 (field (h .destination) 32 (field (h .earliest) 32 (field (h .latest) 32 (field (h .weight) 32 l)))))
+            (b .text)
             ∙ (rw (rs, ts) refl);
       }
 
-  train-spelt : (p : ℕ) (c : Cursor) (t : Train) (next : Cursor) → trainLine n p s c ≡ Parsed.got t next → PartSpelt (TrainRead n) trainText (trainLine n) s c t next
+  train-spelt : (p : ℕ) (c : Cursor) (t : Train) (next : Cursor) → trainLine n p s c ≡ Parsed.got t next →
+      PartSpelt (TrainRead n) trainText (trainLine n) s c t next
   unfolding trainLine
   train-spelt p c t next e =
       let h = then-got (headAt n p s c) _ t next e in
       let j = then-got (journeyAt (legsBetween (h .value .origin) (h .value .destination) - 1) p s (h .next)) _ t next (h .after) in
       got-is (λ x end. PartSpelt (TrainRead n) trainText (trainLine n) s c x end) (j .after)
-      (train-read c (h .next) (h .value) (j .value) (j .next) (head-spelt n p s c (h .value) (h .next) (h .first)) (journey-spelt _ p s (h .next) (j .value) (j .next) (j .first)))
+      (train-read c (h .next) (h .value) (j .value) (j .next) (head-spelt n p s c (h .value) (h .next) (h .first))
+      (journey-spelt _ p s (h .next) (j .value) (j .next) (j .first)))
 
 -- ---- the sections
 
 -- the record of a line with these stations, segments and trains
 abbrev pub lineOf : ℕ → List ℕ → List Segment → ℕ → List Train → Line
-lineOf n ts gs t trs = record { «station_count» = n; tracks = padded 12 0 ts; segments = padded 11 noSegment gs; «train_count» = t; trains = padded 12 noTrain trs }
+lineOf n ts gs t trs =
+    record { «station_count» = n; tracks = padded 12 0 ts; segments = padded 11 noSegment gs; «train_count» = t; trains = padded 12 noTrain trs }
 
 -- the trains, from their count to the end of the file
 pub record TrainsRead (n : ℕ) (ts : List ℕ) (gs : List Segment) (s : List ℕ) (c : Cursor) (l : Line) : Type 0 where
@@ -246,7 +264,8 @@ pub record TrainsRead (n : ℕ) (ts : List ℕ) (gs : List Segment) (s : List �
   pub line : l ≡ record { «station_count» = n; tracks = ts; segments = gs; «train_count» = t; trains = padded 12 noTrain trs }
   pub text : from s c ≡ field t 10 (eachThen trainText trs [])
 
-trains-spelt : (n : ℕ) → n ≤ 12 → (ts : List ℕ) (gs : List Segment) (s : List ℕ) (c : Cursor) (l : Line) (end : Cursor) → trainsPart n ts gs s c ≡ Parsed.got l end → TrainsRead n ts gs s c l
+trains-spelt : (n : ℕ) → n ≤ 12 → (ts : List ℕ) (gs : List Segment) (s : List ℕ) (c : Cursor) (l : Line) (end : Cursor) →
+    trainsPart n ts gs s c ≡ Parsed.got l end → TrainsRead n ts gs s c l
 unfolding trainsPart
 trains-spelt n h ts gs s c l end e =
     let t = then-got (number trainCount 10 (n + n + 2) s c) _ l end e in
@@ -257,7 +276,15 @@ trains-spelt n h ts gs s c l end e =
     (count .text ∙ ap (λ (r : List ℕ). field (t .value) 10 r) (lines .spelt))
     (ltb (trs .next .at) (length s)) refl (trs .after)
   where
-    go : (t : ℕ) (trs : List Train) (last : Cursor) → In trainCount t → length trs ≡ t → Each (TrainRead n) trs → from s c ≡ field t 10 (eachThen trainText trs (from s last)) → (b : Bool) → ltb (last .at) (length s) ≡ b → pick b (Parsed.bad 2 (n + n + 3 + t)) (Parsed.got (record { «station_count» = n; tracks = ts; segments = gs; «train_count» = t; trains = padded 12 noTrain trs }) last) ≡ Parsed.got l end → TrainsRead n ts gs s c l
+    go : (t : ℕ) (trs : List Train) (last : Cursor) → In trainCount t → length trs ≡ t → Each (TrainRead n) trs →
+        from s c ≡ field t 10 (eachThen trainText trs (from s last)) → (b : Bool) → ltb (last .at) (length s) ≡ b →
+        pick b (Parsed.bad 2 (n + n + 3 + t)) (Parsed.got (record {
+          «station_count» = n;
+          tracks = ts;
+          segments = gs;
+          «train_count» = t;
+          trains = padded 12 noTrain trs;
+        }) last) ≡ Parsed.got l end → TrainsRead n ts gs s c l
     go t trs last i m v x true q f = let z : _≡_ {A = ℕ} 0 1 = cc in absurd (omega arith)
     go t trs last i m v x false q f =
         let none : from s last ≡ [] = drop-of-length-le s (ltb-false (last .at) (length s) q) in
@@ -279,7 +306,8 @@ pub record SegmentsRead (n : ℕ) (ts : List ℕ) (s : List ℕ) (c : Cursor) (l
   pub rest : TrainsRead n ts (padded 11 noSegment gs) s next l
   pub text : from s c ≡ field (n - 1) 10 (eachThen segmentText gs (from s next))
 
-segments-spelt : (n : ℕ) → n ≤ 12 → (ts : List ℕ) (s : List ℕ) (c : Cursor) (l : Line) (end : Cursor) → segmentsPart n ts s c ≡ Parsed.got l end → SegmentsRead n ts s c l
+segments-spelt : (n : ℕ) → n ≤ 12 → (ts : List ℕ) (s : List ℕ) (c : Cursor) (l : Line) (end : Cursor) → segmentsPart n ts s c ≡ Parsed.got l end →
+    SegmentsRead n ts s c l
 unfolding segmentsPart
 segments-spelt n h ts s c l end e =
     let m = then-got (number (record { min = n - 1; max = n - 1 }) 10 (n + 2) s c) _ l end e in
@@ -343,7 +371,8 @@ stations-spelt s l end e =
           count .text
           ∙ ap (λ (r : List ℕ). field (n .value) 10 r) (lines .spelt)
           ∙ ap (λ (r : List ℕ). field (n .value) 10 (eachThen stationText (ts .value) r)) (joins .text)
-          ∙ ap (λ (r : List ℕ). field (n .value) 10 (eachThen stationText (ts .value) (field (n .value - 1) 10 (eachThen segmentText (joins .gs) r)))) (rest .text);
+          ∙ ap (λ (r : List ℕ). field (n .value) 10 (eachThen stationText (ts .value) (field (n .value - 1) 10 (eachThen segmentText (joins .gs) r))))
+          (rest .text);
     }
 
 pub file-spelt : (s : List ℕ) (l : Line) (end : Cursor) → lineFile s ≡ Parsed.got l end → LineRead s l

@@ -46,7 +46,8 @@ module _ {A : Type 0} (f : ℕ → A → Fault) (xs : List A) (count i p : ℕ) 
   unfolding linesFault
   lines-found d h e g = rw (left-cons count xs i (length-take-le count xs room) d h) (found-first _ e g)
 
-  pub lines-clean : {r : Fault} (d : A) (q : ℕ) → q ≡ p + 1 → i < count → r ≡ f p (getD xs i d) → r ≡ Fault.None → linesFault (drop (i + 1) (take count xs)) f q ≡ linesFault (drop i (take count xs)) f p
+  pub lines-clean : {r : Fault} (d : A) (q : ℕ) → q ≡ p + 1 → i < count → r ≡ f p (getD xs i d) → r ≡ Fault.None →
+      linesFault (drop (i + 1) (take count xs)) f q ≡ linesFault (drop i (take count xs)) f p
   unfolding linesFault
   lines-clean d q w h e g = rw (left-cons count xs i (length-take-le count xs room) d h, w) (found-later e g refl)
 

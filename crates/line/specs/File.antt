@@ -100,7 +100,8 @@ journeyAt (suc k) p s c =
 
 -- the train of a line's head, with its runs and stops as arrays
 abbrev pub trainWith : Head → List ℕ → List ℕ → Train
-trainWith h rs ts = record { origin = h .origin; destination = h .destination; earliest = h .earliest; latest = h .latest; weight = h .weight; runs = rs; stops = ts }
+trainWith h rs ts =
+    record { origin = h .origin; destination = h .destination; earliest = h .earliest; latest = h .latest; weight = h .weight; runs = rs; stops = ts }
 
 unfoldable pub trainLine : ℕ → ℕ → List ℕ → Cursor → Parsed Train
 trainLine n p s c =

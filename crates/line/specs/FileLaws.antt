@@ -32,7 +32,8 @@ pub letter-byte : (b : ℕ) (k : Kind) → letterOf b ≡ Letter.Found k → b �
 unfolding letterOf
 letter-byte b k e = go (eqb b 83) (eqb b 70) (eqb b 68) refl refl refl e
   where
-    go : (p q r : Bool) → eqb b 83 ≡ p → eqb b 70 ≡ q → eqb b 68 ≡ r → pick p (Letter.Found Kind.S) (pick q (Letter.Found Kind.F) (pick r (Letter.Found Kind.D) Letter.Other)) ≡ Letter.Found k → b ≡ letterByte k
+    go : (p q r : Bool) → eqb b 83 ≡ p → eqb b 70 ≡ q → eqb b 68 ≡ r →
+        pick p (Letter.Found Kind.S) (pick q (Letter.Found Kind.F) (pick r (Letter.Found Kind.D) Letter.Other)) ≡ Letter.Found k → b ≡ letterByte k
     go true q r hp hq hr h = let z : Kind.S ≡ k = cc in eqb-true b 83 hp ∙ ap letterByte z
     go false true r hp hq hr h = let z : Kind.F ≡ k = cc in eqb-true b 70 hq ∙ ap letterByte z
     go false false true hp hq hr h = let z : Kind.D ≡ k = cc in eqb-true b 68 hr ∙ ap letterByte z
@@ -62,7 +63,8 @@ module _ (p : ℕ) (s : List ℕ) (c : Cursor) where
       unfolding segmentLine
       segment-no-opposing e = rw (kind, following, e) refl
 
-      pub segment-got : {o : ℕ} {c₃ : Cursor} → number gap 10 p s c₂ ≡ Parsed.got o c₃ → segmentLine p s c ≡ Parsed.got (record { kind = k; following = f; opposing = o }) c₃
+      pub segment-got : {o : ℕ} {c₃ : Cursor} → number gap 10 p s c₂ ≡ Parsed.got o c₃ →
+          segmentLine p s c ≡ Parsed.got (record { kind = k; following = f; opposing = o }) c₃
       unfolding segmentLine
       segment-got e = rw (kind, following, e) refl
 
@@ -109,6 +111,7 @@ module _ (k p : ℕ) (s : List ℕ) (c : Cursor) where
         unfolding headAt
         head-no-weight e = rw (path, earliest, latest, e) refl
 
-        pub head-got : {w : ℕ} {c₄ : Cursor} → number weight 32 p s c₃ ≡ Parsed.got w c₄ → headAt k p s c ≡ Parsed.got (record { origin = x .origin; destination = x .destination; earliest = t; latest = u; weight = w }) c₄
+        pub head-got : {w : ℕ} {c₄ : Cursor} → number weight 32 p s c₃ ≡ Parsed.got w c₄ →
+            headAt k p s c ≡ Parsed.got (record { origin = x .origin; destination = x .destination; earliest = t; latest = u; weight = w }) c₄
         unfolding headAt
         head-got e = rw (path, earliest, latest, e) refl

@@ -41,7 +41,8 @@ other-runs : (rs : List ℕ) → Each (In run) rs → Each (In run) (drop 1 rs)
 other-runs [] e = tt
 other-runs (r ∷ rs) e = e .1
 
-journey-length : (ts rs : List ℕ) → Each (In stop) ts → Each (In run) rs → (m : ℕ) (rest : List ℕ) → length rest ≤ m → length (journeyText ts rs rest) ≤ m + 5 + 10 * length ts
+journey-length : (ts rs : List ℕ) → Each (In stop) ts → Each (In run) rs → (m : ℕ) (rest : List ℕ) → length rest ≤ m →
+    length (journeyText ts rs rest) ≤ m + 5 + 10 * length ts
 journey-length [] rs s r m rest h = omega (arith, field-length (getD rs 0 0) 10 m rest (first-run rs r) h)
 journey-length (t ∷ ts) rs s r m rest h =
     let leg : length (journeyText (t ∷ ts) rs rest) ≤ m + 5 + 10 * length ts + 5 + 5 =
@@ -65,7 +66,8 @@ train-length n few t w m rest h =
 
 -- ---- a part of at most k bytes for each of the first n elements
 
-module _ {A : Type 0} (P : A → Type 0) (text : A → List ℕ → List ℕ) (k : ℕ) (short : (x : A) → P x → (m : ℕ) (rest : List ℕ) → length rest ≤ m → length (text x rest) ≤ m + k) where
+module _ {A : Type 0} (P : A → Type 0) (text : A → List ℕ → List ℕ) (k : ℕ)
+    (short : (x : A) → P x → (m : ℕ) (rest : List ℕ) → length rest ≤ m → length (text x rest) ≤ m + k) where
   pub each-length : (n : ℕ) (xs : List A) → Each P (take n xs) → (m : ℕ) (rest : List ℕ) → length rest ≤ m → length (eachThen text (take n xs) rest) ≤ m + n * k
   each-length zero xs e m rest h = omega arith
   each-length (suc n) [] e m rest h = omega arith

@@ -58,7 +58,8 @@ kind-reads p s c k rest e =
       leaves = from-ahead s (ahead c) 32 rest after;
     }
 
-segment-reads : (s : List ℕ) (p : ℕ) (c : Cursor) (g : Segment) (rest : List ℕ) → SegmentWithin g → from s c ≡ segmentText g rest → Reads (segmentLine p s c) g s rest
+segment-reads : (s : List ℕ) (p : ℕ) (c : Cursor) (g : Segment) (rest : List ℕ) → SegmentWithin g → from s c ≡ segmentText g rest →
+    Reads (segmentLine p s c) g s rest
 unfolding segmentLine
 segment-reads s p c g rest w e =
     reads-then _ (kind-reads p s c (g .kind) (field (g .following) 32 (field (g .opposing) 10 rest)) e)
@@ -68,7 +69,8 @@ segment-reads s p c g rest w e =
 
 -- ---- trains
 
-path-reads : (n p : ℕ) (s : List ℕ) (c : Cursor) (o d : ℕ) (rest : List ℕ) → n ≤ 12 → In (station n) o → In (station n) d → (d ≡ o → ⊥) → from s c ≡ field o 32 (field d 32 rest) → Reads (pathAt n p s c) (record { origin = o; destination = d }) s rest
+path-reads : (n p : ℕ) (s : List ℕ) (c : Cursor) (o d : ℕ) (rest : List ℕ) → n ≤ 12 → In (station n) o → In (station n) d → (d ≡ o → ⊥) →
+    from s c ≡ field o 32 (field d 32 rest) → Reads (pathAt n p s c) (record { origin = o; destination = d }) s rest
 unfolding pathAt
 path-reads n p s c o d rest few io id apart e =
     reads-then _ (before-space (station n) p s c o (field d 32 rest) io (omega arith) e)
@@ -79,16 +81,19 @@ path-reads n p s c o d rest few io id apart e =
 abbrev headOf : Train → Head
 headOf t = record { origin = t .origin; destination = t .destination; earliest = t .earliest; latest = t .latest; weight = t .weight }
 
-head-reads : (n p : ℕ) (s : List ℕ) (c : Cursor) (t : Train) (rest : List ℕ) → n ≤ 12 → TrainWithin n t → from s c ≡ headText t rest → Reads (headAt n p s c) (headOf t) s rest
+head-reads : (n p : ℕ) (s : List ℕ) (c : Cursor) (t : Train) (rest : List ℕ) → n ≤ 12 → TrainWithin n t → from s c ≡ headText t rest →
+    Reads (headAt n p s c) (headOf t) s rest
 unfolding headAt
 head-reads n p s c t rest few w e =
-    reads-then _ (path-reads n p s c (t .origin) (t .destination) (field (t .earliest) 32 (field (t .latest) 32 (field (t .weight) 32 rest))) few (w .origin) (w .destination) (w .apart) e)
+    reads-then _ (path-reads n p s c (t .origin) (t .destination) (field (t .earliest) 32 (field (t .latest) 32 (field (t .weight) 32 rest))) few (w .origin)
+    (w .destination) (w .apart) e)
     (λ c₁ e₁. reads-then _ (before-space time p s c₁ (t .earliest) (field (t .latest) 32 (field (t .weight) 32 rest)) (w .earliest) (omega arith) e₁)
     (λ c₂ e₂. reads-then _ (before-space time p s c₂ (t .latest) (field (t .weight) 32 rest) (w .latest) (omega arith) e₂)
     (λ c₃ e₃. reads-then _ (before-space weight p s c₃ (t .weight) rest (w .weight) (omega arith) e₃)
     (λ c₄ e₄. at-end (headOf t) c₄ e₄))))
 
-journey-reads : (ts rs : List ℕ) (p : ℕ) (s : List ℕ) (c : Cursor) (rest : List ℕ) → length rs ≡ suc (length ts) → Each (In run) rs → Each (In stop) ts → from s c ≡ journeyText ts rs rest → Reads (journeyAt (length ts) p s c) (record { runs = rs; stops = ts }) s rest
+journey-reads : (ts rs : List ℕ) (p : ℕ) (s : List ℕ) (c : Cursor) (rest : List ℕ) → length rs ≡ suc (length ts) → Each (In run) rs → Each (In stop) ts →
+    from s c ≡ journeyText ts rs rest → Reads (journeyAt (length ts) p s c) (record { runs = rs; stops = ts }) s rest
 unfolding journeyAt
 journey-reads [] [] p s c rest m r t e = absurd (omega arith)
 journey-reads [] (x ∷ []) p s c rest m r t e =
@@ -107,7 +112,8 @@ pub record TrainWritten (n : ℕ) (t : Train) : Type 0 where
   pub arrays : TrainArrays t
 
 -- its line is read as the train with the entries beyond its path emptied
-train-reads : (n : ℕ) → n ≤ 12 → (s : List ℕ) (p : ℕ) (c : Cursor) (t : Train) (rest : List ℕ) → TrainWritten n t → from s c ≡ trainText t rest → Reads (trainLine n p s c) (tidyTrain t) s rest
+train-reads : (n : ℕ) → n ≤ 12 → (s : List ℕ) (p : ℕ) (c : Cursor) (t : Train) (rest : List ℕ) → TrainWritten n t → from s c ≡ trainText t rest →
+    Reads (trainLine n p s c) (tidyTrain t) s rest
 unfolding trainLine tidyTrain
 train-reads n few s p c t rest v e =
     let w = v .limits in
@@ -115,7 +121,8 @@ train-reads n few s p c t rest v e =
     let many-stops : length (stopsOf t) ≡ legsOf t - 1 = length-take-le (legsOf t - 1) (t .stops) (omega (arith, legs .1, v .arrays .1)) in
     let many-runs : length (runsOf t) ≡ legsOf t = length-take-le (legsOf t) (t .runs) (omega (arith, legs .1, v .arrays .0)) in
     reads-then _ (head-reads n p s c t (journeyText (stopsOf t) (runsOf t) rest) few w e)
-    (λ c₁ e₁. reads-then _ (rw many-stops at (journey-reads (stopsOf t) (runsOf t) p s c₁ rest (omega (arith, many-stops, many-runs, legs .0)) (w .runs) (w .stops) e₁))
+    (λ c₁ e₁. reads-then _ (rw many-stops at
+    (journey-reads (stopsOf t) (runsOf t) p s c₁ rest (omega (arith, many-stops, many-runs, legs .0)) (w .runs) (w .stops) e₁))
     (λ c₂ e₂. at-end _ c₂ e₂))
 
 -- ---- the sections
@@ -125,30 +132,57 @@ module _ (l : Line) (w : Within l) (a : Arrays l) (s : List ℕ) where
   n-few : l .«station_count» ≤ 12
   n-few = w .stations .1
 
-  trains-reads : (ts : List ℕ) (gs : List Segment) (c : Cursor) → from s c ≡ field (l .«train_count») 10 (eachThen trainText (trainsOf l) []) → Reads (trainsPart (l .«station_count») ts gs s c) (record { «station_count» = l .«station_count»; tracks = ts; segments = gs; «train_count» = l .«train_count»; trains = padded 12 noTrain (map tidyTrain (trainsOf l)) }) s []
+  trains-reads : (ts : List ℕ) (gs : List Segment) (c : Cursor) → from s c ≡ field (l .«train_count») 10 (eachThen trainText (trainsOf l) []) →
+      Reads (trainsPart (l .«station_count») ts gs s c)
+      (record {
+        «station_count» = l .«station_count»;
+        tracks = ts;
+        segments = gs;
+        «train_count» = l .«train_count»;
+        trains = padded 12 noTrain (map tidyTrain (trainsOf l));
+      }) s []
   unfolding trainsPart
   trains-reads ts gs c e =
       let many-trains : length (trainsOf l) ≡ l .«train_count» = length-take-le (l .«train_count») (l .trains) (omega (arith, w .trains .1, a .trains)) in
-      let each = each-both (TrainWithin (l .«station_count»)) TrainArrays (TrainWritten (l .«station_count»)) (λ t x y. record { limits = x; arrays = y }) (trainsOf l) (w .each-train) (each-take TrainArrays (l .«train_count») (l .trains) (a .each-train)) in
+      let each = each-both (TrainWithin (l .«station_count»)) TrainArrays (TrainWritten (l .«station_count»)) (λ t x y. record { limits = x; arrays = y })
+      (trainsOf l) (w .each-train) (each-take TrainArrays (l .«train_count») (l .trains) (a .each-train)) in
       reads-then _ (before-feed trainCount _ s c (l .«train_count») (eachThen trainText (trainsOf l) []) (w .trains) (omega arith) e)
-      (λ c₁ e₁. reads-then _ (many-reads (TrainWritten (l .«station_count»)) trainText tidyTrain (trainLine (l .«station_count»)) s (train-reads (l .«station_count») n-few s) (l .«train_count») (trainsOf l) many-trains _ c₁ [] each e₁)
+      (λ c₁ e₁. reads-then _ (many-reads (TrainWritten (l .«station_count»)) trainText tidyTrain (trainLine (l .«station_count»)) s
+      (train-reads (l .«station_count») n-few s) (l .«train_count») (trainsOf l) many-trains _ c₁ [] each e₁)
       (λ c₂ e₂. rw (le-ltb (c₂ .at) (length s) (at-length s c₂ e₂)) (at-end _ c₂ e₂)))
 
-  segments-reads : (ts : List ℕ) (c : Cursor) → from s c ≡ field (l .«station_count» - 1) 10 (eachThen segmentText (segmentsOf l) (field (l .«train_count») 10 (eachThen trainText (trainsOf l) []))) → Reads (segmentsPart (l .«station_count») ts s c) (record { «station_count» = l .«station_count»; tracks = ts; segments = padded 11 noSegment (segmentsOf l); «train_count» = l .«train_count»; trains = padded 12 noTrain (map tidyTrain (trainsOf l)) }) s []
+  segments-reads : (ts : List ℕ) (c : Cursor) →
+      from s c ≡ field (l .«station_count» - 1) 10 (eachThen segmentText (segmentsOf l) (field (l .«train_count») 10 (eachThen trainText (trainsOf l) []))) →
+      Reads (segmentsPart (l .«station_count») ts s c)
+      (record {
+        «station_count» = l .«station_count»;
+        tracks = ts;
+        segments = padded 11 noSegment (segmentsOf l);
+        «train_count» = l .«train_count»;
+        trains = padded 12 noTrain (map tidyTrain (trainsOf l));
+      }) s []
   unfolding segmentsPart
   segments-reads ts c e =
-      let many-segments : length (segmentsOf l) ≡ l .«station_count» - 1 = length-take-le (l .«station_count» - 1) (l .segments) (omega (arith, w .stations .1, a .segments)) in
+      let many-segments : length (segmentsOf l) ≡ l .«station_count» - 1 = length-take-le (l .«station_count» - 1) (l .segments)
+      (omega (arith, w .stations .1, a .segments)) in
       let small : l .«station_count» - 1 < 10000 = omega (arith, w .stations .1) in
-      reads-then _ (before-feed (record { min = l .«station_count» - 1; max = l .«station_count» - 1 }) _ s c (l .«station_count» - 1) _ (omega arith, omega arith) small e)
-      (λ c₁ e₁. reads-then _ (rw (map-id (segmentsOf l)) at (many-reads SegmentWithin segmentText (λ g. g) segmentLine s (segment-reads s) (l .«station_count» - 1) (segmentsOf l) many-segments (l .«station_count» + 3) c₁ (field (l .«train_count») 10 (eachThen trainText (trainsOf l) [])) (w .segments) e₁))
+      reads-then _ (before-feed (record { min = l .«station_count» - 1; max = l .«station_count» - 1 }) _ s c (l .«station_count» - 1) _
+      (omega arith, omega arith) small e)
+      (λ c₁ e₁. reads-then _ (rw (map-id (segmentsOf l)) at
+      (many-reads SegmentWithin segmentText (λ g. g) segmentLine s (segment-reads s) (l .«station_count» - 1) (segmentsOf l) many-segments
+      (l .«station_count» + 3) c₁ (field (l .«train_count») 10 (eachThen trainText (trainsOf l) [])) (w .segments) e₁))
       (λ c₂ e₂. trains-reads ts (padded 11 noSegment (segmentsOf l)) c₂ e₂))
 
   stations-reads : (c : Cursor) → from s c ≡ textOf l → Reads (stationsPart s c) (tidyLine l) s []
   unfolding stationsPart textOf tidyLine
   stations-reads c e =
-      let many-stations : length (tracksOf l) ≡ l .«station_count» = length-take-le (l .«station_count») (l .tracks) (omega (arith, w .stations .1, a .tracks)) in
+      let many-stations : length (tracksOf l) ≡ l .«station_count» = length-take-le (l .«station_count») (l .tracks)
+      (omega (arith, w .stations .1, a .tracks)) in
       reads-then _ (before-feed stationCount _ s c (l .«station_count») _ (w .stations) (omega arith) e)
-      (λ c₁ e₁. reads-then _ (rw (map-id (tracksOf l)) at (many-reads (In tracks) stationText (λ t. t) stationLine s (station-reads s) (l .«station_count») (tracksOf l) many-stations 2 c₁ (field (l .«station_count» - 1) 10 (eachThen segmentText (segmentsOf l) (field (l .«train_count») 10 (eachThen trainText (trainsOf l) [])))) (w .tracks) e₁))
+      (λ c₁ e₁. reads-then _ (rw (map-id (tracksOf l)) at
+      (many-reads (In tracks) stationText (λ t. t) stationLine s (station-reads s) (l .«station_count») (tracksOf l) many-stations 2 c₁
+      (field (l .«station_count» - 1) 10 (eachThen segmentText (segmentsOf l) (field (l .«train_count») 10 (eachThen trainText (trainsOf l) []))))
+      (w .tracks) e₁))
       (λ c₂ e₂. segments-reads (padded 12 0 (tracksOf l)) c₂ e₂))
 
 -- the text of a line within the limits is read as that line

@@ -52,10 +52,26 @@ stopsOf t = take (legsOf t - 1) (t .stops)
 
 -- a train with its entries beyond the path emptied, and a line with its entries beyond the counts
 unfoldable pub tidyTrain : Train → Train
-tidyTrain t = record { origin = t .origin; destination = t .destination; earliest = t .earliest; latest = t .latest; weight = t .weight; runs = padded 11 0 (runsOf t); stops = padded 11 0 (stopsOf t) }
+tidyTrain t =
+    record {
+      origin = t .origin;
+      destination = t .destination;
+      earliest = t .earliest;
+      latest = t .latest;
+      weight = t .weight;
+      runs = padded 11 0 (runsOf t);
+      stops = padded 11 0 (stopsOf t);
+    }
 
 unfoldable pub tidyLine : Line → Line
-tidyLine l = record { «station_count» = l .«station_count»; tracks = padded 12 0 (tracksOf l); segments = padded 11 noSegment (segmentsOf l); «train_count» = l .«train_count»; trains = padded 12 noTrain (map tidyTrain (trainsOf l)) }
+tidyLine l =
+    record {
+      «station_count» = l .«station_count»;
+      tracks = padded 12 0 (tracksOf l);
+      segments = padded 11 noSegment (segmentsOf l);
+      «train_count» = l .«train_count»;
+      trains = padded 12 noTrain (map tidyTrain (trainsOf l));
+    }
 
 pub record SameTrain (t u : Train) : Type 0 where
   pub origin : t .origin ≡ u .origin

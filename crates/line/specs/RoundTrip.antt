@@ -32,7 +32,8 @@ use Rattle.line.specs.Readable.{text-reads}
 -- ---- a line that was read
 
 -- the used entries of a record are those that were laid into it
-module _ (n : ℕ) (ts : List ℕ) (gs : List Segment) (t : ℕ) (trs : List Train) (few : n ≤ 12) (some : t ≤ 12) (a : length ts ≡ n) (b : length gs ≡ n - 1) (c : length trs ≡ t) where
+module _ (n : ℕ) (ts : List ℕ) (gs : List Segment) (t : ℕ) (trs : List Train) (few : n ≤ 12) (some : t ≤ 12) (a : length ts ≡ n) (b : length gs ≡ n - 1)
+    (c : length trs ≡ t) where
   stations-used : tracksOf (lineOf n ts gs t trs) ≡ ts
   stations-used = rw a at (take-padded 12 0 ts (omega (arith, a)))
 
@@ -73,14 +74,18 @@ unfolding tidyLine
 same-tidy l w a =
     let stations = length-take-le (l .«station_count») (l .tracks) (omega (arith, w .stations .1, a .tracks)) in
     let segments = length-take-le (l .«station_count» - 1) (l .segments) (omega (arith, w .stations .1, a .segments)) in
-    let many : length (map tidyTrain (trainsOf l)) ≡ l .«train_count» = length-map (trainsOf l) tidyTrain ∙ length-take-le (l .«train_count») (l .trains) (omega (arith, w .trains .1, a .trains)) in
-    let trains : take (l .«train_count») (padded 12 noTrain (map tidyTrain (trainsOf l))) ≡ map tidyTrain (trainsOf l) = rw many at (take-padded 12 noTrain (map tidyTrain (trainsOf l)) (omega (arith, many, w .trains .1))) in
+    let many : length (map tidyTrain (trainsOf l)) ≡ l .«train_count» = length-map (trainsOf l) tidyTrain
+    ∙ length-take-le (l .«train_count») (l .trains) (omega (arith, w .trains .1, a .trains)) in
+    let trains : take (l .«train_count») (padded 12 noTrain (map tidyTrain (trainsOf l))) ≡ map tidyTrain (trainsOf l) = rw many at
+    (take-padded 12 noTrain (map tidyTrain (trainsOf l)) (omega (arith, many, w .trains .1))) in
     record {
       stations = refl;
       tracks = rw stations at (take-padded 12 0 (tracksOf l) (omega (arith, stations, w .stations .1)));
       segments = rw segments at (take-padded 11 noSegment (segmentsOf l) (omega (arith, segments, w .stations .1)));
       trains = refl;
-      each-train = rw trains (same-trains (l .«station_count») (w .stations .1) (trainsOf l) (w .each-train) (each-take TrainArrays (l .«train_count») (l .trains) (a .each-train)));
+      each-train =
+          rw trains (same-trains (l .«station_count») (w .stations .1) (trainsOf l) (w .each-train)
+          (each-take TrainArrays (l .«train_count») (l .trains) (a .each-train)));
     }
 
 -- ---- what is known of a line that was read
@@ -100,7 +105,11 @@ record Got (r : Parsed Line) (l : Line) : Type 0 where
   got : r ≡ Parsed.got l end
 
 -- the record with these entries, once its used entries are known
-line-of-read : (s : List ℕ) (n : ℕ) (ts : List ℕ) (gs : List Segment) (t : ℕ) (trs : List Train) → In stationCount n → In trainCount t → Each (In tracks) ts → Each SegmentWithin gs → Each (TrainRead n) trs → tracksOf (lineOf n ts gs t trs) ≡ ts → segmentsOf (lineOf n ts gs t trs) ≡ gs → trainsOf (lineOf n ts gs t trs) ≡ trs → s ≡ field n 10 (eachThen stationText ts (field (n - 1) 10 (eachThen segmentText gs (field t 10 (eachThen trainText trs []))))) → ReadFrom s (lineOf n ts gs t trs)
+line-of-read : (s : List ℕ) (n : ℕ) (ts : List ℕ) (gs : List Segment) (t : ℕ) (trs : List Train) → In stationCount n → In trainCount t → Each (In tracks) ts →
+    Each SegmentWithin gs → Each (TrainRead n) trs → tracksOf (lineOf n ts gs t trs) ≡ ts → segmentsOf (lineOf n ts gs t trs) ≡ gs →
+    trainsOf (lineOf n ts gs t trs) ≡ trs →
+    s ≡ field n 10 (eachThen stationText ts (field (n - 1) 10 (eachThen segmentText gs (field t 10 (eachThen trainText trs []))))) →
+    ReadFrom s (lineOf n ts gs t trs)
 unfolding textOf tidyLine
 line-of-read s n ts gs t trs i j a b c p q r e = record {
   limits = record {
@@ -114,7 +123,9 @@ line-of-read s n ts gs t trs i j a b c p q r e = record {
     tracks = padded-length 12 0 ts;
     segments = padded-length 11 noSegment gs;
     trains = padded-length 12 noTrain trs;
-    each-train = each-padded TrainArrays 12 noTrain trs (length-replicate {A = ℕ} 11 0, length-replicate {A = ℕ} 11 0) (each-map (TrainRead n) TrainArrays (λ x y. y .arrays) trs c);
+    each-train =
+        each-padded TrainArrays 12 noTrain trs (length-replicate {A = ℕ} 11 0, length-replicate {A = ℕ} 11 0)
+        (each-map (TrainRead n) TrainArrays (λ x y. y .arrays) trs c);
   };
   tidy =
       ap (λ (x : List ℕ). lineOf n x (segmentsOf (lineOf n ts gs t trs)) t (map tidyTrain (trainsOf (lineOf n ts gs t trs)))) p
@@ -122,8 +133,10 @@ line-of-read s n ts gs t trs i j a b c p q r e = record {
       ∙ ap (λ (x : List Train). lineOf n ts gs t (map tidyTrain x)) r
       ∙ ap (λ (x : List Train). lineOf n ts gs t x) (tidy-trains n trs c);
   text =
-      ap (λ (x : List ℕ). field n 10 (eachThen stationText x (field (n - 1) 10 (eachThen segmentText (segmentsOf (lineOf n ts gs t trs)) (field t 10 (eachThen trainText (trainsOf (lineOf n ts gs t trs)) [])))))) p
-      ∙ ap (λ (x : List Segment). field n 10 (eachThen stationText ts (field (n - 1) 10 (eachThen segmentText x (field t 10 (eachThen trainText (trainsOf (lineOf n ts gs t trs)) [])))))) q
+      ap (λ (x : List ℕ). field n 10 (eachThen stationText x
+      (field (n - 1) 10 (eachThen segmentText (segmentsOf (lineOf n ts gs t trs)) (field t 10 (eachThen trainText (trainsOf (lineOf n ts gs t trs)) [])))))) p
+      ∙ ap (λ (x : List Segment). field n 10 (eachThen stationText ts
+      (field (n - 1) 10 (eachThen segmentText x (field t 10 (eachThen trainText (trainsOf (lineOf n ts gs t trs)) [])))))) q
       ∙ ap (λ (x : List Train). field n 10 (eachThen stationText ts (field (n - 1) 10 (eachThen segmentText gs (field t 10 (eachThen trainText x [])))))) r
       ∙ sym e;
 }
@@ -133,7 +146,8 @@ line-read s l r =
     let a = stations-used (r .n) (r .ts) (r .gs) (r .t) (r .trs) (r .stations .1) (r .trains .1) (r .many-stations) (r .many-segments) (r .many-trains) in
     let b = segments-used (r .n) (r .ts) (r .gs) (r .t) (r .trs) (r .stations .1) (r .trains .1) (r .many-stations) (r .many-segments) (r .many-trains) in
     let c = trains-used (r .n) (r .ts) (r .gs) (r .t) (r .trs) (r .stations .1) (r .trains .1) (r .many-stations) (r .many-segments) (r .many-trains) in
-    rw (r .line) (line-of-read s (r .n) (r .ts) (r .gs) (r .t) (r .trs) (r .stations) (r .trains) (r .each-station) (r .each-segment) (r .each-train) a b c (r .text))
+    rw (r .line) (line-of-read s (r .n) (r .ts) (r .gs) (r .t) (r .trs) (r .stations) (r .trains) (r .each-station) (r .each-segment) (r .each-train) a b c
+    (r .text))
 
 -- ---- the answer of `read`
 

@@ -54,11 +54,13 @@ module _ {A : Type 0} (text : A → List ℕ → List ℕ) (parts : (x : A) (res
         ap (λ (l : List A). eachThen text l []) (left-cons n xs i (length-take-le n xs full) d h)
         ∙ parts (getD xs i d) (eachThen text (drop (i + 1) (take n xs)) [])
 
-    module _ {entry : List ℕ} {start : ℕ} {whole now : List ℕ} {at : ℕ} (putting : Putting entry start whole now at (eachThen text (drop i (take n xs)) [])) where
+    module _ {entry : List ℕ} {start : ℕ} {whole now : List ℕ} {at : ℕ}
+        (putting : Putting entry start whole now at (eachThen text (drop i (take n xs)) [])) where
       pub each-room : (d : A) → i < n → start + length whole ≤ length entry → at + length (text (getD xs i d) []) ≤ length now
       each-room d h fits = putting-room (text (getD xs i d) []) (eachThen text (drop (i + 1) (take n xs)) []) putting (step d h) fits
 
-      pub each-put : {then : List ℕ} {next : ℕ} (d : A) → i < n → Put now then at (text (getD xs i d) []) next → Putting entry start whole then next (eachThen text (drop (i + 1) (take n xs)) [])
+      pub each-put : {then : List ℕ} {next : ℕ} (d : A) → i < n → Put now then at (text (getD xs i d) []) next →
+          Putting entry start whole then next (eachThen text (drop (i + 1) (take n xs)) [])
       each-put d h put = putting-step (eachThen text (drop (i + 1) (take n xs)) []) putting (step d h) put
 
       pub each-end : i ≡ n → Put entry now start whole at
@@ -91,7 +93,8 @@ module _ (runs stops : List ℕ) (legs k : ℕ) (full : legs - 1 ≤ length stop
       rw (none, run-at (omega arith)) refl
 
   module _ {entry : List ℕ} {start : ℕ} {whole now : List ℕ} {at : ℕ} (putting : Putting entry start whole now at (left k)) where
-    pub journey-room : k + 1 < legs → start + length whole ≤ length entry → at + (length (fieldText (getD runs k 0) 32) + length (fieldText (getD stops k 0) 32)) ≤ length now
+    pub journey-room : k + 1 < legs → start + length whole ≤ length entry →
+        at + (length (fieldText (getD runs k 0) 32) + length (fieldText (getD stops k 0) 32)) ≤ length now
     journey-room h fits = rw length-append at (putting-room leg (left (k + 1)) putting (next-leg h) fits)
 
     pub journey-put : {then : List ℕ} {next : ℕ} → k + 1 < legs → Put now then at leg next → Putting entry start whole then next (left (k + 1))
@@ -113,13 +116,21 @@ module _ (g : Segment) where
   segment-size = ap length segment-parts ∙ (rw (length-append (fieldText (g .following) 32)) refl)
 
 module _ (t : Train) where
-  pub head-parts : headText t [] ≡ fieldText (t .origin) 32 ++ (fieldText (t .destination) 32 ++ (fieldText (t .earliest) 32 ++ (fieldText (t .latest) 32 ++ fieldText (t .weight) 32)))
+  pub head-parts : headText t [] ≡ fieldText (t .origin) 32
+      ++ (fieldText (t .destination) 32 ++ (fieldText (t .earliest) 32 ++ (fieldText (t .latest) 32 ++ fieldText (t .weight) 32)))
   head-parts = simp append-assoc
 
-  pub head-size : length (headText t []) ≡ length (fieldText (t .origin) 32) + (length (fieldText (t .destination) 32) + (length (fieldText (t .earliest) 32) + (length (fieldText (t .latest) 32) + length (fieldText (t .weight) 32))))
+  pub head-size : length (headText t []) ≡ length (fieldText (t .origin) 32)
+      + (length (fieldText (t .destination) 32)
+      + (length (fieldText (t .earliest) 32) + (length (fieldText (t .latest) 32) + length (fieldText (t .weight) 32))))
   head-size =
       ap length head-parts
-      ∙ (rw (length-append (fieldText (t .origin) 32), length-append (fieldText (t .destination) 32), length-append (fieldText (t .earliest) 32), length-append (fieldText (t .latest) 32)) refl)
+      ∙ (rw (
+        length-append (fieldText (t .origin) 32),
+        length-append (fieldText (t .destination) 32),
+        length-append (fieldText (t .earliest) 32),
+        length-append (fieldText (t .latest) 32),
+      ) refl)
 
   pub train-parts : trainText t [] ≡ headText t [] ++ journeyText (stopsOf t) (runsOf t) []
   train-parts = head-then t (journeyText (stopsOf t) (runsOf t) [])
@@ -137,7 +148,8 @@ module _ (l : Line) where
   abbrev trains-part : List ℕ
   trains-part = eachThen trainText (trainsOf l) []
 
-  pub line-parts : textOf l ≡ fieldText (l .«station_count») 10 ++ (stations-part ++ (fieldText (l .«station_count» - 1) 10 ++ (segments-part ++ (fieldText (l .«train_count») 10 ++ trains-part))))
+  pub line-parts : textOf l ≡ fieldText (l .«station_count») 10
+      ++ (stations-part ++ (fieldText (l .«station_count» - 1) 10 ++ (segments-part ++ (fieldText (l .«train_count») 10 ++ trains-part))))
   unfolding textOf
   line-parts =
       let rest = digits (l .«train_count») ++ (10 ∷ trains-part) in
@@ -147,7 +159,15 @@ module _ (l : Line) where
       )
       ∙ (simp append-assoc)
 
-  pub line-size : length (textOf l) ≡ length (fieldText (l .«station_count») 10) + (length stations-part + (length (fieldText (l .«station_count» - 1) 10) + (length segments-part + (length (fieldText (l .«train_count») 10) + length trains-part))))
+  pub line-size : length (textOf l) ≡ length (fieldText (l .«station_count») 10)
+      + (length stations-part + (length (fieldText (l .«station_count» - 1) 10)
+      + (length segments-part + (length (fieldText (l .«train_count») 10) + length trains-part))))
   line-size =
       ap length line-parts
-      ∙ (rw (length-append (fieldText (l .«station_count») 10), length-append stations-part, length-append (fieldText (l .«station_count» - 1) 10), length-append segments-part, length-append (fieldText (l .«train_count») 10)) refl)
+      ∙ (rw (
+        length-append (fieldText (l .«station_count») 10),
+        length-append stations-part,
+        length-append (fieldText (l .«station_count» - 1) 10),
+        length-append segments-part,
+        length-append (fieldText (l .«train_count») 10),
+      ) refl)

@@ -30,7 +30,9 @@ laid rs ts k x = record { runs = sets rs k (x .runs); stops = sets ts k (x .stop
 abbrev pub layJourney : ℕ → ℕ → List ℕ → Cursor → List ℕ → List ℕ → ℕ → Parsed Journey
 layJourney j p s c rs ts k = mapParsed (laid rs ts k) (journeyAt j p s c)
 
-journey-cons : (j : Parsed Journey) (rs ts : List ℕ) (k r t : ℕ) → mapParsed (laid rs ts k) (thenRead j (λ y end. Parsed.got (record { runs = r ∷ y .runs; stops = t ∷ y .stops }) end)) ≡ mapParsed (laid (set rs k r) (set ts k t) (suc k)) j
+journey-cons : (j : Parsed Journey) (rs ts : List ℕ) (k r t : ℕ) →
+    mapParsed (laid rs ts k) (thenRead j (λ y end. Parsed.got (record { runs = r ∷ y .runs; stops = t ∷ y .stops }) end))
+    ≡ mapParsed (laid (set rs k r) (set ts k t) (suc k)) j
 journey-cons (Parsed.got y end) rs ts k r t = refl
 journey-cons (Parsed.bad n p) rs ts k r t = refl
 
@@ -45,11 +47,13 @@ module _ (m p : ℕ) (s : List ℕ) (c : Cursor) (rs ts : List ℕ) (k : ℕ) wh
       unfolding journeyAt
       journey-stop-stop n q g = rw (e, h, g) refl
 
-      pub journey-step : (t : ℕ) (c₂ : Cursor) → number stop 32 p s c₁ ≡ Parsed.got t c₂ → layJourney m p s c rs ts k ≡ layJourney j p s c₂ (set rs k r) (set ts k t) (k + 1)
+      pub journey-step : (t : ℕ) (c₂ : Cursor) → number stop 32 p s c₁ ≡ Parsed.got t c₂ →
+          layJourney m p s c rs ts k ≡ layJourney j p s c₂ (set rs k r) (set ts k t) (k + 1)
       unfolding journeyAt
       journey-step t c₂ g = rw (e, h, g, add-one k) (journey-cons (journeyAt j p s c₂) rs ts k r t)
 
-  pub journey-last-read : m ≡ 0 → (r : ℕ) (next : Cursor) → number run 10 p s c ≡ Parsed.got r next → layJourney m p s c rs ts k ≡ Parsed.got (record { runs = set rs k r; stops = ts }) next
+  pub journey-last-read : m ≡ 0 → (r : ℕ) (next : Cursor) → number run 10 p s c ≡ Parsed.got r next →
+      layJourney m p s c rs ts k ≡ Parsed.got (record { runs = set rs k r; stops = ts }) next
   unfolding journeyAt
   journey-last-read e r next h = rw (e, h) refl
 
@@ -63,7 +67,9 @@ module _ (m p : ℕ) (s : List ℕ) (c : Cursor) (rs ts : List ℕ) (k : ℕ) wh
 abbrev pub trainOf : Head → Journey → Train
 trainOf h x = trainWith h (x .runs) (x .stops)
 
-train-laid : (h : Head) (j : Parsed Journey) → thenRead j (λ x end. Parsed.got (trainWith h (padded 11 0 (x .runs)) (padded 11 0 (x .stops))) end) ≡ mapParsed (trainOf h) (mapParsed (laid (replicate 11 0) (replicate 11 0) 0) j)
+train-laid : (h : Head) (j : Parsed Journey) →
+    thenRead j (λ x end. Parsed.got (trainWith h (padded 11 0 (x .runs)) (padded 11 0 (x .stops))) end) ≡ mapParsed (trainOf h)
+    (mapParsed (laid (replicate 11 0) (replicate 11 0) 0) j)
 unfolding padded
 train-laid h (Parsed.got x end) = refl
 train-laid h (Parsed.bad n p) = refl
@@ -73,19 +79,24 @@ module _ (n p : ℕ) (s : List ℕ) (c : Cursor) where
   unfolding trainLine
   train-stop-head m q e = rw e refl
 
-  pub train-from : (h : Head) (c₁ : Cursor) (legs : ℕ) (yet : Parsed Journey) → headAt n p s c ≡ Parsed.got h c₁ → legs ≡ legsBetween (h .origin) (h .destination) → yet ≡ layJourney (legs - 1) p s c₁ (replicate 11 0) (replicate 11 0) 0 → trainLine n p s c ≡ mapParsed (trainOf h) yet
+  pub train-from : (h : Head) (c₁ : Cursor) (legs : ℕ) (yet : Parsed Journey) → headAt n p s c ≡ Parsed.got h c₁ →
+      legs ≡ legsBetween (h .origin) (h .destination) → yet ≡ layJourney (legs - 1) p s c₁ (replicate 11 0) (replicate 11 0) 0 →
+      trainLine n p s c ≡ mapParsed (trainOf h) yet
   unfolding trainLine
   train-from h c₁ legs yet e l y = rw (e, y, l) (train-laid h (journeyAt (legsBetween (h .origin) (h .destination) - 1) p s c₁))
 
 -- ---- the lines of trains
 
 -- before the first is read
-pub lines-begin : (t : Train) (count n first : ℕ) (s : List ℕ) (c : Cursor) → t ≡ noTrain → layMany (count - 0) (trainLine n) (first + 0) s c (replicate 12 t) 0 ≡ layMany count (trainLine n) first s c (replicate 12 noTrain) 0
+pub lines-begin : (t : Train) (count n first : ℕ) (s : List ℕ) (c : Cursor) → t ≡ noTrain →
+    layMany (count - 0) (trainLine n) (first + 0) s c (replicate 12 t) 0 ≡ layMany count (trainLine n) first s c (replicate 12 noTrain) 0
 lines-begin t count n first s c e = rw (e, sub-zero, add-zero) refl
 
 -- train i read, or refused, when the lines from its own on give `whole`
-module _ (n count first i : ℕ) (s : List ℕ) (c : Cursor) (trains : List Train) (whole : Parsed (List Train)) (inv : layMany (count - i) (trainLine n) (first + i) s c trains i ≡ whole) (left : i < count) where
-  pub lines-read : (x t : Train) (next : Cursor) → trainLine n (first + i) s c ≡ Parsed.got t next → x ≡ t → layMany (count - (i + 1)) (trainLine n) (first + (i + 1)) s next (set trains i x) (i + 1) ≡ whole
+module _ (n count first i : ℕ) (s : List ℕ) (c : Cursor) (trains : List Train) (whole : Parsed (List Train))
+    (inv : layMany (count - i) (trainLine n) (first + i) s c trains i ≡ whole) (left : i < count) where
+  pub lines-read : (x t : Train) (next : Cursor) → trainLine n (first + i) s c ≡ Parsed.got t next → x ≡ t →
+      layMany (count - (i + 1)) (trainLine n) (first + (i + 1)) s next (set trains i x) (i + 1) ≡ whole
   lines-read x t next e same =
       let k : count - i ≡ suc (count - (i + 1)) = omega arith in
       let p : first + (i + 1) ≡ first + i + 1 = omega arith in
@@ -98,7 +109,8 @@ module _ (n count first i : ℕ) (s : List ℕ) (c : Cursor) (trains : List Trai
 
 -- ---- how many legs a head that was read has
 
-pub head-legs : (n p : ℕ) (s : List ℕ) (c : Cursor) (h : Head) (next : Cursor) → n ≤ 12 → headAt n p s c ≡ Parsed.got h next → (1 ≤ legsBetween (h .origin) (h .destination)) × (legsBetween (h .origin) (h .destination) ≤ 11)
+pub head-legs : (n p : ℕ) (s : List ℕ) (c : Cursor) (h : Head) (next : Cursor) → n ≤ 12 → headAt n p s c ≡ Parsed.got h next →
+    (1 ≤ legsBetween (h .origin) (h .destination)) × (legsBetween (h .origin) (h .destination) ≤ 11)
 head-legs n p s c h next few e =
     let a = head-spelt n p s c h next e in
     path-legs n (h .origin) (h .destination) few (a .origin) (a .destination) (a .apart)

@@ -19,7 +19,8 @@ tells-as : {f : Fault} {P Q : Type 0} → (P → Q) → (Q → P) → Tells f P 
 tells-as there back p = record { holds = λ e. there (p .holds e); clean = λ q. p .clean (back q) }
 
 -- elements on lines of their own
-tells-lines : {A : Type 0} (f : ℕ → A → Fault) (P : A → Type 0) → ((p : ℕ) (x : A) → Tells (f p x) (P x)) → (xs : List A) (p : ℕ) → Tells (linesFault xs f p) (Each P xs)
+tells-lines : {A : Type 0} (f : ℕ → A → Fault) (P : A → Type 0) → ((p : ℕ) (x : A) → Tells (f p x) (P x)) → (xs : List A) (p : ℕ) →
+    Tells (linesFault xs f p) (Each P xs)
 unfolding linesFault
 tells-lines f P one [] p = record { holds = λ e. tt; clean = λ u. refl }
 tells-lines f P one (x ∷ xs) p = tells-then (f p x) (linesFault xs f (p + 1)) (one p x) (tells-lines f P one xs (p + 1))

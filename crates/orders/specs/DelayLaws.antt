@@ -7,13 +7,13 @@ use native.Mathlib.Omega.{arith}
 use lib.ListN.{getD}
 use Rattle.text.specs.Below.{sum}
 use Rattle.text.specs.BelowLaws.{sum-same}
+use Rattle.text.specs.SumsLaws.{sum-none, sum-only, sum-parts, sum-columns}
 use Rattle.line.specs.declared.Line.{Line}
 use Rattle.line.specs.Within.{Within, Arrays}
 use Rattle.rules.specs.Paths.{train, legs, segmentOf}
 use Rattle.rules.specs.Minutes.{departs}
 use Rattle.rules.specs.Delay.{delay, weightedDelay}
 use Rattle.rules.specs.PathsLaws.{routed, legs-few, segment-below}
-use Rattle.orders.specs.SumsLaws.{sum-none, sum-only, sum-parts, sum-columns}
 use Rattle.orders.specs.Tables.{weightIn, freeIn, costIn, tablesOf}
 use Rattle.orders.specs.TableLegsLaws.{weight-last, free-last, weight-else}
 

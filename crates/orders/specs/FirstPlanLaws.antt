@@ -152,11 +152,8 @@ module _ (l : Line) (w : Within l) (size : length (l .trains) ≡ 12) where
 
   module _ (ends : FreeInTime l) where
     free-fit : Fit 352 (freeMinutes l)
-    free-fit = record { size = full; within = bounded (λ _. 2879) (λ i k h b. omega (arith, days i k h b)) days }
+    free-fit = record { size = minutes-size l; within = bounded (λ _. 2879) (λ i k h b. omega (arith, days i k h b)) days }
       where
-        full : length (freeMinutes l) ≡ 352
-        full = minutes-size l
-
         days : (i k : ℕ) → i < l .«train_count» → k < legs l i → freeAfter (train l i) k ≤ 2879
         days i k h b = omega (arith, free-last (train l i) k b, ends i h, within i h .latest .1)
 

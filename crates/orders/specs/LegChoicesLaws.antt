@@ -84,9 +84,9 @@ module _ (g : Segment) (d a d′ a′ : ℕ) where
 -- ---- stations by direction
 
 -- the station that the leg on segment p departs from, and the segment on which one leaves station s
-station-out : (b : Bool) (p : ℕ) → cond b (cond b p (p + 1)) (cond b p (p + 1) - 1) ≡ p
-station-out true p = refl
-station-out false p = omega arith
+departs-out : (b : Bool) (p : ℕ) → cond b (cond b p (p + 1)) (cond b p (p + 1) - 1) ≡ p
+departs-out true p = refl
+departs-out false p = omega arith
 
 out-station : (b : Bool) (s : ℕ) → 0 < s → cond b (cond b s (s - 1)) (cond b s (s - 1) + 1) ≡ s
 out-station true s h = refl
@@ -193,7 +193,7 @@ module _ (l : Line) (w : Within l) (r : Arrays l) where
         let known = leg-train l w r e u in
         let way : eqb (wayIn ds e) 1 ≡ outbound (train l (e % 16)) =
         ap (λ (x : ℕ). eqb (wayIn ds x) 1) (sym at) ∙ out-over l w r (e % 16) (known .0) (e / 16) (known .1) in
-        rw way (station-out (outbound (train l (e % 16))) (e / 16))
+        rw way (departs-out (outbound (train l (e % 16))) (e / 16))
 
     pub leaves-by : e ≡ departs (outOf (train l (e % 16)) (stationOf ds e)) (e % 16)
     leaves-by = rw out-of (sym at)

@@ -1,13 +1,13 @@
 -- Laws of a leg's minutes: how a train goes behind another by what the tables say, and what a later arrival costs more.
-use Prim.Native.Nat.{ℕ, zero, suc, _+_, _*_, _-_, _/_, _≤_}
+use Prim.Native.Nat.{ℕ, _+_, _*_, _-_, _/_, _≤_}
 use mathlib.Core.Path.{_≡_, refl, sym, _∙_, ap, subst}
 use mathlib.Core.Logic.{inl, inr, ⊎-elim}
 use mathlib.Core.Bool.{Bool, true, false, cond}
-use mathlib.Core.List.{List, [], _∷_}
+use mathlib.Core.List.{List}
 use native.Mathlib.Nat.{mul-le-mul, zero-mul, mul-zero}
 use native.Mathlib.Omega.{arith}
 use lib.Dec.{eqb}
-use lib.ListN.{length, getD}
+use lib.ListN.{length, getD, List·getD-eq-default}
 use Rattle.text.specs.Decide.{decides-eq, is-true, is-false}
 use Rattle.orders.specs.Tables.{runIn, weightIn, freeIn, sharedIn, followingIn, opposingIn}
 use Rattle.orders.specs.LegGraph.{wayIn, beside, stationOf, comesOn}
@@ -73,11 +73,6 @@ module _ (ds : List ℕ) (e : ℕ) where
   pub station-in : (getD ds e 0 ≡ 1 → ⊥) → e / 16 + 1 ≡ stationOf ds e
   station-in p = rw (is-false (decides-eq _ _) p) refl
 
-past : (l : List ℕ) (i : ℕ) → length l ≤ i → getD l i 0 ≡ 0
-past [] i h = refl
-past (x ∷ l) zero h = absurd (omega arith)
-past (x ∷ l) (suc i) h = past l i (omega arith)
-
 module _ (ds : List ℕ) (j s station : ℕ) (at : s ≡ station) where
   -- at either end of the line it is all one: there is no such leg before, or none after
   pub comes-first : s ≡ 0 → j ≡ comesOn ds station j
@@ -88,7 +83,7 @@ module _ (ds : List ℕ) (j s station : ℕ) (at : s ≡ station) where
       either false = omega arith
 
   pub comes-last : length ds ≡ 176 → s ≡ 11 → 176 + j ≡ comesOn ds station j
-  comes-last l p = rw (past ds (16 * station + j) (omega arith)) (omega arith)
+  comes-last l p = rw (List·getD-eq-default ds 0 {n = 16 * station + j} (omega arith)) (omega arith)
 
   pub comes-out : getD ds (16 * s + j) 0 ≡ 1 → 16 * (s - 1) + j ≡ comesOn ds station j
   comes-out p = rw (← at) (rw (is-true (decides-eq _ _) p) refl)

@@ -45,7 +45,6 @@ pub mod LegChoices
 pub mod LegChoicesLaws
 pub mod ShapedLaws
 pub mod GraphLaws
-pub mod SumsLaws
 pub mod DelayLaws
 pub mod LimitsLaws
 pub mod ChoiceLaws

@@ -140,7 +140,8 @@ module _ (marks t ds : List ℕ) where
           (back : SourceRises src e (getD m e 0) d (getD m (176 + e) 0) a b) (stays : b ≡ false) (cheap : c ≤ cut) where
         within : WithinDays m₁
         within =
-            each (λ x k. k ≤ 2879) (omega (arith, arr .ran, r .shaped .limit-most e (r .leg .0))) (omega (arith, r .shaped .limit-most e (r .leg .0))) (r .within)
+            each (λ x k. k ≤ 2879) (omega (arith, arr .ran, r .shaped .limit-most e (r .leg .0))) (omega (arith, r .shaped .limit-most e (r .leg .0)))
+            (r .within)
 
         exact : (getD m₁ e 0 + runIn t e ≤ getD m₁ (176 + e) 0) × (getD m₁ (176 + e) 0 ≤ getD m₁ e 0 + runIn t e)
         exact = (

@@ -38,7 +38,9 @@ earlier-once l m m′ a b =
       ]
     ]
   where
-    same-train : (i j : ℕ) → i ≡ j → (k h : ℕ) → i < l .«train_count» → k < legs l i → j < l .«train_count» → h < legs l j → departure l m i k < departure l m′ i k → departure l m′ j h < departure l m j h → ((j ≡ i) × (h < k) → departure l m j h ≡ departure l m′ j h) → ((i ≡ j) × (k < h) → departure l m′ i k ≡ departure l m i k) → ⊥
+    same-train : (i j : ℕ) → i ≡ j → (k h : ℕ) → i < l .«train_count» → k < legs l i → j < l .«train_count» → h < legs l j →
+        departure l m i k < departure l m′ i k → departure l m′ j h < departure l m j h → ((j ≡ i) × (h < k) → departure l m j h ≡ departure l m′ j h) →
+        ((i ≡ j) × (k < h) → departure l m′ i k ≡ departure l m i k) → ⊥
     same-train i j e k h ni nk nj nh x y f g = elim (decLt k h) [
       | yes o ↦ omega (arith, g (e, o))
       | no o ↦ elim (decLt h k) [
@@ -48,7 +50,8 @@ earlier-once l m m′ a b =
     ]
       where
         level : (i j : ℕ) → i ≡ j → (k h : ℕ) → k ≡ h → departure l m i k < departure l m′ i k → departure l m′ j h < departure l m j h → ⊥
-        level i j e k h q x y = let z : departure l m i k < departure l m′ i k = x in let w : departure l m′ i k < departure l m i k = rw (← e, ← q) at y in omega arith
+        level i j e k h q x y =
+            let z : departure l m i k < departure l m′ i k = x in let w : departure l m′ i k < departure l m i k = rw (← e, ← q) at y in omega arith
 
 preferred-once : (l : Line) (m m′ : List ℕ) → Preferred l m m′ → Preferred l m′ m → ⊥
 preferred-once l m m′ (inl a) (inl b) = omega arith

@@ -41,19 +41,19 @@ or-none (Breach.Rule n p) b e = let z : _≡_ {A = ℕ} 0 1 = cc in absurd (omeg
 -- ---- the lowest train that breaks rule n
 
 module _ (n : ℕ) (l : Line) (m : List ℕ) where
-  abbrev pub Kept : ℕ → Type 0
-  Kept i = keepsRule n (train l i) m i ≡ true
+  abbrev pub RuleKept : ℕ → Type 0
+  RuleKept i = keepsRule n (train l i) m i ≡ true
 
-  pub breach-at : (i : ℕ) → i < l .«train_count» → keepsRule n (train l i) m i ≡ false → EachBelow i Kept → Breach.Rule n (i + 1) ≡ trainBreach n l m
+  pub breach-at : (i : ℕ) → i < l .«train_count» → keepsRule n (train l i) m i ≡ false → EachBelow i RuleKept → Breach.Rule n (i + 1) ≡ trainBreach n l m
   unfolding trainBreach
   breach-at i h e k = ap (atTrain n) (sym (first-found _ _ i h (ap not e) (λ j s. ap not (k j s))))
 
   -- none is found exactly when every train keeps the rule
-  pub breach-none : EachTrain l Kept → Breach.None ≡ trainBreach n l m
+  pub breach-none : EachTrain l RuleKept → Breach.None ≡ trainBreach n l m
   unfolding trainBreach
   breach-none k = ap (atTrain n) (sym (first-none _ _ (λ j s. ap not (k j s))))
 
-  pub none-breach : trainBreach n l m ≡ Breach.None → EachTrain l Kept
+  pub none-breach : trainBreach n l m ≡ Breach.None → EachTrain l RuleKept
   unfolding trainBreach
   none-breach e i h = not-false _ (none-first _ _ (nobody _ e) i h)
     where
@@ -91,7 +91,8 @@ pair-fits g ds m n p h = first-holds Fits (λ i. pairWith p i (partnerOf g ds m 
 
 segment-fits : (gs : List Segment) (ds m : List ℕ) (segments n : ℕ) → segments ≤ 12 → Fits (segmentConflict gs ds m segments n)
 unfolding segmentConflict
-segment-fits gs ds m segments n h = first-holds Fits (λ p. pairOn (getD gs p noSegment) ds m n p) segments nothing-fits (λ p k. pair-fits (getD gs p noSegment) ds m n p (omega arith))
+segment-fits gs ds m segments n h =
+    first-holds Fits (λ p. pairOn (getD gs p noSegment) ds m n p) segments nothing-fits (λ p k. pair-fits (getD gs p noSegment) ds m n p (omega arith))
 
 crowd-fits : (ds m : List ℕ) (n tracks s : ℕ) (f : MinuteFound) → s < 12 → Fits (crowdAt ds m n tracks s f)
 crowd-fits ds m n tracks s MinuteFound.Never h = nothing-fits
@@ -109,7 +110,8 @@ on-fits tracks ds m stations n s h =
 
 station-fits : (tracks ds m : List ℕ) (stations n : ℕ) → stations ≤ 12 → Fits (stationConflict tracks ds m stations n)
 unfolding stationConflict
-station-fits tracks ds m stations n h = first-holds Fits (crowdOn tracks ds m stations n) stations nothing-fits (λ s k. on-fits tracks ds m stations n s (omega arith))
+station-fits tracks ds m stations n h =
+    first-holds Fits (crowdOn tracks ds m stations n) stations nothing-fits (λ s k. on-fits tracks ds m stations n s (omega arith))
 
 pub place-fits : (l : Line) (m : List ℕ) → Within l → placeOf (conflictOf l m) < 12
 unfolding conflictOf

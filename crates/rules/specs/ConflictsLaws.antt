@@ -2,7 +2,7 @@
 use Prim.Native.Nat.{ℕ, zero, suc, _+_, _≤_, _<_}
 use mathlib.Core.Path.{_≡_, refl, sym, _∙_, ap, ap₂}
 use mathlib.Core.Logic.{_⊎_, inl, inr}
-use mathlib.Core.Bool.{Bool, true, false, _&&_, true≢false}
+use mathlib.Core.Bool.{Bool, true, false, true≢false}
 use mathlib.Core.List.{List}
 use native.Mathlib.Decide.{decLt}
 use native.Mathlib.Numerals.{add-one}
@@ -33,7 +33,8 @@ module _ (f : ℕ → Conflict) where
   unfolding firstConflict
   conflict-on i e h = rw (add-one, e, h)
 
-  pub conflict-hit : (n i : ℕ) (x : Conflict) → i < n → firstConflict f i ≡ Conflict.Nothing → f i ≡ x → ((c : Conflict) → orConflict x c ≡ x) → firstConflict f n ≡ x
+  pub conflict-hit : (n i : ℕ) (x : Conflict) → i < n → firstConflict f i ≡ Conflict.Nothing → f i ≡ x → ((c : Conflict) → orConflict x c ≡ x) →
+      firstConflict f n ≡ x
   unfolding firstConflict
   conflict-hit zero i x l e h s = absurd (omega arith)
   conflict-hit (suc n) i x l e h s = elim (decLt i n) [
@@ -55,13 +56,6 @@ pub keeps-by : (k : Kind) (w : Bool) (g : Segment) (x y : Passage) (r : Bool) �
     r ≡ gapBy k w g (x .departs) (x .arrives) (y .departs) (y .arrives) → r ≡ keepsAfter g x y
 unfolding keepsAfter
 keeps-by k w g x y r e f h = h ∙ sym (ap₂ (λ (k : Kind) (w : Bool). gapBy k w g (x .departs) (x .arrives) (y .departs) (y .arrives)) e f)
-
--- for the code's `&&`: the way through both tests, and the way out at the first
-pub both-second : (a b r : Bool) → a ≡ true → r ≡ b → r ≡ a && b
-both-second a b r e h = rw e h
-
-pub both-first : (a b r : Bool) → a ≡ false → r ≡ false → r ≡ a && b
-both-first a b r e h = rw e h
 
 module _ (g : Segment) (x y : Passage) where
   pub neither-one : keepsAfter g x y ≡ true → false ≡ neitherFirst g x y
@@ -112,7 +106,8 @@ module _ (g : Segment) (ds m : List ℕ) (p : ℕ) where
     pub clash-not : b ≡ false → clash g ds m p i j ≡ false
     clash-not t = is-false (decides-clash i j) (λ h. true≢false (sym (h .1 .1 .1) ∙ sym (ap₂ (neitherFirst g) one other) ∙ sym tested ∙ t))
 
-  pub partner-found : (i j n : ℕ) → j < n → clash g ds m p i j ≡ true → EachBelow j (λ k. clash g ds m p i k ≡ false) → TrainFound.Train j ≡ partnerOf g ds m p n i
+  pub partner-found : (i j n : ℕ) → j < n → clash g ds m p i j ≡ true → EachBelow j (λ k. clash g ds m p i k ≡ false) →
+      TrainFound.Train j ≡ partnerOf g ds m p n i
   unfolding partnerOf
   partner-found i j n l t h = sym (ap trainFound (first-found (clash g ds m p i) n j l t h))
 
@@ -127,7 +122,8 @@ module _ (g : Segment) (ds m : List ℕ) (p : ℕ) where
   pub pair-on : (n i : ℕ) → NoPair n i → partnerOf g ds m p n i ≡ TrainFound.Nobody → NoPair n (i + 1)
   pair-on n i e h = conflict-on (λ k. pairWith p k (partnerOf g ds m p n k)) i e (ap (pairWith p i) h)
 
-  pub pair-found : (n i j : ℕ) → i < n → NoPair n i → partnerOf g ds m p n i ≡ TrainFound.Train j → Conflict.OnSegment (record { segment = p; lower = i; higher = j }) ≡ pairOn g ds m n p
+  pub pair-found : (n i j : ℕ) → i < n → NoPair n i → partnerOf g ds m p n i ≡ TrainFound.Train j →
+      Conflict.OnSegment (record { segment = p; lower = i; higher = j }) ≡ pairOn g ds m n p
   unfolding pairOn
   pair-found n i j l e h = sym (conflict-hit (λ k. pairWith p k (partnerOf g ds m p n k)) n i _ l e (ap (pairWith p i) h) (λ c. refl))
 
@@ -143,7 +139,8 @@ module _ (gs : List Segment) (ds m : List ℕ) (n : ℕ) where
   pub segment-on : (p : ℕ) → NoSegment p → pairOn (getD gs p noSegment) ds m n p ≡ Conflict.Nothing → NoSegment (p + 1)
   segment-on p e h = conflict-on (λ k. pairOn (getD gs k noSegment) ds m n k) p e h
 
-  pub segment-found : (segments p : ℕ) (x : Conflict) → p < segments → NoSegment p → pairOn (getD gs p noSegment) ds m n p ≡ x → ((c : Conflict) → orConflict x c ≡ x) → x ≡ segmentConflict gs ds m segments n
+  pub segment-found : (segments p : ℕ) (x : Conflict) → p < segments → NoSegment p → pairOn (getD gs p noSegment) ds m n p ≡ x →
+      ((c : Conflict) → orConflict x c ≡ x) → x ≡ segmentConflict gs ds m segments n
   unfolding segmentConflict
   segment-found segments p x l e h s = sym (conflict-hit (λ k. pairOn (getD gs k noSegment) ds m n k) segments p x l e h s)
 

@@ -48,7 +48,8 @@ pub record Filled (l : Line) (k : ℕ) (t : List ℕ) : Type 0 where
   pub size : length t ≡ 176
   pub entries : EachBelow 176 (λ e. getD t e 0 ≡ cond (ltb (11 * (e % 16) + e / 16) k) (directionEntry l e) 0)
 
-pub entry-is : (l : Line) (p i : ℕ) → i < 16 → i < l .«train_count» → directionEntry l (16 * p + i) ≡ directionBetween (train l i .origin) (train l i .destination) p
+pub entry-is : (l : Line) (p i : ℕ) → i < 16 → i < l .«train_count» →
+    directionEntry l (16 * p + i) ≡ directionBetween (train l i .origin) (train l i .destination) p
 unfolding directionEntry
 entry-is l p i a b =
     let r : (16 * p + i) % 16 ≡ i = omega arith in
@@ -75,13 +76,18 @@ same-test x k k′ q d = elim (decLt x k) [
   | no s ↦ le-ltb x k (omega arith) ∙ sym (le-ltb x k′ (omega arith))
 ]
 
-pub filled-more : (l : Line) (t : List ℕ) (i p v : ℕ) → Filled l (11 * i + p) t → p < 11 → i < 16 → v ≡ directionEntry l (16 * p + i) → Filled l (11 * i + (p + 1)) (set t (16 * p + i) v)
+pub filled-more : (l : Line) (t : List ℕ) (i p v : ℕ) → Filled l (11 * i + p) t → p < 11 → i < 16 → v ≡ directionEntry l (16 * p + i) →
+    Filled l (11 * i + (p + 1)) (set t (16 * p + i) v)
 filled-more l t i p v h a b w =
     record {
       size = simp length-set (h .size);
       entries = λ e n. elim (ℕ-discrete e (16 * p + i)) [
         | yes s ↦ (
-            rw (s, getD-set-same t (16 * p + i) v 0 (omega (arith, h .size)), lt-ltb (11 * ((16 * p + i) % 16) + (16 * p + i) / 16) (11 * i + (p + 1)) (omega arith)) w)
+            rw (
+              s,
+              getD-set-same t (16 * p + i) v 0 (omega (arith, h .size)),
+              lt-ltb (11 * ((16 * p + i) % 16) + (16 * p + i) / 16) (11 * i + (p + 1)) (omega arith),
+            ) w)
         | no s ↦
             getD-set-other t (16 * p + i) e v 0 s ∙ h .entries e n ∙
             ap (λ (c : Bool). cond c (directionEntry l e) 0) (same-test (11 * (e % 16) + e / 16) (11 * i + p) (11 * i + (p + 1)) (omega arith) (omega arith))

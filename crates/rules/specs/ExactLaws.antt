@@ -1,16 +1,16 @@
 -- The first breach is none exactly when every rule from 10 to 15 is kept: each test of the scan decides its rule.
-use Prim.Native.Nat.{ℕ, zero, suc, _+_, _-_, _≤_, _<_}
+use Prim.Native.Nat.{ℕ, _+_, _-_, _≤_, _<_}
 use mathlib.Core.Path.{_≡_, refl, sym, ap, _∙_}
 use mathlib.Core.Logic.{_⊎_, inl, inr, ⊎-elim}
-use mathlib.Core.Bool.{Bool, true, false, cond, _&&_, true≢false, false≢true}
+use mathlib.Core.Bool.{Bool, true, false, cond, _&&_, true≢false}
 use mathlib.Core.Option.{Option, some, none}
 use mathlib.Core.List.{List}
 use native.Mathlib.Decide.{decLt}
 use native.Mathlib.Omega.{arith}
 use lib.Dec.{leb}
-use Rattle.text.specs.Decide.{Decides, by-test, is-true, is-false, decides-lt, decides-le, decides-and, decides-or, decides-not, decides-as}
-use Rattle.text.specs.Below.{EachBelow, count, first-none, none-first}
-use Rattle.text.specs.BelowLaws.{count-same}
+use Rattle.text.specs.Decide.{Decides, by-test, is-true, is-false, decides-lt, decides-le, decides-then, decides-and, decides-or, decides-not, decides-as}
+use Rattle.text.specs.Below.{EachBelow, first-none, none-first}
+use Rattle.text.specs.BelowLaws.{count-same, count-never}
 use Rattle.line.specs.declared.Kind.{Kind}
 use Rattle.line.specs.declared.Segment.{Segment}
 use Rattle.line.specs.declared.Line.{Line}
@@ -24,22 +24,14 @@ use Rattle.rules.specs.Minutes.{departsOn, arrivesOn}
 use Rattle.rules.specs.Rules.{InDays, NotEarly, Runs, Stops, NotLate, GapBy, Before, Apart, stands, standing, Room, Lawful}
 use Rattle.rules.specs.Directions.{directionsOf, on}
 use Rattle.rules.specs.DirectionsLaws.{decides-on, same-way, outbound-way}
-use Rattle.rules.specs.Conflicts.{gapBy, passage, keepsAfter, neitherFirst, clash, trainFound, partnerOf, pairWith, pairOn, segmentConflict, standsIn, standsAt, standingAt, crowdAt, crowdOn, stationConflict, orConflict, conflictOf}
-use Rattle.rules.specs.StationLaws.{conflict-none, none-conflict, never-crowded, crowded-never, crowd-middle, crowd-first, crowd-last}
+use Rattle.rules.specs.Conflicts.{gapBy, passage, keepsAfter, neitherFirst, clash, trainFound, partnerOf, pairWith, pairOn, segmentConflict, standsIn, standsAt, standingAt, crowdAt, crowdOn, stationConflict, conflictOf}
+use Rattle.rules.specs.StationLaws.{or-nothing, conflict-none, none-conflict, never-crowded, crowded-never, crowd-middle, crowd-first, crowd-last}
 use Rattle.rules.specs.PathsLaws.{decides-middle, train-within}
 use Rattle.rules.specs.RulesLaws.{decides-10, decides-11, decides-12, decides-13}
 use Rattle.rules.specs.Breaches.{trainBreach, conflictBreach, breachOf}
 use Rattle.rules.specs.BreachesLaws.{or-none, breach-none, none-breach}
 
 -- ---- rule 14
-
--- the second statement is decided only where the first holds
-decides-then : {P Q : Type 0} {a b : Bool} → Decides P a → (P → Decides Q b) → Decides (P × Q) (a && b)
-decides-then {P} {Q} {a} {b} p q = go a p q
-  where
-    go : (a : Bool) → Decides P a → (P → Decides Q b) → Decides (P × Q) (a && b)
-    go true p q = let d = q (p .yea refl) in record { yea = λ e. (p .yea refl, d .yea e); nay = λ e h. d .nay e (h .1) }
-    go false p q = record { yea = λ e. absurd (false≢true e); nay = λ e h. p .nay refl (h .0) }
 
 decides-gap : (k : Kind) (b : Bool) (g : Segment) (d a d′ a′ : ℕ) → Decides (GapBy k b g d a d′ a′) (gapBy k b g d a d′ a′)
 decides-gap Kind.S true g d a d′ a′ = decides-le _ _
@@ -53,7 +45,8 @@ module _ (l : Line) (few : l .«train_count» ≤ 12) (m : List ℕ) (p : ℕ) (
   abbrev passing : ℕ → Passage
   passing i = passage (directionsOf l) m p i
 
-  decides-before : (i j : ℕ) → i < l .«train_count» → j < l .«train_count» → Uses (train l i) p → Uses (train l j) p → Decides (Before l m p i j) (keepsAfter (segment l p) (passing i) (passing j))
+  decides-before : (i j : ℕ) → i < l .«train_count» → j < l .«train_count» → Uses (train l i) p → Uses (train l j) p →
+      Decides (Before l m p i j) (keepsAfter (segment l p) (passing i) (passing j))
   unfolding keepsAfter
   decides-before i j a b u v = rw (same-way l few p short i j a b u v) (decides-gap (segment l p .kind) (sameWay l i j) (segment l p) _ _ _ _)
 
@@ -81,7 +74,8 @@ module _ (l : Line) (few : l .«train_count» ≤ 12) (m : List ℕ) (p : ℕ) (
   -- no pair is found exactly when the rule is kept
   pair-clear : pairOn (segment l p) (directionsOf l) m (l .«train_count») p ≡ Conflict.Nothing → Apart l m p
   unfolding pairOn partnerOf
-  pair-clear e = apart-of (λ i a. none-first (clash (segment l p) (directionsOf l) m p i) (l .«train_count») (nobody i _ (none-conflict _ (l .«train_count») e i a)))
+  pair-clear e =
+      apart-of (λ i a. none-first (clash (segment l p) (directionsOf l) m p i) (l .«train_count») (nobody i _ (none-conflict _ (l .«train_count») e i a)))
     where
       nobody : (i : ℕ) (o : Option ℕ) → pairWith p i (trainFound o) ≡ Conflict.Nothing → o ≡ none
       nobody i none q = refl
@@ -89,7 +83,9 @@ module _ (l : Line) (few : l .«train_count» ≤ 12) (m : List ℕ) (p : ℕ) (
 
   clear-pair : Apart l m p → pairOn (segment l p) (directionsOf l) m (l .«train_count») p ≡ Conflict.Nothing
   unfolding pairOn partnerOf
-  clear-pair h = conflict-none _ (l .«train_count») (λ i a. ap (λ (o : Option ℕ). pairWith p i (trainFound o)) (first-none (clash (segment l p) (directionsOf l) m p i) (l .«train_count») (of-apart h i a)))
+  clear-pair h =
+      conflict-none _ (l .«train_count») (λ i a. ap (λ (o : Option ℕ). pairWith p i (trainFound o))
+      (first-none (clash (segment l p) (directionsOf l) m p i) (l .«train_count») (of-apart h i a)))
 
 -- ---- rule 15
 
@@ -97,7 +93,8 @@ module _ (l : Line) (few : l .«train_count» ≤ 12) (m : List ℕ) (s : ℕ) (
   -- a train goes over the segments on both sides of its middle stations
   decides-passes : (i : ℕ) → i < l .«train_count» → Decides (Middle (train l i) s) (on (directionsOf l) s i && on (directionsOf l) (s - 1) i)
   decides-passes i a =
-      decides-as (λ h. (omega (arith, h .0, h .1), omega (arith, h .0, h .1))) (λ h. ((omega (arith, h .0, h .1), omega (arith, h .0, h .1)), (omega (arith, h .0, h .1), omega (arith, h .0, h .1))))
+      decides-as (λ h. (omega (arith, h .0, h .1), omega (arith, h .0, h .1)))
+      (λ h. ((omega (arith, h .0, h .1), omega (arith, h .0, h .1)), (omega (arith, h .0, h .1), omega (arith, h .0, h .1))))
       (decides-and (decides-on l few s short i a) (decides-on l few (s - 1) (omega arith) i a))
 
   -- the test of the table of directions is the rule's
@@ -111,7 +108,8 @@ module _ (l : Line) (few : l .«train_count» ≤ 12) (m : List ℕ) (s : ℕ) (
       rw (is-true (decides-passes i a) h, is-true (decides-middle (train l i) s) h, out) (turned (outbound (train l i))))
       (λ h. rw (is-false (decides-passes i a) h, is-false (decides-middle (train l i) s) h) refl)
     where
-      turned : (w : Bool) → leb (cond w (arrivesOn m (s - 1) i) (arrivesOn m s i)) t && leb t (cond w (departsOn m s i) (departsOn m (s - 1) i)) ≡ leb (arrivesOn m (cond w (s - 1) s) i) t && leb t (departsOn m (cond w s (s - 1)) i)
+      turned : (w : Bool) → leb (cond w (arrivesOn m (s - 1) i) (arrivesOn m s i)) t && leb t (cond w (departsOn m s i) (departsOn m (s - 1) i))
+          ≡ leb (arrivesOn m (cond w (s - 1) s) i) t && leb t (departsOn m (cond w s (s - 1)) i)
       turned true = refl
       turned false = refl
 
@@ -126,17 +124,11 @@ module _ (l : Line) (few : l .«train_count» ≤ 12) (m : List ℕ) (s : ℕ) (
   clear-room : (tracks : ℕ) → tracks ≡ tracksAt l s → Room l m s → EachBelow 2880 (λ t. standingAt (directionsOf l) m (l .«train_count») s t ≤ tracks)
   clear-room tracks e h t b = omega (arith, h t b, standing-at t)
 
-count-never : (n : ℕ) → count (λ i. false) n ≡ 0
-unfolding count
-count-never zero = refl
-count-never (suc n) = rw (count-never n) refl
-
 -- at a station that is nobody's middle one nobody stands
 nobody-stands : (l : Line) (m : List ℕ) (s : ℕ) → EachTrain l (λ i. Middle (train l i) s → ⊥) → Room l m s
 unfolding standing stands
 nobody-stands l m s h t b =
-    let none = count-same (stands l m s t) (λ i. false) (l .«train_count») (λ i a. rw (is-false (decides-middle (train l i) s) (h i a)) refl) in
-    omega (arith, none, count-never (l .«train_count»))
+    omega (arith, count-never (stands l m s t) (l .«train_count») (λ i a. rw (is-false (decides-middle (train l i) s) (h i a)) refl))
 
 -- ---- the whole
 
@@ -149,11 +141,6 @@ pub record Kept (l : Line) (m : List ℕ) : Type 0 where
   pub rule14 : EachBelow (segmentCount l) (Apart l m)
   pub rule15 : EachBelow (l .«station_count») (Room l m)
 
-or-nothing : (a b : Conflict) → orConflict a b ≡ Conflict.Nothing → (a ≡ Conflict.Nothing) × (b ≡ Conflict.Nothing)
-or-nothing Conflict.Nothing b e = (refl, e)
-or-nothing (Conflict.OnSegment x) b e = let z : _≡_ {A = ℕ} 0 1 = cc in absurd (omega arith)
-or-nothing (Conflict.AtStation x) b e = let z : _≡_ {A = ℕ} 0 1 = cc in absurd (omega arith)
-
 no-conflict : (c : Conflict) → conflictBreach c ≡ Breach.None → c ≡ Conflict.Nothing
 no-conflict Conflict.Nothing e = refl
 no-conflict (Conflict.OnSegment x) e = let z : _≡_ {A = ℕ} 0 1 = cc in absurd (omega arith)
@@ -165,11 +152,13 @@ module _ (l : Line) (w : Within l) (a : Arrays l) (m : List ℕ) where
 
   -- ---- rule 14 on every segment
 
-  segments-clear : segmentConflict (l .segments) (directionsOf l) m (segmentCount l) (l .«train_count») ≡ Conflict.Nothing → EachBelow (segmentCount l) (Apart l m)
+  segments-clear : segmentConflict (l .segments) (directionsOf l) m (segmentCount l) (l .«train_count») ≡ Conflict.Nothing →
+      EachBelow (segmentCount l) (Apart l m)
   unfolding segmentConflict
   segments-clear e p b = pair-clear l few-trains m p (omega (arith, w .stations .1)) (none-conflict _ (segmentCount l) e p b)
 
-  clear-segments : EachBelow (segmentCount l) (Apart l m) → segmentConflict (l .segments) (directionsOf l) m (segmentCount l) (l .«train_count») ≡ Conflict.Nothing
+  clear-segments : EachBelow (segmentCount l) (Apart l m) →
+      segmentConflict (l .segments) (directionsOf l) m (segmentCount l) (l .«train_count») ≡ Conflict.Nothing
   unfolding segmentConflict
   clear-segments h = conflict-none _ (segmentCount l) (λ p b. clear-pair l few-trains m p (omega (arith, w .stations .1)) (h p b))
 
@@ -180,19 +169,24 @@ module _ (l : Line) (w : Within l) (a : Arrays l) (m : List ℕ) where
   ends-free s (inl e) = nobody-stands l m s (λ i b h. omega (arith, h .0))
   ends-free s (inr e) = nobody-stands l m s (λ i b h. let t = train-within l i w (a .trains) b in omega (arith, h .1, t .origin .1, t .destination .1))
 
-  crowd-clear : (s : ℕ) → 0 < s → s + 1 < l .«station_count» → crowdOn (l .tracks) (directionsOf l) m (l .«station_count») (l .«train_count») s ≡ Conflict.Nothing → Room l m s
+  crowd-clear : (s : ℕ) → 0 < s → s + 1 < l .«station_count» →
+      crowdOn (l .tracks) (directionsOf l) m (l .«station_count») (l .«train_count») s ≡ Conflict.Nothing → Room l m s
   crowd-clear s o b e =
       room-clear l few-trains m s o (omega (arith, w .stations .1)) (tracksAt l s) refl
-      (never-crowded (directionsOf l) m (l .«train_count») (tracksAt l s) s (never _ (sym (crowd-middle (l .tracks) (directionsOf l) m (l .«station_count») (l .«train_count») s o b) ∙ e)))
+      (never-crowded (directionsOf l) m (l .«train_count») (tracksAt l s) s
+      (never _ (sym (crowd-middle (l .tracks) (directionsOf l) m (l .«station_count») (l .«train_count») s o b) ∙ e)))
     where
       never : (f : MinuteFound) → crowdAt (directionsOf l) m (l .«train_count») (tracksAt l s) s f ≡ Conflict.Nothing → f ≡ MinuteFound.Never
       never MinuteFound.Never q = refl
       never (MinuteFound.Minute t) q = let z : _≡_ {A = ℕ} 0 1 = cc in absurd (omega arith)
 
-  clear-crowd : (s : ℕ) → 0 < s → s + 1 < l .«station_count» → Room l m s → crowdOn (l .tracks) (directionsOf l) m (l .«station_count») (l .«train_count») s ≡ Conflict.Nothing
+  clear-crowd : (s : ℕ) → 0 < s → s + 1 < l .«station_count» → Room l m s →
+      crowdOn (l .tracks) (directionsOf l) m (l .«station_count») (l .«train_count») s ≡ Conflict.Nothing
   clear-crowd s o b h =
       crowd-middle (l .tracks) (directionsOf l) m (l .«station_count») (l .«train_count») s o b
-      ∙ ap (λ (f : MinuteFound). crowdAt (directionsOf l) m (l .«train_count») (tracksAt l s) s f) (crowded-never (directionsOf l) m (l .«train_count») (tracksAt l s) s (clear-room l few-trains m s o (omega (arith, w .stations .1)) (tracksAt l s) refl h))
+      ∙ ap (λ (f : MinuteFound). crowdAt (directionsOf l) m (l .«train_count») (tracksAt l s) s f)
+      (crowded-never (directionsOf l) m (l .«train_count») (tracksAt l s) s
+      (clear-room l few-trains m s o (omega (arith, w .stations .1)) (tracksAt l s) refl h))
 
   -- each station is the first, the last, or between
   by-place : {Q : Type 0} (s : ℕ) → (s ≡ 0 → Q) → (l .«station_count» ≤ s + 1 → Q) → (0 < s → s + 1 < l .«station_count» → Q) → Q
@@ -201,13 +195,18 @@ module _ (l : Line) (w : Within l) (a : Arrays l) (m : List ℕ) where
     | no o ↦ f (omega arith)
   ]
 
-  stations-clear : stationConflict (l .tracks) (directionsOf l) m (l .«station_count») (l .«train_count») ≡ Conflict.Nothing → EachBelow (l .«station_count») (Room l m)
+  stations-clear : stationConflict (l .tracks) (directionsOf l) m (l .«station_count») (l .«train_count») ≡ Conflict.Nothing →
+      EachBelow (l .«station_count») (Room l m)
   unfolding stationConflict
-  stations-clear e s b = by-place s (λ z. ends-free s (inl z)) (λ z. ends-free s (inr z)) (λ o k. crowd-clear s o k (none-conflict _ (l .«station_count») e s b))
+  stations-clear e s b =
+      by-place s (λ z. ends-free s (inl z)) (λ z. ends-free s (inr z)) (λ o k. crowd-clear s o k (none-conflict _ (l .«station_count») e s b))
 
-  clear-stations : EachBelow (l .«station_count») (Room l m) → stationConflict (l .tracks) (directionsOf l) m (l .«station_count») (l .«train_count») ≡ Conflict.Nothing
+  clear-stations : EachBelow (l .«station_count») (Room l m) →
+      stationConflict (l .tracks) (directionsOf l) m (l .«station_count») (l .«train_count») ≡ Conflict.Nothing
   unfolding stationConflict
-  clear-stations h = conflict-none _ (l .«station_count») (λ s b. by-place s (crowd-first (l .tracks) (directionsOf l) m (l .«station_count») (l .«train_count») s) (crowd-last (l .tracks) (directionsOf l) m (l .«station_count») (l .«train_count») s) (λ o k. clear-crowd s o k (h s b)))
+  clear-stations h =
+      conflict-none _ (l .«station_count») (λ s b. by-place s (crowd-first (l .tracks) (directionsOf l) m (l .«station_count») (l .«train_count») s)
+      (crowd-last (l .tracks) (directionsOf l) m (l .«station_count») (l .«train_count») s) (λ o k. clear-crowd s o k (h s b)))
 
   -- ---- the theorem
 

@@ -35,7 +35,8 @@ unfolding freeAfter
 free-next t k = rw add-one refl
 
 -- the stop after leg k - 1 and the run over leg k
-pub free-step : (t : Train) (k : ℕ) {a x y : ℕ} {runs stops : List ℕ} → 1 ≤ k → runs ≡ t .runs → stops ≡ t .stops → a ≡ freeAfter t (k - 1) → x ≡ getD stops (k - 1) 0 → y ≡ getD runs k 0 → a + x + y ≡ freeAfter t (k + 1 - 1)
+pub free-step : (t : Train) (k : ℕ) {a x y : ℕ} {runs stops : List ℕ} → 1 ≤ k → runs ≡ t .runs → stops ≡ t .stops → a ≡ freeAfter t (k - 1) →
+    x ≡ getD stops (k - 1) 0 → y ≡ getD runs k 0 → a + x + y ≡ freeAfter t (k + 1 - 1)
 unfolding freeAfter
 free-step t k l r s ea ex ey =
     let next : k + 1 - 1 ≡ suc (k - 1) = omega arith in

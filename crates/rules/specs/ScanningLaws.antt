@@ -12,8 +12,8 @@ use lib.Seq.{getD-set-same, getD-set-other}
 use lib.Dec.{ltb}
 use borrow.Author.Tests.{lt-ltb, le-ltb}
 use Rattle.text.specs.Decide.{is-true, is-false, decides-and, decides-le}
-use Rattle.text.specs.Below.{EachBelow, first, count}
-use Rattle.text.specs.BelowLaws.{count-same}
+use Rattle.text.specs.Below.{EachBelow, count}
+use Rattle.text.specs.BelowLaws.{first-same, count-same, count-within}
 use Rattle.line.specs.declared.Segment.{Segment}
 use Rattle.line.specs.Record.{noSegment}
 use Rattle.rules.specs.declared.conflicts.Conflict.{Conflict}
@@ -29,11 +29,6 @@ use Rattle.rules.specs.StationLaws.{none-conflict}
 use Rattle.rules.specs.BreachesLaws.{first-holds}
 
 -- ---- a segment whose minutes are the same
-
-first-same : (f g : ℕ → Bool) (n : ℕ) → EachBelow n (λ i. f i ≡ g i) → first f n ≡ first g n
-unfolding first
-first-same f g zero h = refl
-first-same f g (suc n) h = rw (first-same f g n (λ i l. h i (omega arith)), h n (omega arith)) refl
 
 conflict-same : (f g : ℕ → Conflict) (n : ℕ) → EachBelow n (λ i. f i ≡ g i) → firstConflict f n ≡ firstConflict g n
 unfolding firstConflict
@@ -212,15 +207,6 @@ module _ (ds m : List ℕ) (s : ℕ) where
           (λ j k. (getD-set-other (x .came) i j (y .came) 0 k, getD-set-other (x .leaves) i j (y .leaves) 0 k))
           (λ t. rw (c, v, q) refl)
           (λ r. c)
-
--- a count of those below n alone
-count-within : (f : ℕ → Bool) (n k : ℕ) → n ≤ k → count (λ i. ltb i n && f i) k ≡ count f n
-unfolding count
-count-within f n zero l = let e : n ≡ 0 = omega arith in rw e refl
-count-within f n (suc k) l = elim (ℕ-discrete n (suc k)) [
-  | yes e ↦ count-same _ _ (suc k) (λ i o. rw (lt-ltb i n (omega arith)) refl) ∙ ap (count f) (sym e)
-  | no e ↦ rw (le-ltb k n (omega arith)) (omega (arith, count-within f n k (omega arith)))
-]
 
 -- so many stand there as the entries tell
 pub standing-of : (ds m : List ℕ) (n s : ℕ) (x : Stays) → StaysOf ds m n s x → n ≤ 16 → (t k : ℕ) → k ≡ count (standsBy (x .came) (x .leaves) t) 16 →

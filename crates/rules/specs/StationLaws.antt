@@ -29,10 +29,10 @@ use Rattle.rules.specs.Standing.{crowd-arrives}
 
 -- ---- there is no first conflict exactly when there is none at any number
 
-nothing-first : (c d : Conflict) → orConflict c d ≡ Conflict.Nothing → (c ≡ Conflict.Nothing) × (d ≡ Conflict.Nothing)
-nothing-first Conflict.Nothing d e = (refl, e)
-nothing-first (Conflict.OnSegment x) d e = absurd (let z : _≡_ {A = ℕ} 0 1 = cc in omega arith)
-nothing-first (Conflict.AtStation x) d e = absurd (let z : _≡_ {A = ℕ} 0 1 = cc in omega arith)
+pub or-nothing : (c d : Conflict) → orConflict c d ≡ Conflict.Nothing → (c ≡ Conflict.Nothing) × (d ≡ Conflict.Nothing)
+or-nothing Conflict.Nothing d e = (refl, e)
+or-nothing (Conflict.OnSegment x) d e = absurd (let z : _≡_ {A = ℕ} 0 1 = cc in omega arith)
+or-nothing (Conflict.AtStation x) d e = absurd (let z : _≡_ {A = ℕ} 0 1 = cc in omega arith)
 
 module _ (f : ℕ → Conflict) where
   pub conflict-none : (n : ℕ) → EachBelow n (λ i. f i ≡ Conflict.Nothing) → firstConflict f n ≡ Conflict.Nothing
@@ -44,7 +44,7 @@ module _ (f : ℕ → Conflict) where
   unfolding firstConflict
   none-conflict zero e i l = absurd (omega arith)
   none-conflict (suc n) e i l =
-      let h = nothing-first (firstConflict f n) (f n) e in
+      let h = or-nothing (firstConflict f n) (f n) e in
       each-more (λ i. f i ≡ Conflict.Nothing) n (none-conflict n (h .0)) (h .1) i l
 
 -- ---- when a train stands at a station
@@ -54,7 +54,8 @@ module _ (ds m : List ℕ) (s i : ℕ) (p : Bool) (c l w : ℕ) (at : w ≡ way 
   pub stay-outbound : w ≡ 1 → c ≡ arrivesOn m (s - 1) i → l ≡ departsOn m s i → _≡_ {A = Stay} (record { passes = p; came = c; leaves = l }) (stay ds m s i)
   stay-outbound o f g = rw (eq-eqb (way ds s i) 1 (sym at ∙ o)) (λ k. record { passes = e k; came = f k; leaves = g k })
 
-  pub stay-inbound : (w ≡ 1 → ⊥) → c ≡ arrivesOn m s i → l ≡ departsOn m (s - 1) i → _≡_ {A = Stay} (record { passes = p; came = c; leaves = l }) (stay ds m s i)
+  pub stay-inbound : (w ≡ 1 → ⊥) → c ≡ arrivesOn m s i → l ≡ departsOn m (s - 1) i →
+      _≡_ {A = Stay} (record { passes = p; came = c; leaves = l }) (stay ds m s i)
   stay-inbound o f g = rw (ne-eqb (way ds s i) 1 (λ q. o (at ∙ q))) (λ k. record { passes = e k; came = f k; leaves = g k })
 
 -- when it stands
@@ -114,7 +115,8 @@ module _ (ds m : List ℕ) (n tracks s : ℕ) where
   few-before : (i e : ℕ) → n ≤ i → Earliest ds m n tracks s i e → EachBelow e (λ t. ltb tracks (standingAt ds m n s t) ≡ false)
   unfolding standingAt
   few-before i e b h t l = is-false (decides-lt tracks (standingAt ds m n s t)) (λ q.
-      let a = crowd-arrives (λ i. stay ds m s i .passes ≡ true) (cameTo ds m s) (leavesFrom ds m s) (standsAt ds m s) (λ t i. decides-stands (stay ds m s i) t) n t tracks q in
+      let a = crowd-arrives (λ i. stay ds m s i .passes ≡ true) (cameTo ds m s) (leavesFrom ds m s) (standsAt ds m s)
+      (λ t i. decides-stands (stay ds m s i) t) n t tracks q in
       omega (arith, a .3, h .least (a .0) (omega (arith, a .1)) (a .2) (a .4)))
 
   pub earliest-minute : (i e : ℕ) → n ≤ i → e < 2880 → Earliest ds m n tracks s i e → MinuteFound.Minute e ≡ earliestCrowd ds m n tracks s
@@ -147,7 +149,8 @@ module _ (ds m : List ℕ) (tracks s t i mask : ℕ) (e : mask ≡ crowdMask ds 
   unfolding crowdMask inCrowd
   mask-out h = rw (sum-more, h) (omega arith)
 
-  pub mask-in : (bit k : ℕ) → standsAt ds m s t i ≡ true → k ≡ count (standsAt ds m s t) i → k ≤ tracks → bit ≡ 2 ^ i → mask + bit ≡ crowdMask ds m (i + 1) tracks s t
+  pub mask-in : (bit k : ℕ) → standsAt ds m s t i ≡ true → k ≡ count (standsAt ds m s t) i → k ≤ tracks → bit ≡ 2 ^ i →
+      mask + bit ≡ crowdMask ds m (i + 1) tracks s t
   unfolding crowdMask inCrowd
   mask-in bit k h c l b = rw (sum-more, h, le-leb (count (standsAt ds m s t) i) tracks (omega arith)) (omega arith)
 
@@ -199,7 +202,8 @@ module _ (tracks ds m : List ℕ) (stations n : ℕ) where
   pub station-start : NoCrowd 1
   station-start = conflict-on (crowdOn tracks ds m stations n) 0 (conflict-start (crowdOn tracks ds m stations n)) (crowd-first tracks ds m stations n 0 refl)
 
-  module _ (s : ℕ) (x : Conflict) (below : NoCrowd s) (l : 0 < s) (k : s + 1 < stations) (e : x ≡ crowdAt ds m n (getD tracks s 0) s (earliestCrowd ds m n (getD tracks s 0) s)) where
+  module _ (s : ℕ) (x : Conflict) (below : NoCrowd s) (l : 0 < s) (k : s + 1 < stations)
+      (e : x ≡ crowdAt ds m n (getD tracks s 0) s (earliestCrowd ds m n (getD tracks s 0) s)) where
     pub station-on : x ≡ Conflict.Nothing → NoCrowd (s + 1)
     station-on h = conflict-on (crowdOn tracks ds m stations n) s below (crowd-middle tracks ds m stations n s l k ∙ sym e ∙ h)
 

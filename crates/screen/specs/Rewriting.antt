@@ -33,7 +33,8 @@ module _ (file entry : List ℕ) (x : ReadLine) (r : ℕ) (read : x ≡ answered
   unfolding rewriting
   respelt-as a e = rw (← read, e) refl
 
-  pub rewritten-line : {exit : List ℕ} {w : Written} → x .answer ≡ Answer.Accepted → Lent (spelling (x .line)) entry exit w → r ≡ packedWritten w → Rewritten file entry exit r
+  pub rewritten-line : {exit : List ℕ} {w : Written} → x .answer ≡ Answer.Accepted → Lent (spelling (x .line)) entry exit w → r ≡ packedWritten w →
+      Rewritten file entry exit r
   rewritten-line e lent p =
       let what = respelt-as Answer.Accepted e in
       record {

@@ -59,7 +59,8 @@ module _ (l : Line) (w : Within l) (a : Arrays l) where
         record { fit = least .fit; keeps = least .keeps; tidy = free-tidy l; timely = is-true (decides-inTime l m) late; cost-is = sym cost }
 
     -- what the walk from it ends with
-    pub finds-walked : (best : List ℕ) {best′ marks′ : List ℕ} {y r : Tally} → y .found ≡ false → y .steps ≡ 1 → Walks l m free y (planPart l m free best y) marks′ best′ r →
+    pub finds-walked : (best : List ℕ) {best′ marks′ : List ℕ} {y r : Tally} → y .found ≡ false → y .steps ≡ 1 →
+        Walks l m free y (planPart l m free best y) marks′ best′ r →
         Finds l (record { found = r .found; minutes = best′; steps = r .steps })
     finds-walked best {best′} {marks′} {y} {r} none-yet one walks =
         let none-so-far : bestOf y best ≡ nothing = rw none-yet refl in
@@ -78,9 +79,9 @@ module _ (l : Line) (w : Within l) (a : Arrays l) where
   -- ---- no minutes of the first plan are in time
 
   module _ (late : (m : List ℕ) → Fit 352 m → Keeps l free m → EachTrain l (NotLate l m) → ⊥) where
-    walk-nothing : walk (planning l) ≡ record { best = nothing; steps = 1 }
+    walk-one : walk (planning l) ≡ record { best = nothing; steps = 1 }
     unfolding walk plenty
-    walk-nothing = go (planning l .least free start) refl
+    walk-one = go (planning l .least free start) refl
       where
         go : (x : Least) → planning l .least free start ≡ x → takeUp (planning l) (suc fuel) free start nothing ≡ record { best = nothing; steps = 1 }
         go none e = taken-none (planning l) fuel free start nothing e
@@ -93,6 +94,6 @@ module _ (l : Line) (w : Within l) (a : Arrays l) where
     finds-nothing m =
         record {
           best = λ e. let z : _≡_ {A = ℕ} 0 1 = cc in absurd (omega arith);
-          none = λ e. unsolved l w a (ap (λ (x : Walked). x .best) walk-nothing);
-          steps = ap cutOff (sym (ap (λ (x : Walked). x .steps) walk-nothing));
+          none = λ e. unsolved l w a (ap (λ (x : Walked). x .best) walk-one);
+          steps = ap cutOff (sym (ap (λ (x : Walked). x .steps) walk-one));
         }

@@ -2,7 +2,7 @@
 use Prim.Native.Nat.{ℕ}
 use mathlib.Core.Path.{_≡_, refl, ap}
 use mathlib.Core.List.{List}
-use Rattle.orders.specs.Least.{Least, minutes, none, Fit, IsLeast, NoneKeeps}
+use Rattle.orders.specs.Least.{Least, minutes, none, Fit, IsLeast}
 use Rattle.orders.specs.LeastLaws.{least-one}
 use Rattle.solver.specs.Problem.{Problem, Laws}
 
@@ -13,12 +13,3 @@ module _ (P : Problem) (L : Laws P) (cs : P .Plan) (s : List ℕ) (z : Fit (P .e
       go : (x : Least) → P .least cs s ≡ x → x ≡ minutes m
       go (minutes m′) e = ap minutes (least-one (P .events) (P .Keeps cs) s m′ m (L .least-is cs s m′ z e) h)
       go none e = absurd (L .least-none cs s z e m (h .fit) (h .keeps) (h .above))
-
-  pub least-missing : NoneKeeps (P .events) (P .Keeps cs) s → P .least cs s ≡ none
-  least-missing h = go (P .least cs s) refl
-    where
-      go : (x : Least) → P .least cs s ≡ x → x ≡ none
-      go (minutes m) e =
-          let i = L .least-is cs s m z e in
-          absurd (h m (i .fit) (i .keeps) (i .above))
-      go none e = refl

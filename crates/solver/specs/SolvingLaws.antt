@@ -7,6 +7,7 @@ use native.Mathlib.Omega.{arith}
 use Rattle.text.specs.declared.Cursor.{Cursor}
 use Rattle.text.specs.declared.Written.{Written}
 use Rattle.text.specs.Parsed.{Parsed}
+use Rattle.text.specs.ParsedLaws.{bad-got}
 use Rattle.text.specs.Lend.{Spelling, Lent}
 use Rattle.line.specs.declared.Answer.{Answer}
 use Rattle.line.specs.declared.Line.{Line}
@@ -28,9 +29,6 @@ refused-is : (a : Parsed Line) (n p : ℕ) → answered a .answer ≡ Answer.Ref
 refused-is (Parsed.got l c) n p e = let z : _≡_ {A = ℕ} 0 1 = cc in absurd (omega arith)
 refused-is (Parsed.bad m q) n p e = cc
 
-not-got : {l : Line} {c : Cursor} {n p : ℕ} → Parsed.bad n p ≡ Parsed.got l c → ⊥
-not-got e = let z : _≡_ {A = ℕ} 0 1 = cc in omega arith
-
 module _ (file : List ℕ) {x : ReadLine} (read : x ≡ answered (lineFile file)) where
   -- a refused file
   pub solving-refused : (entry : List ℕ) {n p : ℕ} {r : Written} → x .answer ≡ Answer.Refused n p → r ≡ fileRefused (x .answer) → Solving file entry entry r
@@ -38,8 +36,8 @@ module _ (file : List ℕ) {x : ReadLine} (read : x ≡ answered (lineFile file)
       let bad = refused-is (lineFile file) n p (sym (ap (λ (y : ReadLine). y .answer) read) ∙ e) in
       record {
         refused = λ m q f. (h ∙ ap fileRefused e ∙ same m q (sym bad ∙ f), refl);
-        none = λ l c f _. absurd (not-got (sym bad ∙ f));
-        best = λ l c f _ _. absurd (not-got (sym bad ∙ f));
+        none = λ l c f _. absurd (bad-got _ _ _ _ (sym bad ∙ f));
+        best = λ l c f _ _. absurd (bad-got _ _ _ _ (sym bad ∙ f));
       }
     where
       same : (m q : ℕ) → _≡_ {A = Parsed Line} (Parsed.bad n p) (Parsed.bad m q) → Written.Refused n p ≡ Written.Refused m q
@@ -68,7 +66,8 @@ module _ (file : List ℕ) {x : ReadLine} (read : x ≡ answered (lineFile file)
         }
 
     -- m is the best
-    pub solving-best : (m : List ℕ) {entry exit : List ℕ} {r : Written} → Best (x .line) m → Lent (spelling (x .line) m) entry exit r → Solving file entry exit r
+    pub solving-best : (m : List ℕ) {entry exit : List ℕ} {r : Written} → Best (x .line) m → Lent (spelling (x .line) m) entry exit r →
+        Solving file entry exit r
     solving-best m {entry} {exit} {r} b lent =
         record {
           refused = λ n p f. absurd (not-bad f);

@@ -2,7 +2,7 @@
 use Prim.Native.Nat.{ℕ, zero, suc, _+_, _≤_, _<_}
 use mathlib.Core.Path.{_≡_, refl, _∙_, ap}
 use mathlib.Core.Bool.{true, false, _&&_}
-use mathlib.Core.List.{List, [], _∷_, _++_}
+use mathlib.Core.List.{List, [], _∷_, _++_, append-nil}
 use native.Mathlib.Omega.{arith}
 use Rattle.text.specs.Below.{gather, gather-more}
 use Rattle.orders.specs.Least.{minutes, none}
@@ -57,17 +57,13 @@ module _ (P : Problem) (fuel : ℕ) (cs : P .Plan) where
 
 -- ---- one way more
 
-no-more : {A : Type 0} (xs : List A) → xs ++ [] ≡ xs
-no-more [] = refl
-no-more (x ∷ xs) = ap (λ (ys : List _). x ∷ ys) (no-more xs)
-
 -- numbers that give nothing
 pub none-more : {A : Type 0} (f : ℕ → List A) (k n e : ℕ) → e ≡ n + k → ((i : ℕ) → n ≤ i → i < e → f i ≡ []) → gather f e ≡ gather f n
 none-more f zero n e at h = ap (gather f) (omega arith)
 none-more f (suc k) n e at h =
     let last : e ≡ n + k + 1 = omega arith in
     ap (gather f) last ∙ gather-more f (n + k) ∙ ap (λ (x : List _). gather f (n + k) ++ x) (h (n + k) (omega arith) (omega arith)) ∙
-    no-more (gather f (n + k)) ∙ none-more f k n (n + k) refl (λ i low high. h i low (omega arith))
+    append-nil (gather f (n + k)) ∙ none-more f k n (n + k) refl (λ i low high. h i low (omega arith))
 
 module _ {A : Type 0} (go : A → BestSoFar → Walked) where
   pub more-best : (xs : List A) (x : A) (b : BestSoFar) → inOrder go (xs ++ (x ∷ [])) b .best ≡ go x (inOrder go xs b .best) .best

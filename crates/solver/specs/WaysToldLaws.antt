@@ -1,7 +1,7 @@
 -- Laws of the ways as the program has them: bits of a mask as it writes them, and one law for each way that it returns.
 use Prim.Native.Nat.{ℕ, zero, suc, _+_, _*_, _-_, _/_, _%_, _^_, _≤_, _<_}
 use mathlib.Core.Path.{_≡_, refl, sym, _∙_, ap}
-use mathlib.Core.Bool.{Bool, true, false, not, _&&_, true≢false, false≢true}
+use mathlib.Core.Bool.{true, false}
 use mathlib.Core.List.{List, []}
 use native.Mathlib.Nat.{mod-eq-of-lt}
 use native.Mathlib.Omega.{arith}
@@ -30,17 +30,6 @@ pub bit-put : (x j : ℕ) → j < 16 → bitOr x (1 * 2 ^ j % 65536) ≡ withBit
 bit-put x j h =
     let e : 1 * 2 ^ j ≡ 2 ^ j = omega arith in
     ap (bitOr x) (ap (λ (n : ℕ). n % 65536) e ∙ mod-eq-of-lt (pow-lt {i = j} {j = 16} h)) ∙ sym (withBit-or j x)
-
--- a test r of x that fails, or holds, before another
-pub first-fails : (x r : Bool) → r ≡ x → not r ≡ true → (y : Bool) → false ≡ x && y
-first-fails true true e n y = absurd (false≢true n)
-first-fails true false e n y = absurd (false≢true e)
-first-fails false r e n y = refl
-
-pub first-holds : (x r : Bool) → r ≡ x → not r ≡ false → (y z : Bool) → z ≡ y → z ≡ x && y
-first-holds true r e n y z q = q
-first-holds false true e n y z q = absurd (true≢false e)
-first-holds false false e n y z q = absurd (true≢false n)
 
 -- ---- the leg out of a station
 

@@ -33,11 +33,6 @@ unfoldable pub first : (ℕ → Bool) → ℕ → Option ℕ
 first f zero = none
 first f (suc n) = orElse (first f n) (cond (f n) (some n) none)
 
--- the first answer among those for the numbers below n
-unfoldable pub firstOf : {A : Type 0} → (ℕ → Option A) → ℕ → Option A
-firstOf f zero = none
-firstOf f (suc n) = orElse (firstOf f n) (f n)
-
 -- what the numbers below n give, in order
 unfoldable pub gather : {A : Type 0} → (ℕ → List A) → ℕ → List A
 gather f zero = []
@@ -106,9 +101,6 @@ module _ (f : ℕ → Bool) where
   first-none n h = first-only n (first f n) none (first-is n) h
 
   -- what the answer says
-  pub found-first : (n i : ℕ) → first f n ≡ some i → (i < n) × (f i ≡ true) × EachBelow i (λ j. f j ≡ false)
-  found-first n i e = subst (First f n) e (first-is n)
-
   pub none-first : (n : ℕ) → first f n ≡ none → EachBelow n (λ j. f j ≡ false)
   none-first n e = subst (First f n) e (first-is n)
 

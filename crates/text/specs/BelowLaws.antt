@@ -1,18 +1,25 @@
--- Laws of counts, sums, tables and lists over the numbers below n.
+-- Laws of first numbers, counts, sums, tables and lists over the numbers below n.
 use Prim.Native.Nat.{ℕ, zero, suc, _+_, _*_, _≤_, _<_, min}
-use mathlib.Core.Path.{_≡_, refl, ap, _∙_, subst}
+use mathlib.Core.Path.{_≡_, refl, sym, ap, _∙_, subst}
 use mathlib.Core.Logic.{⊎-elim}
 use mathlib.Core.Bool.{Bool, true, false, cond, _&&_}
 use mathlib.Core.List.{List, List·Memᴰ, List·Memᴰ·not-nil, Memᴰ·append-left, Memᴰ·append-right, List·Memᴰ·append-cases}
-use native.Mathlib.Decide.{decLt}
+use native.Mathlib.Decide.{decLt, ℕ-discrete}
 use native.Mathlib.Nat.{suc-mul}
 use native.Mathlib.Omega.{arith}
-use lib.Dec.{leb}
+use lib.Dec.{leb, ltb}
 use lib.ListN.{length, getD, length-append}
-use borrow.Author.Tests.{leb-true, leb-false}
-use Rattle.text.specs.Below.{EachBelow, each-more, gather, table, count, sum}
+use borrow.Author.Tests.{leb-true, leb-false, lt-ltb, le-ltb}
+use Rattle.text.specs.Below.{EachBelow, each-more, first, gather, table, count, sum}
 use Rattle.text.specs.Each.{Each}
 use Rattle.text.specs.EachLaws.{each-append, each-parts}
+
+-- ---- the first number
+
+pub first-same : (f g : ℕ → Bool) (n : ℕ) → EachBelow n (λ i. f i ≡ g i) → first f n ≡ first g n
+unfolding first
+first-same f g zero h = refl
+first-same f g (suc n) h = rw (first-same f g n (λ i l. h i (omega arith)), h n (omega arith)) refl
 
 -- ---- counts and sums
 
@@ -45,6 +52,20 @@ pub count-same : (f g : ℕ → Bool) (n : ℕ) → EachBelow n (λ i. f i ≡ g
 unfolding count
 count-same f g zero h = refl
 count-same f g (suc n) h = rw (count-same f g n (λ i a. h i (omega arith)), h n (omega arith)) refl
+
+pub count-never : (f : ℕ → Bool) (n : ℕ) → EachBelow n (λ i. f i ≡ false) → count f n ≡ 0
+unfolding count
+count-never f zero h = refl
+count-never f (suc n) h = rw (count-never f n (λ i a. h i (omega arith)), h n (omega arith)) refl
+
+-- a count of those below n alone
+pub count-within : (f : ℕ → Bool) (n k : ℕ) → n ≤ k → count (λ i. ltb i n && f i) k ≡ count f n
+unfolding count
+count-within f n zero l = let e : n ≡ 0 = omega arith in rw e refl
+count-within f n (suc k) l = elim (ℕ-discrete n (suc k)) [
+  | yes e ↦ count-same _ _ (suc k) (λ i o. rw (lt-ltb i n (omega arith)) refl) ∙ ap (count f) (sym e)
+  | no e ↦ rw (le-ltb k n (omega arith)) (omega (arith, count-within f n k (omega arith)))
+]
 
 pub sum-same : (f g : ℕ → ℕ) (n : ℕ) → EachBelow n (λ i. f i ≡ g i) → sum f n ≡ sum g n
 unfolding sum

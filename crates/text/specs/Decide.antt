@@ -41,17 +41,16 @@ decides-eq a b = record { yea = eqb-true a b; nay = eqb-false a b }
 pub decides-self : (b : Bool) → Decides (b ≡ true) b
 decides-self b = record { yea = λ e. e; nay = λ e h. true≢false (sym h ∙ e) }
 
-pub decides-never : Decides ⊥ false
-decides-never = record { yea = λ e. absurd (false≢true e); nay = λ e h. h }
+-- the second statement is decided only where the first holds
+pub decides-then : {P Q : Type 0} {a b : Bool} → Decides P a → (P → Decides Q b) → Decides (P × Q) (a && b)
+decides-then {P} {Q} {a} {b} p q = go a p q
+  where
+    go : (a : Bool) → Decides P a → (P → Decides Q b) → Decides (P × Q) (a && b)
+    go true p q = let d = q (p .yea refl) in record { yea = λ e. (p .yea refl, d .yea e); nay = λ e h. d .nay e (h .1) }
+    go false p q = record { yea = λ e. absurd (false≢true e); nay = λ e h. p .nay refl (h .0) }
 
 pub decides-and : {P Q : Type 0} {a b : Bool} → Decides P a → Decides Q b → Decides (P × Q) (a && b)
-decides-and {P} {Q} {a} {b} p q = go a b p q
-  where
-    go : (a b : Bool) → Decides P a → Decides Q b → Decides (P × Q) (a && b)
-    go true true p q = record { yea = λ e. (p .yea refl, q .yea refl); nay = λ e h. true≢false e }
-    go true false p q = record { yea = λ e. absurd (false≢true e); nay = λ e h. q .nay refl (h .1) }
-    go false true p q = record { yea = λ e. absurd (false≢true e); nay = λ e h. p .nay refl (h .0) }
-    go false false p q = record { yea = λ e. absurd (false≢true e); nay = λ e h. p .nay refl (h .0) }
+decides-and p q = decides-then p (λ _. q)
 
 pub decides-or : {P Q : Type 0} {a b : Bool} → Decides P a → Decides Q b → Decides (P ⊎ Q) (a || b)
 decides-or {P} {Q} {a} {b} p q = go a b p q
@@ -69,12 +68,9 @@ decides-not {P} {a} p = go a p
     go true p = record { yea = λ e. absurd (false≢true e); nay = λ e h. h (p .yea refl) }
     go false p = record { yea = λ e. p .nay refl; nay = λ e h. true≢false e }
 
--- `P` is asked only where `C` holds
-pub decides-if : {C P : Type 0} {c a : Bool} → Decides C c → Decides P a → Decides (C → P) (not c || a)
-decides-if {C} {P} {c} {a} q p = go c a q p
-  where
-    go : (c a : Bool) → Decides C c → Decides P a → Decides (C → P) (not c || a)
-    go true true q p = record { yea = λ e h. p .yea refl; nay = λ e h. true≢false e }
-    go true false q p = record { yea = λ e. absurd (false≢true e); nay = λ e h. p .nay refl (h (q .yea refl)) }
-    go false true q p = record { yea = λ e h. p .yea refl; nay = λ e h. true≢false e }
-    go false false q p = record { yea = λ e h. absurd (q .nay refl h); nay = λ e h. true≢false e }
+-- for the code: of two tests the first fails, or it holds and the second is asked
+pub both-first : (a b r : Bool) → a ≡ false → r ≡ false → r ≡ a && b
+both-first a b r e h = rw e h
+
+pub both-second : (a b r : Bool) → a ≡ true → r ≡ b → r ≡ a && b
+both-second a b r e h = rw e h

@@ -65,7 +65,8 @@ unfolding digitsUpTo
 up-to-length zero j n h = omega arith
 up-to-length (suc k) j n h = go j (ltb n 10) refl h (λ i f. up-to-length k i (n / 10) f)
   where
-    go : (i : ℕ) (b : Bool) → ltb n 10 ≡ b → n < 10 ^ suc i → ((x : ℕ) → n / 10 < 10 ^ suc x → length (digitsUpTo k (n / 10)) ≤ suc x) → length (some k n b) ≤ suc i
+    go : (i : ℕ) (b : Bool) → ltb n 10 ≡ b → n < 10 ^ suc i → ((x : ℕ) → n / 10 < 10 ^ suc x → length (digitsUpTo k (n / 10)) ≤ suc x) →
+        length (some k n b) ≤ suc i
     go i true e f ih = omega arith
     go zero false e f ih = absurd (omega (arith, ltb-false n 10 e, pow-suc 10 0))
     go (suc i) false e f ih =
@@ -80,7 +81,9 @@ digits-length j n h = up-to-length 6 j n h
 -- ---- what is read is the digits of its value
 
 -- one digit more, or none
-more-one : (s : List ℕ) (c : Cursor) (v n : ℕ) (next : Cursor) (k : ℕ) → 0 < v → Room (suc k) v → (x : Digit) → digitOf (byteAt s c) ≡ x → ((w : ℕ) → 0 < w → Room k w → more k s (ahead c) w ≡ Number.Value n next → digits w ++ from s (ahead c) ≡ digits n ++ from s next) → onDigit x (λ d. more k s (ahead c) (v * 10 + d)) (Number.Value v c) ≡ Number.Value n next → digits v ++ from s c ≡ digits n ++ from s next
+more-one : (s : List ℕ) (c : Cursor) (v n : ℕ) (next : Cursor) (k : ℕ) → 0 < v → Room (suc k) v → (x : Digit) → digitOf (byteAt s c) ≡ x →
+    ((w : ℕ) → 0 < w → Room k w → more k s (ahead c) w ≡ Number.Value n next → digits w ++ from s (ahead c) ≡ digits n ++ from s next) →
+    onDigit x (λ d. more k s (ahead c) (v * 10 + d)) (Number.Value v c) ≡ Number.Value n next → digits v ++ from s c ≡ digits n ++ from s next
 more-one s c v n next k l r (Digit.Worth d) h ih f =
     let small = digit-small s c d h in
     let room : Room k (v * 10 + d) = rw sub-one at (room-step (suc k) v d (omega arith) small r) in
@@ -94,7 +97,8 @@ more-one s c v n next k l r Digit.Other h ih f =
     let q : c ≡ next = cc in
     rw (p, q) refl
 
-more-spelt : (k : ℕ) (s : List ℕ) (c : Cursor) (v n : ℕ) (next : Cursor) → 0 < v → Room k v → more k s c v ≡ Number.Value n next → digits v ++ from s c ≡ digits n ++ from s next
+more-spelt : (k : ℕ) (s : List ℕ) (c : Cursor) (v n : ℕ) (next : Cursor) → 0 < v → Room k v → more k s c v ≡ Number.Value n next →
+    digits v ++ from s c ≡ digits n ++ from s next
 unfolding more
 more-spelt zero s c v n next l r e =
     let p : v ≡ n = cc in
@@ -135,7 +139,8 @@ module _ (m : ℕ) (low : 1 ≤ m) (high : m ≤ 7) where
   unfolding fieldAt
   field-spelt s c next b n h e = go (numberAt m s c) refl e
     where
-      step : (x : ℕ) (after : Cursor) → numberAt m s c ≡ Number.Value x after → (y : Step) → pastOf s after b ≡ y → onStep y (λ z. NumberField.Value x z) NumberField.Malformed ≡ NumberField.Value n next → from s c ≡ digits n ++ (b ∷ from s next)
+      step : (x : ℕ) (after : Cursor) → numberAt m s c ≡ Number.Value x after → (y : Step) → pastOf s after b ≡ y →
+          onStep y (λ z. NumberField.Value x z) NumberField.Malformed ≡ NumberField.Value n next → from s c ≡ digits n ++ (b ∷ from s next)
       step x after hx (Step.Next z) hy f =
           let q : x ≡ n = cc in
           let p : z ≡ next = cc in
@@ -143,7 +148,9 @@ module _ (m : ℕ) (low : 1 ≤ m) (high : m ≤ 7) where
           rw (← q, ← p) t
       step x after hx Step.Wrong hy f = let z : _≡_ {A = ℕ} 0 1 = cc in absurd (omega arith)
 
-      go : (x : Number) → numberAt m s c ≡ x → onNumber x (λ y after. onStep (pastOf s after b) (λ z. NumberField.Value y z) NumberField.Malformed) NumberField.Malformed ≡ NumberField.Value n next → from s c ≡ digits n ++ (b ∷ from s next)
+      go : (x : Number) → numberAt m s c ≡ x →
+          onNumber x (λ y after. onStep (pastOf s after b) (λ z. NumberField.Value y z) NumberField.Malformed) NumberField.Malformed
+          ≡ NumberField.Value n next → from s c ≡ digits n ++ (b ∷ from s next)
       go (Number.Value x after) hx f = step x after hx (pastOf s after b) refl f
       go Number.Malformed hx f = let z : _≡_ {A = ℕ} 0 1 = cc in absurd (omega arith)
 
@@ -154,14 +161,16 @@ abbrev pub pastText : Cursor → List ℕ → Cursor
 pastText c t = record { at = c .at + length t }
 
 -- one digit, not 0
-first-reads : (n m : ℕ) (s : List ℕ) (c : Cursor) (rest : List ℕ) → 0 < n → n < 10 → from s c ≡ (n % 10 + 48) ∷ rest → numberAt m s c ≡ more (m - 1) s (ahead c) n
+first-reads : (n m : ℕ) (s : List ℕ) (c : Cursor) (rest : List ℕ) → 0 < n → n < 10 → from s c ≡ (n % 10 + 48) ∷ rest →
+    numberAt m s c ≡ more (m - 1) s (ahead c) n
 first-reads n m s c rest l h e =
     let same : n % 10 ≡ n = omega arith in
     let w : byteAt s c ≡ n + 48 = rw same at (from-byte s c ((n % 10 + 48) ∷ rest) e) in
     number-more s c m n (ap digitOf w ∙ digit-byte n h) (λ z. omega arith)
 
 -- the last digit, after those before it
-last-reads : (x n m : ℕ) (s : List ℕ) (c : Cursor) (ds rest : List ℕ) → x ≡ n / 10 → length ds + 1 ≤ m → from s c ≡ ds ++ ((n % 10 + 48) ∷ rest) → numberAt m s c ≡ more (m - length ds) s (pastText c ds) x → numberAt m s c ≡ more (m - (length ds + 1)) s (record { at = c .at + (length ds + 1) }) n
+last-reads : (x n m : ℕ) (s : List ℕ) (c : Cursor) (ds rest : List ℕ) → x ≡ n / 10 → length ds + 1 ≤ m → from s c ≡ ds ++ ((n % 10 + 48) ∷ rest) →
+    numberAt m s c ≡ more (m - length ds) s (pastText c ds) x → numberAt m s c ≡ more (m - (length ds + 1)) s (record { at = c .at + (length ds + 1) }) n
 last-reads x n m s c ds rest q few e before =
     let there : from s (pastText c ds) ≡ (n % 10 + 48) ∷ rest = from-skip s c ds ((n % 10 + 48) ∷ rest) e in
     let w : byteAt s (pastText c ds) ≡ n % 10 + 48 = from-byte s (pastText c ds) ((n % 10 + 48) ∷ rest) there in
@@ -172,21 +181,27 @@ last-reads x n m s c ds rest q few e before =
     before ∙ (rw (value, left, place) at step)
 
 -- after the digits of n, as many as there are, the value is n
-prefix-reads : (k n m : ℕ) (s : List ℕ) (c : Cursor) (rest : List ℕ) → 0 < n → n < 10 ^ suc k → length (digitsUpTo k n) ≤ m → from s c ≡ digitsUpTo k n ++ rest → numberAt m s c ≡ more (m - length (digitsUpTo k n)) s (pastText c (digitsUpTo k n)) n
+prefix-reads : (k n m : ℕ) (s : List ℕ) (c : Cursor) (rest : List ℕ) → 0 < n → n < 10 ^ suc k → length (digitsUpTo k n) ≤ m →
+    from s c ≡ digitsUpTo k n ++ rest → numberAt m s c ≡ more (m - length (digitsUpTo k n)) s (pastText c (digitsUpTo k n)) n
 unfolding digitsUpTo
 prefix-reads zero n m s c rest l h few e = first-reads n m s c rest l (omega (arith, pow-suc 10 0)) e
 prefix-reads (suc k) n m s c rest l h few e =
     go (ltb n 10) refl few e (λ a b f. prefix-reads k (n / 10) m s c ((n % 10 + 48) ∷ rest) a (omega (arith, pow-suc 10 (suc k))) b f)
   where
-    go : (b : Bool) → ltb n 10 ≡ b → length (some k n b) ≤ m → from s c ≡ some k n b ++ rest → (0 < n / 10 → length (digitsUpTo k (n / 10)) ≤ m → from s c ≡ digitsUpTo k (n / 10) ++ ((n % 10 + 48) ∷ rest) → numberAt m s c ≡ more (m - length (digitsUpTo k (n / 10))) s (pastText c (digitsUpTo k (n / 10))) (n / 10)) → numberAt m s c ≡ more (m - length (some k n b)) s (pastText c (some k n b)) n
+    go : (b : Bool) → ltb n 10 ≡ b → length (some k n b) ≤ m → from s c ≡ some k n b ++ rest →
+        (0 < n / 10 → length (digitsUpTo k (n / 10)) ≤ m → from s c ≡ digitsUpTo k (n / 10) ++ ((n % 10 + 48) ∷ rest) →
+        numberAt m s c ≡ more (m - length (digitsUpTo k (n / 10))) s (pastText c (digitsUpTo k (n / 10))) (n / 10)) →
+        numberAt m s c ≡ more (m - length (some k n b)) s (pastText c (some k n b)) n
     go true h f g ih = first-reads n m s c rest l (ltb-true n 10 h) g
     go false h f g ih =
         let long = ltb-false n 10 h in
-        let size : length (digitsUpTo k (n / 10) ++ ((n % 10 + 48) ∷ [])) ≡ length (digitsUpTo k (n / 10)) + 1 = length-append (digitsUpTo k (n / 10)) ((n % 10 + 48) ∷ []) in
+        let size : length (digitsUpTo k (n / 10) ++ ((n % 10 + 48) ∷ [])) ≡ length (digitsUpTo k (n / 10)) + 1 = length-append (digitsUpTo k (n / 10))
+        ((n % 10 + 48) ∷ []) in
         let split : from s c ≡ digitsUpTo k (n / 10) ++ ((n % 10 + 48) ∷ rest) = g ∙ append-assoc (digitsUpTo k (n / 10)) ((n % 10 + 48) ∷ []) rest in
         rw size (last-reads (n / 10) n m s c (digitsUpTo k (n / 10)) rest refl (omega arith) split (ih (omega arith) (omega arith) split))
 
-module _ (m : ℕ) (s : List ℕ) (c : Cursor) (n : ℕ) (rest : List ℕ) (low : 1 ≤ m) (few : length (digits n) ≤ m) (small : n < 10000000) (e : from s c ≡ digits n ++ rest) (o : digitOf (getD rest 0 256) ≡ Digit.Other) where
+module _ (m : ℕ) (s : List ℕ) (c : Cursor) (n : ℕ) (rest : List ℕ) (low : 1 ≤ m) (few : length (digits n) ≤ m) (small : n < 10000000)
+    (e : from s c ≡ digits n ++ rest) (o : digitOf (getD rest 0 256) ≡ Digit.Other) where
   pub number-reads : numberAt m s c ≡ Number.Value n (pastText c (digits n))
   unfolding digits
   number-reads = go (ltb 0 n) refl
@@ -206,7 +221,8 @@ module _ (m : ℕ) (s : List ℕ) (c : Cursor) (n : ℕ) (rest : List ℕ) (low 
 abbrev pub pastField : Cursor → ℕ → Cursor
 pastField c n = ahead (pastText c (digits n))
 
-module _ (m : ℕ) (s : List ℕ) (c : Cursor) (n b : ℕ) (rest : List ℕ) (low : 1 ≤ m) (few : length (digits n) ≤ m) (small : n < 10000000) (o : digitOf b ≡ Digit.Other) (e : from s c ≡ digits n ++ (b ∷ rest)) where
+module _ (m : ℕ) (s : List ℕ) (c : Cursor) (n b : ℕ) (rest : List ℕ) (low : 1 ≤ m) (few : length (digits n) ≤ m) (small : n < 10000000)
+    (o : digitOf b ≡ Digit.Other) (e : from s c ≡ digits n ++ (b ∷ rest)) where
   field-after : from s (pastText c (digits n)) ≡ b ∷ rest
   field-after = from-skip s c (digits n) (b ∷ rest) e
 

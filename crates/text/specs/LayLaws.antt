@@ -13,7 +13,8 @@ use Rattle.text.specs.ParsedLaws.{many-done, many-step, many-stop}
 abbrev pub layMany : {A : Type 0} → ℕ → (ℕ → List ℕ → Cursor → Parsed A) → ℕ → List ℕ → Cursor → List A → ℕ → Parsed (List A)
 layMany k part p s c xs i = mapParsed (λ ys. sets xs i ys) (many k part p s c)
 
-lay-cons : {A : Type 0} (r : Parsed (List A)) (xs : List A) (i : ℕ) (x : A) → mapParsed (λ ys. sets xs i ys) (thenRead r (λ ys end. Parsed.got (x ∷ ys) end)) ≡ mapParsed (λ ys. sets (set xs i x) (suc i) ys) r
+lay-cons : {A : Type 0} (r : Parsed (List A)) (xs : List A) (i : ℕ) (x : A) →
+    mapParsed (λ ys. sets xs i ys) (thenRead r (λ ys end. Parsed.got (x ∷ ys) end)) ≡ mapParsed (λ ys. sets (set xs i x) (suc i) ys) r
 lay-cons (Parsed.got ys end) xs i x = refl
 lay-cons (Parsed.bad n p) xs i x = refl
 
@@ -21,7 +22,8 @@ module _ {A : Type 0} (part : ℕ → List ℕ → Cursor → Parsed A) (k j p q
   pub lay-done : k ≡ 0 → layMany k part p s c xs i ≡ Parsed.got xs c
   lay-done z = ap (λ (r : Parsed (List A)). mapParsed (λ ys. sets xs i ys) r) (many-done part k 0 p s c z)
 
-  pub lay-step : k ≡ suc j → q ≡ p + 1 → (x : A) (next : Cursor) → part p s c ≡ Parsed.got x next → layMany k part p s c xs i ≡ layMany j part q s next (set xs i x) (i + 1)
+  pub lay-step : k ≡ suc j → q ≡ p + 1 → (x : A) (next : Cursor) → part p s c ≡ Parsed.got x next →
+      layMany k part p s c xs i ≡ layMany j part q s next (set xs i x) (i + 1)
   lay-step z w x next e =
       rw (w, add-one i) (
       ap (λ (r : Parsed (List A)). mapParsed (λ ys. sets xs i ys) r) (many-step part k j p s c z x next e)

@@ -27,7 +27,8 @@ pub lent-short : (t out : List ℕ) → length out < length t → Lent (Spelling
 unfolding writtenOf
 lent-short t out h = record { answer = simp (lt-leb (length t) (length out) h); bytes = refl }
 
-pub lent-whole : (t entry exit : List ℕ) (n : ℕ) → length t ≡ n → n ≤ length entry → exit ≡ sets entry 0 t → Lent (Spelling.text t) entry exit (Written.Length n)
+pub lent-whole : (t entry exit : List ℕ) (n : ℕ) → length t ≡ n → n ≤ length entry → exit ≡ sets entry 0 t →
+    Lent (Spelling.text t) entry exit (Written.Length n)
 unfolding writtenOf
 lent-whole t entry exit n e h w =
     let z : 0 + length t ≡ length t = omega arith in

@@ -23,3 +23,4 @@ pub mod LendLaws
 pub mod Decide
 pub mod Below
 pub mod BelowLaws
+pub mod SumsLaws

@@ -29,7 +29,7 @@ pub record Followed {A B : Type 0} (r : Parsed A) (f : A → Cursor → Parsed B
   pub first : r ≡ Parsed.got value next
   pub after : f value next ≡ Parsed.got b end
 
-bad-got : {A : Type 0} (n p : ℕ) (x : A) (c : Cursor) → Parsed.bad n p ≡ Parsed.got x c → ⊥
+pub bad-got : {A : Type 0} (n p : ℕ) (x : A) (c : Cursor) → Parsed.bad n p ≡ Parsed.got x c → ⊥
 bad-got n p x c e = let z : _≡_ {A = ℕ} 0 1 = cc in omega arith
 
 pub then-got : {A B : Type 0} (r : Parsed A) (f : A → Cursor → Parsed B) (b : B) (end : Cursor) → thenRead r f ≡ Parsed.got b end → Followed r f b end
@@ -37,7 +37,8 @@ then-got (Parsed.got a c) f b end e = record { value = a; next = c; first = refl
 then-got (Parsed.bad n p) f b end e = absurd (bad-got n p b end e)
 
 -- where a test would have refused, and something was read, the test did not hold
-pub pick-got : {A : Type 0} (b : Bool) (n p : ℕ) (r : Parsed A) (x : A) (end : Cursor) → pick b (Parsed.bad n p) r ≡ Parsed.got x end → (b ≡ false) × (r ≡ Parsed.got x end)
+pub pick-got : {A : Type 0} (b : Bool) (n p : ℕ) (r : Parsed A) (x : A) (end : Cursor) → pick b (Parsed.bad n p) r ≡ Parsed.got x end →
+    (b ≡ false) × (r ≡ Parsed.got x end)
 pick-got true n p r x end e = absurd (bad-got n p x end e)
 pick-got false n p r x end e = (refl, e)
 
@@ -58,7 +59,8 @@ module _ {A : Type 0} (part : ℕ → List ℕ → Cursor → Parsed A) (k j i :
   unfolding many
   many-done z = rw z refl
 
-  pub many-step : k ≡ suc j → (x : A) (next : Cursor) → part i s c ≡ Parsed.got x next → many k part i s c ≡ thenRead (many j part (i + 1) s next) (λ xs end. Parsed.got (x ∷ xs) end)
+  pub many-step : k ≡ suc j → (x : A) (next : Cursor) → part i s c ≡ Parsed.got x next →
+      many k part i s c ≡ thenRead (many j part (i + 1) s next) (λ xs end. Parsed.got (x ∷ xs) end)
   unfolding many
   many-step z x next e = rw (z, e) refl
 
@@ -67,7 +69,8 @@ module _ {A : Type 0} (part : ℕ → List ℕ → Cursor → Parsed A) (k j i :
   many-stop z n p e = rw (z, e) refl
 
 -- parts in a row are as many as were to be read
-pub many-length : {A : Type 0} (part : ℕ → List ℕ → Cursor → Parsed A) (k i : ℕ) (s : List ℕ) (c : Cursor) (xs : List A) (next : Cursor) → many k part i s c ≡ Parsed.got xs next → length xs ≡ k
+pub many-length : {A : Type 0} (part : ℕ → List ℕ → Cursor → Parsed A) (k i : ℕ) (s : List ℕ) (c : Cursor) (xs : List A) (next : Cursor) →
+    many k part i s c ≡ Parsed.got xs next → length xs ≡ k
 unfolding many
 many-length part zero i s c xs next e = got-is (λ ys end. length ys ≡ 0) e refl
 many-length part (suc k) i s c xs next e =
@@ -120,16 +123,23 @@ module _ (form range lo hi b p : ℕ) (s : List ℕ) (c : Cursor) where
   unfolding rangedAt
   ranged-spelt n next h e = go (fieldAt 4 s c b) refl e
     where
-      value : (m : ℕ) (x : Cursor) → fieldAt 4 s c b ≡ NumberField.Value m x → (a : Bounded) → boundedOf lo hi m ≡ a → onBounded a (λ v. Parsed.got v x) (Parsed.bad range p) ≡ Parsed.got n next → RangedSpelt n next
+      value : (m : ℕ) (x : Cursor) → fieldAt 4 s c b ≡ NumberField.Value m x → (a : Bounded) → boundedOf lo hi m ≡ a →
+          onBounded a (λ v. Parsed.got v x) (Parsed.bad range p) ≡ Parsed.got n next → RangedSpelt n next
       value m x f Bounded.Outside o g = let z : _≡_ {A = ℕ} 0 1 = cc in absurd (omega arith)
       value m x f (Bounded.Within v) o g =
           let w = bounded-within lo hi m v o in
           let q : v ≡ n = cc in
           let y : x ≡ next = cc in
           let same : m ≡ n = sym (w .same) ∙ q in
-          record { low = omega (arith, w .low); high = omega (arith, w .high); text = rw (same, y) at (field-spelt 4 (omega arith) (omega arith) s c x b m h f) }
+          record {
+            low = omega (arith, w .low);
+            high = omega (arith, w .high);
+            text = rw (same, y) at (field-spelt 4 (omega arith) (omega arith) s c x b m h f);
+          }
 
-      go : (f : NumberField) → fieldAt 4 s c b ≡ f → onField f (λ m x. onBounded (boundedOf lo hi m) (λ v. Parsed.got v x) (Parsed.bad range p)) (Parsed.bad form p) ≡ Parsed.got n next → RangedSpelt n next
+      go : (f : NumberField) → fieldAt 4 s c b ≡ f →
+          onField f (λ m x. onBounded (boundedOf lo hi m) (λ v. Parsed.got v x) (Parsed.bad range p)) (Parsed.bad form p) ≡ Parsed.got n next →
+          RangedSpelt n next
       go (NumberField.Value m x) f g = value m x f (boundedOf lo hi m) refl g
       go NumberField.Malformed f g = let z : _≡_ {A = ℕ} 0 1 = cc in absurd (omega arith)
 
@@ -141,12 +151,14 @@ pub record Reads {A : Type 0} (r : Parsed A) (x : A) (s rest : List ℕ) : Type 
   pub reads : r ≡ Parsed.got x next
   pub leaves : from s next ≡ rest
 
-pub ranged-reads : (form range lo hi b p : ℕ) (s : List ℕ) (c : Cursor) (n : ℕ) (rest : List ℕ) → digitOf b ≡ Digit.Other → lo ≤ n → n ≤ hi → hi < 10000 → from s c ≡ digits n ++ (b ∷ rest) → Reads (rangedAt form range lo hi b p s c) n s rest
+pub ranged-reads : (form range lo hi b p : ℕ) (s : List ℕ) (c : Cursor) (n : ℕ) (rest : List ℕ) → digitOf b ≡ Digit.Other → lo ≤ n → n ≤ hi → hi < 10000 →
+    from s c ≡ digits n ++ (b ∷ rest) → Reads (rangedAt form range lo hi b p s c) n s rest
 ranged-reads form range lo hi b p s c n rest o l h small e =
     let few : length (digits n) ≤ 4 = digits-length 3 n (omega arith) in
     record {
       next = pastField c n;
-      reads = ranged-value form range lo hi b p s c n (pastField c n) (field-reads 4 s c n b rest (omega arith) few (omega arith) o e) n (bounded-fits lo hi n l h);
+      reads =
+          ranged-value form range lo hi b p s c n (pastField c n) (field-reads 4 s c n b rest (omega arith) few (omega arith) o e) n (bounded-fits lo hi n l h);
       leaves = field-leaves 4 s c n b rest (omega arith) few (omega arith) o e;
     }
 
@@ -155,7 +167,8 @@ pub at-end : {A : Type 0} {s rest : List ℕ} (x : A) (c : Cursor) → from s c 
 at-end x c e = record { next = c; reads = refl; leaves = e }
 
 -- x is read, and then what follows it gives y
-pub reads-then : {A B : Type 0} {r : Parsed A} {x : A} {s mid rest : List ℕ} {y : B} (f : A → Cursor → Parsed B) → Reads r x s mid → ((next : Cursor) → from s next ≡ mid → Reads (f x next) y s rest) → Reads (thenRead r f) y s rest
+pub reads-then : {A B : Type 0} {r : Parsed A} {x : A} {s mid rest : List ℕ} {y : B} (f : A → Cursor → Parsed B) → Reads r x s mid →
+    ((next : Cursor) → from s next ≡ mid → Reads (f x next) y s rest) → Reads (thenRead r f) y s rest
 reads-then f a g =
     let b = g (a .next) (a .leaves) in
     record { next = b .next; reads = ap (λ (q : Parsed _). thenRead q f) (a .reads) ∙ b .reads; leaves = b .leaves }
@@ -173,7 +186,8 @@ module _ {A : Type 0} (P : A → Type 0) (text : A → List ℕ → List ℕ) (p
     pub valid : Each P xs
     pub spelt : from s c ≡ eachThen text xs (from s next)
 
-  pub many-spelt : ((i : ℕ) (c : Cursor) (x : A) (next : Cursor) → part i s c ≡ Parsed.got x next → PartSpelt c x next) → (k i : ℕ) (c : Cursor) (xs : List A) (next : Cursor) → many k part i s c ≡ Parsed.got xs next → ManySpelt k c xs next
+  pub many-spelt : ((i : ℕ) (c : Cursor) (x : A) (next : Cursor) → part i s c ≡ Parsed.got x next → PartSpelt c x next) →
+      (k i : ℕ) (c : Cursor) (xs : List A) (next : Cursor) → many k part i s c ≡ Parsed.got xs next → ManySpelt k c xs next
   unfolding many
   many-spelt one zero i c xs next e =
       got-is (λ ys end. ManySpelt 0 c ys end) e (record { many = refl; valid = tt; spelt = refl })
@@ -189,13 +203,16 @@ module _ {A : Type 0} (P : A → Type 0) (text : A → List ℕ → List ℕ) (p
       })
 
 -- an element b whose text is read as f b
-module _ {A B : Type 0} (P : B → Type 0) (text : B → List ℕ → List ℕ) (f : B → A) (part : ℕ → List ℕ → Cursor → Parsed A) (s : List ℕ) (one : (i : ℕ) (c : Cursor) (b : B) (rest : List ℕ) → P b → from s c ≡ text b rest → Reads (part i s c) (f b) s rest) where
-  each-reads : (bs : List B) (i : ℕ) (c : Cursor) (rest : List ℕ) → Each P bs → from s c ≡ eachThen text bs rest → Reads (many (length bs) part i s c) (map f bs) s rest
+module _ {A B : Type 0} (P : B → Type 0) (text : B → List ℕ → List ℕ) (f : B → A) (part : ℕ → List ℕ → Cursor → Parsed A) (s : List ℕ)
+    (one : (i : ℕ) (c : Cursor) (b : B) (rest : List ℕ) → P b → from s c ≡ text b rest → Reads (part i s c) (f b) s rest) where
+  each-reads : (bs : List B) (i : ℕ) (c : Cursor) (rest : List ℕ) → Each P bs → from s c ≡ eachThen text bs rest →
+      Reads (many (length bs) part i s c) (map f bs) s rest
   unfolding many
   each-reads [] i c rest v e = record { next = c; reads = refl; leaves = e }
   each-reads (b ∷ bs) i c rest v e =
       reads-then _ (one i c b (eachThen text bs rest) (v .0) e)
       (λ next h. reads-then _ (each-reads bs (i + 1) next rest (v .1) h) (λ end l. at-end _ end l))
 
-  pub many-reads : (k : ℕ) (bs : List B) → length bs ≡ k → (i : ℕ) (c : Cursor) (rest : List ℕ) → Each P bs → from s c ≡ eachThen text bs rest → Reads (many k part i s c) (map f bs) s rest
+  pub many-reads : (k : ℕ) (bs : List B) → length bs ≡ k → (i : ℕ) (c : Cursor) (rest : List ℕ) → Each P bs → from s c ≡ eachThen text bs rest →
+      Reads (many k part i s c) (map f bs) s rest
   many-reads k bs w i c rest v e = rw w at (each-reads bs i c rest v e)

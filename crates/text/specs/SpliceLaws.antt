@@ -14,7 +14,8 @@ sets-append l i (b ∷ t) u =
     rw z (sets-append _ (suc i) t u)
 
 -- t and then u
-pub put-then : {entry middle exit : List ℕ} {at next r : ℕ} {t u : List ℕ} → Put entry middle at t next → Put middle exit next u r → Put entry exit at (t ++ u) r
+pub put-then : {entry middle exit : List ℕ} {at next r : ℕ} {t u : List ℕ} → Put entry middle at t next → Put middle exit next u r →
+    Put entry exit at (t ++ u) r
 put-then {entry} {middle} {exit} {at} {next} {r} {t} {u} p q = record {
   bytes = q .bytes ∙ ap (λ (l : List ℕ). sets l next u) (p .bytes) ∙ ap (λ (i : ℕ). sets (sets entry at t) i u) (p .next) ∙ sets-append entry at t u;
   next = q .next ∙ ap (λ (i : ℕ). i + length u) (p .next) ∙ (rw length-append (omega arith));
@@ -32,7 +33,8 @@ module _ {entry : List ℕ} {start : ℕ} {whole : List ℕ} where
   pub putting-start : Putting entry start whole entry start whole
   putting-start = record { bytes = refl; next = refl; size = refl }
 
-  pub putting-step : {now then t : List ℕ} {at next : ℕ} {rest : List ℕ} (left : List ℕ) → Putting entry start whole now at rest → rest ≡ t ++ left → Put now then at t next → Putting entry start whole then next left
+  pub putting-step : {now then t : List ℕ} {at next : ℕ} {rest : List ℕ} (left : List ℕ) → Putting entry start whole now at rest → rest ≡ t ++ left →
+      Put now then at t next → Putting entry start whole then next left
   putting-step {now} {then} {t} {at} {next} {rest} left p e q = record {
     bytes =
         ap (λ (l : List ℕ). sets l next left) (q .bytes)
@@ -45,7 +47,8 @@ module _ {entry : List ℕ} {start : ℕ} {whole : List ℕ} where
   }
 
   -- a part fits where the whole does
-  pub putting-room : {now : List ℕ} {at : ℕ} {rest : List ℕ} (t left : List ℕ) → Putting entry start whole now at rest → rest ≡ t ++ left → start + length whole ≤ length entry → at + length t ≤ length now
+  pub putting-room : {now : List ℕ} {at : ℕ} {rest : List ℕ} (t left : List ℕ) → Putting entry start whole now at rest → rest ≡ t ++ left →
+      start + length whole ≤ length entry → at + length t ≤ length now
   putting-room t left p e fits = omega (arith, p .next, p .size, ap length e, length-append t left)
 
   pub putting-end : {now : List ℕ} {at : ℕ} {rest : List ℕ} → Putting entry start whole now at rest → rest ≡ [] → Put entry now start whole at

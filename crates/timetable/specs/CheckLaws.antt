@@ -26,7 +26,8 @@ use Rattle.timetable.specs.Check.{sameList, atList, listsBreach, totalBr
 
 -- ---- lists
 
-number-at : (is : List ℕ) (j : ℕ) → j < length is → getD (numbers is) j 0 ≡ getD is j 0 + 1
+-- the number of entry j
+pub number-at : (is : List ℕ) (j : ℕ) → j < length is → getD (numbers is) j 0 ≡ getD is j 0 + 1
 number-at [] j b = absurd (omega arith)
 number-at (i ∷ is) zero b = refl
 number-at (i ∷ is) (suc j) b = number-at is j (omega arith)

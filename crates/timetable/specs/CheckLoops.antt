@@ -58,7 +58,8 @@ list-at : (xs : List OrderList) (n k : ℕ) → k < n → getD (map listed (take
 list-at xs n k h = List·getD-map listed (take n xs) k pastList ∙ ap listed (getD-take n xs k _ h)
 
 -- the test of list k
-pub same-at : (xs ys : List OrderList) (n k : ℕ) → k < n → sameList (getD (map listed (take n xs)) k []) (getD (map listed (take n ys)) k []) ≡ sameList (listed (getD xs k pastList)) (listed (getD ys k pastList))
+pub same-at : (xs ys : List OrderList) (n k : ℕ) → k < n →
+    sameList (getD (map listed (take n xs)) k []) (getD (map listed (take n ys)) k []) ≡ sameList (listed (getD xs k pastList)) (listed (getD ys k pastList))
 same-at xs ys n k h = rw (list-at xs n k h, list-at ys n k h) refl
 
 pub lists-size : (xs : List OrderList) (n : ℕ) → n ≤ length xs → length (map listed (take n xs)) ≡ n
@@ -68,7 +69,8 @@ module _ (read own : List (List ℕ)) where
   abbrev pub Right : ℕ → Type 0
   Right k = sameList (getD read k []) (getD own k []) ≡ true
 
-  pub wrong-at : (k : ℕ) → k < length own → sameList (getD read k []) (getD own k []) ≡ false → EachBelow k Right → Breach.Rule 16 (k + 1) ≡ listsBreach read own
+  pub wrong-at : (k : ℕ) → k < length own → sameList (getD read k []) (getD own k []) ≡ false → EachBelow k Right →
+      Breach.Rule 16 (k + 1) ≡ listsBreach read own
   unfolding listsBreach
   wrong-at k h e r = ap atList (sym (first-found _ _ k h (ap not e) (λ j s. ap not (r j s))))
 
@@ -79,7 +81,8 @@ module _ (read own : List (List ℕ)) where
 -- ---- lists and total
 
 -- the lists that the code was given, against its own, which are n
-pub lists-told : (l : Line) (m : List ℕ) (xs : List OrderList) {n : ℕ} {own : List (List ℕ)} {b : Breach} → own ≡ orderLists l m → n ≡ listCount l → b ≡ listsBreach (map listed (take n xs)) own → b ≡ listsBreach (map listed (take (listCount l) xs)) (orderLists l m)
+pub lists-told : (l : Line) (m : List ℕ) (xs : List OrderList) {n : ℕ} {own : List (List ℕ)} {b : Breach} → own ≡ orderLists l m → n ≡ listCount l →
+    b ≡ listsBreach (map listed (take n xs)) own → b ≡ listsBreach (map listed (take (listCount l) xs)) (orderLists l m)
 lists-told l m xs own n b = b ∙ rw (own, n) refl
 
 module _ (l : Line) (m : List ℕ) (r : Rest) {b : Breach} (lists : b ≡ listsBreach (r .lists) (orderLists l m)) where
@@ -100,11 +103,13 @@ module _ (l : Line) (m : List ℕ) (r : Rest) {b : Breach} (lists : b ≡ listsB
 
 module _ (l : Line) (s : List ℕ) where
   -- a text that was refused
-  pub judged-refused : (t : Timetable) {e : Ending} {n p : ℕ} {v : Verdict} → toldEnding e t ≡ timetableFile l s → e ≡ Ending.Refused n p → v ≡ endingVerdict e → v ≡ judged l (timetableFile l s)
+  pub judged-refused : (t : Timetable) {e : Ending} {n p : ℕ} {v : Verdict} → toldEnding e t ≡ timetableFile l s → e ≡ Ending.Refused n p →
+      v ≡ endingVerdict e → v ≡ judged l (timetableFile l s)
   judged-refused t told is v = v ∙ ap endingVerdict is ∙ ap (judged l) (ap (λ (k : Ending). toldEnding k t) (sym is) ∙ told)
 
   -- a text that was read
-  pub judged-read : (t : Timetable) {e : Ending} {v : Verdict} {c : Cursor} → toldEnding e t ≡ timetableFile l s → e ≡ Ending.Done c → v ≡ verdictOf (timetableBreach l t) → v ≡ judged l (timetableFile l s)
+  pub judged-read : (t : Timetable) {e : Ending} {v : Verdict} {c : Cursor} → toldEnding e t ≡ timetableFile l s → e ≡ Ending.Done c →
+      v ≡ verdictOf (timetableBreach l t) → v ≡ judged l (timetableFile l s)
   judged-read t told is v = v ∙ ap (judged l) (ap (λ (k : Ending). toldEnding k t) (sym is) ∙ told)
 
 module _ (l : Line) (t : Timetable) {b : Breach} (rules : b ≡ breachOf l (t .minutes)) where
@@ -134,7 +139,9 @@ module _ (file s : List ℕ) {r : ReadLine} (told : r ≡ answered (lineFile fil
 
   pub file-accepted : {v : Verdict} → r .answer ≡ Answer.Accepted → v ≡ judged (r .line) (timetableFile (r .line) s) → v ≡ checkOf file s
   unfolding checkOf
-  file-accepted is h = h ∙ ap (λ (l : Line). judged l (timetableFile l s)) (ap (λ (x : ReadLine). x .line) told) ∙ go (lineFile file) (sym (ap (λ (x : ReadLine). x .answer) told) ∙ is)
+  file-accepted is h =
+      h ∙ ap (λ (l : Line). judged l (timetableFile l s)) (ap (λ (x : ReadLine). x .line) told)
+      ∙ go (lineFile file) (sym (ap (λ (x : ReadLine). x .answer) told) ∙ is)
     where
       go : (a : Parsed Line) → answered a .answer ≡ Answer.Accepted → judged (answered a .line) (timetableFile (answered a .line) s) ≡ checked a s
       go (Parsed.got l c) e = refl

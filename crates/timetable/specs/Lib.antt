@@ -10,9 +10,9 @@ pub mod Check
 pub mod CheckLoops
 pub mod CheckLaws
 pub mod StoresLaws
+pub mod SameText
 pub mod SpeltLaws
 pub mod ReadsLaws
 pub mod FitsLaws
 pub mod WritingLaws
 pub mod Exact
-pub mod SameText

@@ -71,14 +71,16 @@ own-within n p s c v next e = number (numberAt 4 s c) e
     step m (Step.Next x) g = bounded m x (boundedOf 0 n m) refl g
     step m Step.Wrong g = let z : _≡_ {A = ℕ} 0 1 = cc in absurd (omega arith)
 
-    number : (a : Number) → onNumber a (λ m after. onStep (pastOf s after (cond (eqb m 0) 10 32)) (λ x. onBounded (boundedOf 0 n m) (λ w. Parsed.got w x) (Parsed.bad 9 p)) (Parsed.bad 8 p)) (Parsed.bad 8 p) ≡ Parsed.got v next → v ≤ n
+    number : (a : Number) → onNumber a (λ m after. onStep (pastOf s after (cond (eqb m 0) 10 32))
+        (λ x. onBounded (boundedOf 0 n m) (λ w. Parsed.got w x) (Parsed.bad 9 p)) (Parsed.bad 8 p)) (Parsed.bad 8 p) ≡ Parsed.got v next → v ≤ n
     number (Number.Value m after) g = step m (pastOf s after (cond (eqb m 0) 10 32)) g
     number Number.Malformed g = let z : _≡_ {A = ℕ} 0 1 = cc in absurd (omega arith)
 
 -- ---- the trains of a list
 
 -- laid into an array of twelve, they are its first entries
-lay-take : (part : ℕ → List ℕ → Cursor → Parsed ℕ) (k i : ℕ) (s : List ℕ) (c : Cursor) → k ≤ 12 → many k part i s c ≡ mapParsed (take k) (layMany k part i s c (replicate 12 0) 0)
+lay-take : (part : ℕ → List ℕ → Cursor → Parsed ℕ) (k i : ℕ) (s : List ℕ) (c : Cursor) → k ≤ 12 →
+    many k part i s c ≡ mapParsed (take k) (layMany k part i s c (replicate 12 0) 0)
 unfolding padded
 lay-take part k i s c few = go (many k part i s c) refl
   where
@@ -98,7 +100,8 @@ module _ (n p : ℕ) (s : List ℕ) (c : Cursor) where
   list-no-count e = rw e refl
 
   -- a list from its own count and its trains laid into an array
-  pub list-from : (v : ℕ) (c₁ : Cursor) (laid : Parsed (List ℕ)) → n ≤ 12 → ownCountAt n p s c ≡ Parsed.got v c₁ → laid ≡ layMany v (listPart n v p) 0 s c₁ (replicate 12 0) 0 → listAt n p s c ≡ mapParsed (take v) laid
+  pub list-from : (v : ℕ) (c₁ : Cursor) (laid : Parsed (List ℕ)) → n ≤ 12 → ownCountAt n p s c ≡ Parsed.got v c₁ →
+      laid ≡ layMany v (listPart n v p) 0 s c₁ (replicate 12 0) 0 → listAt n p s c ≡ mapParsed (take v) laid
   unfolding listAt
   list-from v c₁ laid few e l =
       rw (e, l) (lay-take (listPart n v p) v 0 s c₁ (omega (arith, own-within n p s c v c₁ e)))

@@ -36,7 +36,8 @@ module _ (n : ℕ) (t : Train) (i j p : ℕ) (m s : List ℕ) (c : Cursor) where
       legs-no-arrival f = rw (e, departure, f) refl
 
       -- g is the segment of leg j
-      pub legs-step : {a : ℕ} {c₂ : Cursor} (g : ℕ) → timeAt (afterField k) p s c₁ ≡ Parsed.got a c₂ → g ≡ segmentOf t j → legsAt n t i j p m s c ≡ legsAt k t i (j + 1) p (set (set m (16 * g + i) d) (176 + (16 * g + i)) a) s c₂
+      pub legs-step : {a : ℕ} {c₂ : Cursor} (g : ℕ) → timeAt (afterField k) p s c₁ ≡ Parsed.got a c₂ → g ≡ segmentOf t j →
+          legsAt n t i j p m s c ≡ legsAt k t i (j + 1) p (set (set m (16 * g + i) d) (176 + (16 * g + i)) a) s c₂
       unfolding legsAt
       legs-step g f h = rw (e, departure, f, h) refl
 
@@ -52,7 +53,8 @@ module _ (n : ℕ) (l : Line) (i : ℕ) (m s : List ℕ) (c : Cursor) where
     unfolding trainsAt
     trains-refused f = rw (e, f) refl
 
-    pub trains-step : {m′ : List ℕ} {next : Cursor} → legsAt (legs l i) (train l i) i 0 (i + 2) m s c ≡ Parsed.got m′ next → trainsAt n l i m s c ≡ trainsAt k l (i + 1) m′ s next
+    pub trains-step : {m′ : List ℕ} {next : Cursor} → legsAt (legs l i) (train l i) i 0 (i + 2) m s c ≡ Parsed.got m′ next →
+        trainsAt n l i m s c ≡ trainsAt k l (i + 1) m′ s next
     unfolding trainsAt
     trains-step f = rw (e, f) refl
 
@@ -63,6 +65,7 @@ module _ (l : Line) (s : List ℕ) (c : Cursor) where
   unfolding minutesAt
   minutes-no-count e = rw e refl
 
-  pub minutes-counted : {v : ℕ} {next : Cursor} → countAt (l .«train_count») 1 s c ≡ Parsed.got v next → minutesAt l s c ≡ trainsAt (l .«train_count») l 0 (replicate 352 0) s next
+  pub minutes-counted : {v : ℕ} {next : Cursor} → countAt (l .«train_count») 1 s c ≡ Parsed.got v next →
+      minutesAt l s c ≡ trainsAt (l .«train_count») l 0 (replicate 352 0) s next
   unfolding minutesAt
   minutes-counted {v} {next} e = rw e (ap (λ (k : ℕ). trainsAt k l 0 (replicate 352 0) s next) (count-is (l .«train_count») 1 s c v next e))

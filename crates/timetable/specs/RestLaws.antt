@@ -25,7 +25,8 @@ pub after-none : {A : Type 0} (r : Parsed (List A)) → after [] r ≡ r
 after-none (Parsed.got xs c) = refl
 after-none (Parsed.bad n p) = refl
 
-after-more : {A : Type 0} (front : List A) (x : A) (r : Parsed (List A)) → after front (thenRead r (λ xs end. Parsed.got (x ∷ xs) end)) ≡ after (front ++ (x ∷ [])) r
+after-more : {A : Type 0} (front : List A) (x : A) (r : Parsed (List A)) →
+    after front (thenRead r (λ xs end. Parsed.got (x ∷ xs) end)) ≡ after (front ++ (x ∷ [])) r
 after-more front x (Parsed.got xs c) = ap (λ (l : List _). Parsed.got l c) (sym (append-assoc front (x ∷ []) xs))
 after-more front x (Parsed.bad n p) = refl
 
@@ -33,7 +34,8 @@ module _ {A : Type 0} (part : ℕ → List ℕ → Cursor → Parsed A) (k j p q
   pub after-done : k ≡ 0 → after front (many k part p s c) ≡ Parsed.got front c
   after-done z = ap (after front) (many-done part k 0 p s c z) ∙ ap (λ (l : List A). Parsed.got l c) (append-nil front)
 
-  pub after-step : {front′ : List A} → k ≡ suc j → q ≡ p + 1 → (x : A) (next : Cursor) → part p s c ≡ Parsed.got x next → front′ ≡ front ++ (x ∷ []) → after front (many k part p s c) ≡ after front′ (many j part q s next)
+  pub after-step : {front′ : List A} → k ≡ suc j → q ≡ p + 1 → (x : A) (next : Cursor) → part p s c ≡ Parsed.got x next → front′ ≡ front ++ (x ∷ []) →
+      after front (many k part p s c) ≡ after front′ (many j part q s next)
   after-step z w x next e f = rw (w, f) (ap (after front) (many-step part k j p s c z x next e) ∙ after-more front x (many j part (p + 1) s next))
 
   pub after-stop : k ≡ suc j → (n m : ℕ) → part p s c ≡ Parsed.bad n m → after front (many k part p s c) ≡ Parsed.bad n m
@@ -53,7 +55,8 @@ module _ (l : Line) (p : ℕ) (s : List ℕ) (c : Cursor) {n : ℕ} (own : n ≡
     is-count : v ≡ listCount l
     is-count = count-is n p s c v c₁ count ∙ own
 
-    in-rows : {r : Parsed (List (List ℕ))} → many n (listAt (l .«train_count»)) (p + 1) s c₁ ≡ r → many (listCount l) (listAt (l .«train_count»)) (p + 1) s c₁ ≡ r
+    in-rows : {r : Parsed (List (List ℕ))} → many n (listAt (l .«train_count»)) (p + 1) s c₁ ≡ r →
+        many (listCount l) (listAt (l .«train_count»)) (p + 1) s c₁ ≡ r
     in-rows e = ap (λ (k : ℕ). many k (listAt (l .«train_count»)) (p + 1) s c₁) (sym own) ∙ e
 
     pub rest-no-lists : {x q : ℕ} → many n (listAt (l .«train_count»)) (p + 1) s c₁ ≡ Parsed.bad x q → restAt l p s c ≡ Parsed.bad x q
@@ -92,6 +95,7 @@ module _ (l : Line) (s : List ℕ) where
     file-no-minutes e = rw (le-ltb 4096 (length s) h, e) refl
 
     -- the rest as the code tells it
-    pub file-rest : {m : List ℕ} {c : Cursor} {r : Parsed Rest} → minutesAt l s (record { at = 0 }) ≡ Parsed.got m c → r ≡ restAt l (l .«train_count» + 2) s c → timetableFile l s ≡ mapParsed (λ x. record { minutes = m; rest = x }) r
+    pub file-rest : {m : List ℕ} {c : Cursor} {r : Parsed Rest} → minutesAt l s (record { at = 0 }) ≡ Parsed.got m c →
+        r ≡ restAt l (l .«train_count» + 2) s c → timetableFile l s ≡ mapParsed (λ x. record { minutes = m; rest = x }) r
     unfolding timetableFile
     file-rest e f = rw (le-ltb 4096 (length s) h, e, f) refl

@@ -1,5 +1,5 @@
 -- Timetables that are the same have the same text: only the minutes of legs are written.
-use Prim.Native.Nat.{ℕ, zero, suc, _+_, _<_, _≤_}
+use Prim.Native.Nat.{ℕ, zero, suc, _+_, _≤_}
 use mathlib.Core.Path.{_≡_, refl, ap, _∙_}
 use mathlib.Core.List.{List, map}
 use native.Mathlib.Omega.{arith}
@@ -15,10 +15,11 @@ use Rattle.timetable.specs.Spell.{legsText, trainsText, minutesText, res
 
 module _ (m m′ : List ℕ) where
   -- leg k of a train, which is train i, has the same minutes
-  abbrev SameLeg : Train → ℕ → ℕ → Type 0
+  abbrev pub SameLeg : Train → ℕ → ℕ → Type 0
   SameLeg t i k = (departureOf t m i k ≡ departureOf t m′ i k) × (arrivalOf t m i k ≡ arrivalOf t m′ i k)
 
-  legs-same : (k : ℕ) (t : Train) (i j : ℕ) (rest : List ℕ) → EachFrom k j (SameLeg t i) → legsText k t m i j rest ≡ legsText k t m′ i j rest
+  -- the same minutes of these legs are the same text
+  pub legs-same : (k : ℕ) (t : Train) (i j : ℕ) (rest : List ℕ) → EachFrom k j (SameLeg t i) → legsText k t m i j rest ≡ legsText k t m′ i j rest
   unfolding legsText
   legs-same zero t i j rest h = refl
   legs-same (suc k) t i j rest h =

@@ -39,6 +39,7 @@ use Rattle.timetable.specs.Reading.{afterField, timeAt, countAt, withLeg
 use Rattle.timetable.specs.ReadingLaws.{count-is, minutes-counted}
 use Rattle.timetable.specs.ListLaws.{own-malformed, own-unended, own-over, own-value, listPart}
 use Rattle.timetable.specs.Spell.{legsText, trainsText, minutesText, namesText, listText, restText}
+use Rattle.timetable.specs.SameText.{legs-same}
 use Rattle.timetable.specs.StoresLaws.{departure-stored, arrival-stored, leg-stored, legs-stored, trains-stored}
 
 -- ---- fields
@@ -88,13 +89,6 @@ module _ (t : Train) (r : 1 ≤ legsOf t → Routed t) (i : ℕ) (few : i < 16) 
             ∙ (rw (depart, arrive) refl);
       }
 
--- the same minutes of these legs are the same text
-legs-same : (k : ℕ) (t : Train) (i j : ℕ) (m m′ rest : List ℕ) →
-    ((q : ℕ) → (departureOf t m i q ≡ departureOf t m′ i q) × (arrivalOf t m i q ≡ arrivalOf t m′ i q)) → legsText k t m i j rest ≡ legsText k t m′ i j rest
-unfolding legsText
-legs-same zero t i j m m′ rest same = refl
-legs-same (suc k) t i j m m′ rest same = rw (same j .0, same j .1, legs-same k t i (j + 1) m m′ rest same) refl
-
 -- ---- the trains of a line
 
 module _ (l : Line) (w : Within l) (s : List ℕ) where
@@ -124,7 +118,7 @@ module _ (l : Line) (w : Within l) (s : List ℕ) where
         text =
             one .text
             ∙ ap (λ (y : List ℕ). legsText (legs l i) t (a .value) i 0 y) (others .text)
-            ∙ legs-same (legs l i) t i 0 (a .value) m′ (trainsText k l m′ (i + 1) (from s next)) same;
+            ∙ legs-same (a .value) m′ (legs l i) t i 0 (trainsText k l m′ (i + 1) (from s next)) (λ q _ _. same q);
       }
 
   -- the first part of the text

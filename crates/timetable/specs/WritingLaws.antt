@@ -35,6 +35,7 @@ use Rattle.rules.specs.Orders.{listCount, listed}
 use Rattle.timetable.specs.Reading.{afterField}
 use Rattle.timetable.specs.Spell.{legsText, trainsText, minutesText, namesText, listText, restText, numbers, listNumbers, timetableText}
 use Rattle.timetable.specs.Writing.{timesRight, onLine, minutesFault, spelling}
+use Rattle.timetable.specs.CheckLaws.{number-at}
 use Rattle.timetable.specs.SpeltLaws.{DaysAt}
 use Rattle.timetable.specs.FitsLaws.{timetable-fits}
 
@@ -157,12 +158,6 @@ module _ (l : Line) (m : List ℕ) (n i : ℕ) where
   train-room putting h fits = putting-room (legsText (legs l i) (train l i) m i 0 []) (trainsText (n - (i + 1)) l m (i + 1) []) putting (next-train h) fits
 
 -- ---- the n trains of an order list, of which k are written
-
--- the number of entry k
-number-at : (is : List ℕ) (k : ℕ) → k < length is → getD (numbers is) k 0 ≡ getD is k 0 + 1
-number-at [] k h = absurd (omega arith)
-number-at (i ∷ is) zero h = refl
-number-at (i ∷ is) (suc k) h = number-at is k (omega arith)
 
 name-then : (x : ℕ) (xs : List ℕ) → namesText (x ∷ xs) [] ≡ fieldText x (afterField (length xs)) ++ namesText xs []
 unfolding namesText

@@ -21,7 +21,8 @@ abbrev μ-loop : tie.MeasureT-loop
 returns : tie.Need-returns Inv-loop μ-loop
 returns c =
     let a = c .before in
-    lent-short (take (a .args .count) (now (a .args .text))) (now (a .args .out)) (rw (length-take-le (a .args .count) (now (a .args .text)) (a .pre)) (c .if1 .taken))
+    lent-short (take (a .args .count) (now (a .args .text))) (now (a .args .out))
+    (rw (length-take-le (a .args .count) (now (a .args .text)) (a .pre)) (c .if1 .taken))
 
 loop-holds : tie.Need-loop-holds Inv-loop μ-loop
 loop-holds c = (refl, omega arith, refl)
@@ -57,7 +58,8 @@ returns-2 c =
     let a = c .before .before .before in
     let full = length-take-le (a .args .count) (now (a .args .text)) (a .pre) in
     let end = copy-end (now (a .args .text)) (w .out) (a .args .count) (w .i) full (omega arith) in
-    lent-whole (take (a .args .count) (now (a .args .text))) (now (a .args .out)) (w .out) (a .args .count) full (c .before .before .if1 .left) (sym end ∙ w .inv .0)
+    lent-whole (take (a .args .count) (now (a .args .text))) (now (a .args .out)) (w .out) (a .args .count) full (c .before .before .if1 .left)
+    (sym end ∙ w .inv .0)
 
 pub lend-text-spec : {M : Type 1} → statement M
 lend-text-spec =

@@ -28,14 +28,16 @@ returns : tie.Need-returns
 unfolding kindAt
 returns c =
     let a = c .before .before .before .before .before .args in
-    let letter : letterOf (byteAt (now (a .s)) (a .cursor)) ≡ Letter.Other = ap letterOf (sym (c .before .before .before .byte .ensures)) ∙ sym (c .before .before .letter-of .ensures) ∙ c .enum-told .given .1 in
+    let letter : letterOf (byteAt (now (a .s)) (a .cursor)) ≡ Letter.Other = ap letterOf (sym (c .before .before .before .byte .ensures))
+    ∙ sym (c .before .before .letter-of .ensures) ∙ c .enum-told .given .1 in
     simp letter
 
 add-t9 : tie.Need-add-t9
 add-t9 c =
     let a = c .before .before .before .before .before .before .before .args in
     let k = c .before .before .kind .given in
-    let letter = ap letterOf (sym (c .before .before .before .before .before .byte .ensures)) ∙ sym (c .before .before .before .before .letter-of .ensures) ∙ k .1 in
+    let letter = ap letterOf (sym (c .before .before .before .before .before .byte .ensures)) ∙ sym (c .before .before .before .before .letter-of .ensures)
+    ∙ k .1 in
     omega (arith, letter-inside (now (a .s)) (a .cursor) (k .0 .0) letter)
 
 past-requires : tie.Need-past-requires
@@ -52,7 +54,9 @@ unfolding kindAt
 returns-2 c =
     let a = c .before .before .before .before .before .before .before .before .before .before .args in
     let k = c .before .before .before .before .before .kind .given in
-    let letter : letterOf (byteAt (now (a .s)) (a .cursor)) ≡ Letter.Found (k .0 .0) = ap letterOf (sym (c .before .before .before .before .before .before .before .before .byte .ensures)) ∙ sym (c .before .before .before .before .before .before .before .letter-of .ensures) ∙ k .1 in
+    let letter : letterOf (byteAt (now (a .s)) (a .cursor)) ≡ Letter.Found (k .0 .0) = ap letterOf
+    (sym (c .before .before .before .before .before .before .before .before .byte .ensures))
+    ∙ sym (c .before .before .before .before .before .before .before .letter-of .ensures) ∙ k .1 in
     let past : pastOf (now (a .s)) (ahead (a .cursor)) 32 ≡ Step.Wrong = sym (c .before .before .past .ensures) ∙ c .enum-told2 .given .1 in
     simp (letter, past)
 
@@ -62,7 +66,9 @@ returns-3 c =
     let a = c .before .before .before .before .before .before .before .before .before .before .before .args in
     let k = c .before .before .before .before .before .before .kind .given in
     let next = c .before .next .given in
-    let letter : letterOf (byteAt (now (a .s)) (a .cursor)) ≡ Letter.Found (k .0 .0) = ap letterOf (sym (c .before .before .before .before .before .before .before .before .before .byte .ensures)) ∙ sym (c .before .before .before .before .before .before .before .before .letter-of .ensures) ∙ k .1 in
+    let letter : letterOf (byteAt (now (a .s)) (a .cursor)) ≡ Letter.Found (k .0 .0) = ap letterOf
+    (sym (c .before .before .before .before .before .before .before .before .before .byte .ensures))
+    ∙ sym (c .before .before .before .before .before .before .before .before .letter-of .ensures) ∙ k .1 in
     let past : pastOf (now (a .s)) (ahead (a .cursor)) 32 ≡ Step.Next (next .0 .0) = sym (c .before .before .before .past .ensures) ∙ next .1 in
     simp (letter, past)
 

@@ -35,11 +35,13 @@ enum-told c = search needs
 
 returns : tie.Need-returns
 returns c =
-    with-empty (c .before .before .before .before .no-segment .ensures) (c .before .before .before .no-train .ensures) ∙ sym (ap (λ (e : Ending). answered (toldEnding e emptyLine)) (c .before .ending .given .1))
+    with-empty (c .before .before .before .before .no-segment .ensures) (c .before .before .before .no-train .ensures)
+    ∙ sym (ap (λ (e : Ending). answered (toldEnding e emptyLine)) (c .before .ending .given .1))
 
 returns-2 : tie.Need-returns-2
 returns-2 c =
-    with-empty (c .before .before .before .no-segment .ensures) (c .before .before .no-train .ensures) ∙ sym (ap (λ (e : Ending). answered (toldEnding e emptyLine)) (c .enum-told .given .1))
+    with-empty (c .before .before .before .no-segment .ensures) (c .before .before .no-train .ensures)
+    ∙ sym (ap (λ (e : Ending). answered (toldEnding e emptyLine)) (c .enum-told .given .1))
 
 pub refused-spec : {M : Type 1} → statement M
 refused-spec =

@@ -50,7 +50,8 @@ returns-2 c =
     let a = k .before .before .before .before .before .args in
     let kind = sym (k .before .before .kind-field .ensures) ∙ ap (λ (x : KindField). toldKind (a .line) x) (k .kind .given .1) in
     let refused = f .enum-told2 .given .1 in
-    let following = ranged-told 2 3 gap 32 (a .line) (now (a .s)) _ refl refl (f .before .before .before .faults-on .ensures) (f .before .before .ranged .ensures) refused in
+    let following = ranged-told 2 3 gap 32 (a .line) (now (a .s)) _ refl refl (f .before .before .before .faults-on .ensures)
+    (f .before .before .ranged .ensures) refused in
     ended-told _ (c .stopped .ensures ∙ ap stoppedBy refused) ∙ sym (segment-no-following _ _ _ kind following)
 
 faults-on-requires-2 : tie.Need-faults-on-requires-2
@@ -75,9 +76,11 @@ returns-3 c =
     let k = f .before .before .before .before .before in
     let a = k .before .before .before .before .before .args in
     let kind = sym (k .before .before .kind-field .ensures) ∙ ap (λ (x : KindField). toldKind (a .line) x) (k .kind .given .1) in
-    let following = ranged-told 2 3 gap 32 (a .line) (now (a .s)) _ refl refl (f .before .before .before .faults-on .ensures) (f .before .before .ranged .ensures) (f .f .given .1) in
+    let following = ranged-told 2 3 gap 32 (a .line) (now (a .s)) _ refl refl (f .before .before .before .faults-on .ensures)
+    (f .before .before .ranged .ensures) (f .f .given .1) in
     let refused = o .enum-told3 .given .1 in
-    let opposing = ranged-told 2 3 gap 10 (a .line) (now (a .s)) _ refl refl (o .before .before .before .faults-on2 .ensures) (o .before .before .ranged2 .ensures) refused in
+    let opposing = ranged-told 2 3 gap 10 (a .line) (now (a .s)) _ refl refl (o .before .before .before .faults-on2 .ensures)
+    (o .before .before .ranged2 .ensures) refused in
     ended-told _ (c .stopped2 .ensures ∙ ap stoppedBy refused) ∙ sym (segment-no-opposing _ _ _ kind following opposing)
 
 returns-4 : tie.Need-returns-4
@@ -87,8 +90,10 @@ returns-4 c =
     let k = f .before .before .before .before .before in
     let a = k .before .before .before .before .before .args in
     let kind = sym (k .before .before .kind-field .ensures) ∙ ap (λ (x : KindField). toldKind (a .line) x) (k .kind .given .1) in
-    let following = ranged-told 2 3 gap 32 (a .line) (now (a .s)) _ refl refl (f .before .before .before .faults-on .ensures) (f .before .before .ranged .ensures) (f .f .given .1) in
-    let opposing = ranged-told 2 3 gap 10 (a .line) (now (a .s)) _ refl refl (o .before .before .before .faults-on2 .ensures) (o .before .before .ranged2 .ensures) (o .o .given .1) in
+    let following = ranged-told 2 3 gap 32 (a .line) (now (a .s)) _ refl refl (f .before .before .before .faults-on .ensures)
+    (f .before .before .ranged .ensures) (f .f .given .1) in
+    let opposing = ranged-told 2 3 gap 10 (a .line) (now (a .s)) _ refl refl (o .before .before .before .faults-on2 .ensures)
+    (o .before .before .ranged2 .ensures) (o .o .given .1) in
     sym (segment-got _ _ _ kind following opposing)
 
 pub segment-line-spec : {M : Type 1} → statement M

@@ -67,7 +67,8 @@ returns c =
     let w = c .before .lines in
     let a = c .before .before .before .before .args in
     let k : a .count - w .i ≡ 0 = omega arith in
-    let empty = ap (λ (g : Segment). layMany (a .count) segmentLine (a .first) (now (a .s)) (a .start) (replicate 11 g) 0) (c .before .before .no-segment .ensures) in
+    let empty = ap (λ (g : Segment). layMany (a .count) segmentLine (a .first) (now (a .s)) (a .start) (replicate 11 g) 0)
+    (c .before .before .no-segment .ensures) in
     sym (lay-done segmentLine _ 0 _ 0 _ _ _ _ k) ∙ w .inv .0 ∙ empty
 
 returns-2 : tie.Need-returns-2 Inv-lines μ-lines
@@ -78,7 +79,8 @@ returns-2 c =
     let refused = c .enum-told .given .1 in
     let line = sym (c .before .before .segment-line .ensures) ∙ ended-told _ refused in
     let k : a .count - w .i ≡ suc (a .count - (w .i + 1)) = omega arith in
-    let empty = ap (λ (g : Segment). layMany (a .count) segmentLine (a .first) (now (a .s)) (a .start) (replicate 11 g) 0) (c .before .before .before .before .before .no-segment .ensures) in
+    let empty = ap (λ (g : Segment). layMany (a .count) segmentLine (a .first) (now (a .s)) (a .start) (replicate 11 g) 0)
+    (c .before .before .before .before .before .no-segment .ensures) in
     ended-told _ refused ∙ sym (lay-stop segmentLine _ _ _ 0 _ _ _ _ k _ _ line) ∙ w .inv .0 ∙ empty
 
 pub segment-lines-spec : {M : Type 1} → statement M

@@ -39,8 +39,10 @@ refused-requires c κs = search needs
 
 returns : tie.Need-returns
 returns c =
-    let count = ranged-told 2 3 (record { min = _; max = _ }) 10 _ _ _ refl refl (c .before .before .before .before .before .faults-on .ensures) (c .before .before .before .before .ranged .ensures) (c .before .before .enum-told .given .1) in
-    refusal (c .refused .ensures) (c .before .stopped .ensures ∙ ap stoppedBy (c .before .before .enum-told .given .1)) (section-no-count (segments-section _ _ _ _) count)
+    let count = ranged-told 2 3 (record { min = _; max = _ }) 10 _ _ _ refl refl (c .before .before .before .before .before .faults-on .ensures)
+    (c .before .before .before .before .ranged .ensures) (c .before .before .enum-told .given .1) in
+    refusal (c .refused .ensures) (c .before .stopped .ensures ∙ ap stoppedBy (c .before .before .enum-told .given .1))
+    (section-no-count (segments-section _ _ _ _) count)
 
 sub-segment-lines : tie.Need-sub-segment-lines
 sub-segment-lines c = search needs
@@ -62,7 +64,9 @@ refused-requires-2 c κs = search needs
 
 returns-2 : tie.Need-returns-2
 returns-2 c =
-    let count = ranged-told 2 3 (record { min = _; max = _ }) 10 _ _ _ refl refl (c .before .before .before .before .before .before .before .before .faults-on .ensures) (c .before .before .before .before .before .before .before .ranged .ensures) (c .before .before .before .before .before .field .given .1) in
+    let count = ranged-told 2 3 (record { min = _; max = _ }) 10 _ _ _ refl refl
+    (c .before .before .before .before .before .before .before .before .faults-on .ensures)
+    (c .before .before .before .before .before .before .before .ranged .ensures) (c .before .before .before .before .before .field .given .1) in
     let lines = sym (c .before .before .before .segment-lines .ensures) ∙ ended-told _ (c .before .enum-told2 .given .1) in
     refusal (c .refused2 .ensures) (c .before .enum-told2 .given .1) (section-refused (segments-section _ _ _ _) count lines)
 
@@ -71,7 +75,10 @@ train-part-requires c κs = search needs
 
 returns-3 : tie.Need-returns-3
 returns-3 c =
-    let count = ranged-told 2 3 (record { min = _; max = _ }) 10 _ _ _ refl refl (c .before .before .before .before .before .before .before .before .before .before .faults-on .ensures) (c .before .before .before .before .before .before .before .before .before .ranged .ensures) (c .before .before .before .before .before .before .before .field .given .1) in
+    let count = ranged-told 2 3 (record { min = _; max = _ }) 10 _ _ _ refl refl
+    (c .before .before .before .before .before .before .before .before .before .before .faults-on .ensures)
+    (c .before .before .before .before .before .before .before .before .before .ranged .ensures)
+    (c .before .before .before .before .before .before .before .field .given .1) in
     let lines = sym (c .before .before .before .before .before .segment-lines .ensures) ∙ ended-told _ (c .before .before .before .ending .given .1) in
     c .train-part .ensures ∙ sym (ap answered (section-read (segments-section _ _ _ _) count lines))
 

@@ -51,7 +51,8 @@ returns-2 c =
     let a = p .before .before .before .before .args in
     let path = sym (p .before .before .path-fields .ensures) ∙ ended-told _ (p .ending .given .1) in
     let refused = e .enum-told2 .given .1 in
-    let earliest = ranged-told 2 3 time 32 (a .line) (now (a .s)) _ refl refl (e .before .before .before .faults-on .ensures) (e .before .before .ranged .ensures) refused in
+    let earliest = ranged-told 2 3 time 32 (a .line) (now (a .s)) _ refl refl (e .before .before .before .faults-on .ensures)
+    (e .before .before .ranged .ensures) refused in
     ended-told _ (c .no-head2 .ensures ∙ c .before .stopped .ensures ∙ ap stoppedBy refused) ∙ sym (head-no-earliest _ _ _ _ path earliest)
 
 faults-on-requires-2 : tie.Need-faults-on-requires-2
@@ -79,9 +80,11 @@ returns-3 c =
     let p = e .before .before .before .before .before in
     let a = p .before .before .before .before .args in
     let path = sym (p .before .before .path-fields .ensures) ∙ ended-told _ (p .ending .given .1) in
-    let earliest = ranged-told 2 3 time 32 (a .line) (now (a .s)) _ refl refl (e .before .before .before .faults-on .ensures) (e .before .before .ranged .ensures) (e .e .given .1) in
+    let earliest = ranged-told 2 3 time 32 (a .line) (now (a .s)) _ refl refl (e .before .before .before .faults-on .ensures)
+    (e .before .before .ranged .ensures) (e .e .given .1) in
     let refused = l .enum-told3 .given .1 in
-    let latest = ranged-told 2 3 time 32 (a .line) (now (a .s)) _ refl refl (l .before .before .before .faults-on2 .ensures) (l .before .before .ranged2 .ensures) refused in
+    let latest = ranged-told 2 3 time 32 (a .line) (now (a .s)) _ refl refl (l .before .before .before .faults-on2 .ensures)
+    (l .before .before .ranged2 .ensures) refused in
     ended-told _ (c .no-head3 .ensures ∙ c .before .stopped2 .ensures ∙ ap stoppedBy refused) ∙ sym (head-no-latest _ _ _ _ path earliest latest)
 
 faults-on-requires-3 : tie.Need-faults-on-requires-3
@@ -110,10 +113,13 @@ returns-4 c =
     let p = e .before .before .before .before .before in
     let a = p .before .before .before .before .args in
     let path = sym (p .before .before .path-fields .ensures) ∙ ended-told _ (p .ending .given .1) in
-    let earliest = ranged-told 2 3 time 32 (a .line) (now (a .s)) _ refl refl (e .before .before .before .faults-on .ensures) (e .before .before .ranged .ensures) (e .e .given .1) in
-    let latest = ranged-told 2 3 time 32 (a .line) (now (a .s)) _ refl refl (l .before .before .before .faults-on2 .ensures) (l .before .before .ranged2 .ensures) (l .l .given .1) in
+    let earliest = ranged-told 2 3 time 32 (a .line) (now (a .s)) _ refl refl (e .before .before .before .faults-on .ensures)
+    (e .before .before .ranged .ensures) (e .e .given .1) in
+    let latest = ranged-told 2 3 time 32 (a .line) (now (a .s)) _ refl refl (l .before .before .before .faults-on2 .ensures)
+    (l .before .before .ranged2 .ensures) (l .l .given .1) in
     let refused = w .enum-told4 .given .1 in
-    let weighed = ranged-told 2 3 weight 32 (a .line) (now (a .s)) _ refl refl (w .before .before .before .faults-on3 .ensures) (w .before .before .ranged3 .ensures) refused in
+    let weighed = ranged-told 2 3 weight 32 (a .line) (now (a .s)) _ refl refl (w .before .before .before .faults-on3 .ensures)
+    (w .before .before .ranged3 .ensures) refused in
     ended-told _ (c .no-head4 .ensures ∙ c .before .stopped3 .ensures ∙ ap stoppedBy refused) ∙ sym (head-no-weight _ _ _ _ path earliest latest weighed)
 
 returns-5 : tie.Need-returns-5
@@ -124,9 +130,12 @@ returns-5 c =
     let p = e .before .before .before .before .before in
     let a = p .before .before .before .before .args in
     let path = sym (p .before .before .path-fields .ensures) ∙ ended-told _ (p .ending .given .1) in
-    let earliest = ranged-told 2 3 time 32 (a .line) (now (a .s)) _ refl refl (e .before .before .before .faults-on .ensures) (e .before .before .ranged .ensures) (e .e .given .1) in
-    let latest = ranged-told 2 3 time 32 (a .line) (now (a .s)) _ refl refl (l .before .before .before .faults-on2 .ensures) (l .before .before .ranged2 .ensures) (l .l .given .1) in
-    let weighed = ranged-told 2 3 weight 32 (a .line) (now (a .s)) _ refl refl (w .before .before .before .faults-on3 .ensures) (w .before .before .ranged3 .ensures) (w .w .given .1) in
+    let earliest = ranged-told 2 3 time 32 (a .line) (now (a .s)) _ refl refl (e .before .before .before .faults-on .ensures)
+    (e .before .before .ranged .ensures) (e .e .given .1) in
+    let latest = ranged-told 2 3 time 32 (a .line) (now (a .s)) _ refl refl (l .before .before .before .faults-on2 .ensures)
+    (l .before .before .ranged2 .ensures) (l .l .given .1) in
+    let weighed = ranged-told 2 3 weight 32 (a .line) (now (a .s)) _ refl refl (w .before .before .before .faults-on3 .ensures)
+    (w .before .before .ranged3 .ensures) (w .w .given .1) in
     sym (head-got _ _ _ _ path earliest latest weighed)
 
 pub train-head-spec : {M : Type 1} → statement M

@@ -40,19 +40,52 @@ abbrev μ-loop : tie.MeasureT-loop
 
 abbrev Inv-lines : tie.InvT-lines
 Inv-lines s count stations first trains₀ cursor₀ i₀ trains cursor i =
-    (layMany (count - i) (trainLine stations) (first + i) s cursor trains i ≡ layMany count (trainLine stations) first s cursor₀ (replicate 12 noTrain) 0) × (i ≤ count)
+    (layMany (count - i) (trainLine stations) (first + i) s cursor trains i ≡ layMany count (trainLine stations) first s cursor₀
+    (replicate 12 noTrain) 0) × (i ≤ count)
 
 abbrev μ-lines : tie.MeasureT-lines
 μ-lines s count stations first trains₀ cursor₀ i₀ trains cursor i = count - i
 
 -- at the inner loop: there are lines to read, and this line's train comes from what is yet to read of its journey
-module _ (c : lts.At-loop (no-train-reads.Asked, no-train-reads.Learnt, train-head-reads.Asked, train-head-reads.Learnt, legs-between-reads.Asked, legs-between-reads.Learnt, faults-on-reads.Asked, faults-on-reads.Learnt, ranged-reads.Asked, ranged-reads.Learnt, stopped-reads.Asked, stopped-reads.Learnt, train-of-reads.Asked, train-of-reads.Learnt) reads.Pre reads.Post Inv-loop μ-loop Inv-lines μ-lines) where
-  left : c .before .before .before .before .before .before .before .before .lines .i < c .before .before .before .before .before .before .before .before .before .before .before .args .count
-  left = omega (arith, c .before .before .before .before .before .before .before .before .lines .inv .1, c .before .before .before .before .before .before .before .if1 .left)
+module _ (c : lts.At-loop (
+  no-train-reads.Asked,
+  no-train-reads.Learnt,
+  train-head-reads.Asked,
+  train-head-reads.Learnt,
+  legs-between-reads.Asked,
+  legs-between-reads.Learnt,
+  faults-on-reads.Asked,
+  faults-on-reads.Learnt,
+  ranged-reads.Asked,
+  ranged-reads.Learnt,
+  stopped-reads.Asked,
+  stopped-reads.Learnt,
+  train-of-reads.Asked,
+  train-of-reads.Learnt,
+) reads.Pre reads.Post Inv-loop μ-loop Inv-lines μ-lines) where
+  left : c .before .before .before .before .before .before .before .before .lines .i
+      < c .before .before .before .before .before .before .before .before .before .before .before .args .count
+  left =
+      omega (
+        arith,
+        c .before .before .before .before .before .before .before .before .lines .inv .1,
+        c .before .before .before .before .before .before .before .if1 .left,
+      )
 
-  line-yet : (j : Parsed Journey) → layJourney (c .before .legs-between .result - 1 - c .loop .k) (c .before .before .before .before .before .before .before .before .before .before .before .args .first + c .before .before .before .before .before .before .before .before .lines .i) (now (c .before .before .before .before .before .before .before .before .before .before .before .args .s)) (c .loop .cursor) (c .loop .runs) (c .loop .stops) (c .loop .k) ≡ j → trainLine (c .before .before .before .before .before .before .before .before .before .before .before .args .stations) (c .before .before .before .before .before .before .before .before .before .before .before .args .first + c .before .before .before .before .before .before .before .before .lines .i) (now (c .before .before .before .before .before .before .before .before .before .before .before .args .s)) (c .before .before .before .before .before .before .before .before .lines .cursor) ≡ mapParsed (trainOf (c .before .before .before .before .before .before .train-head .result .head)) j
+  line-yet : (j : Parsed Journey) → layJourney (c .before .legs-between .result - 1 - c .loop .k)
+      (c .before .before .before .before .before .before .before .before .before .before .before .args .first
+      + c .before .before .before .before .before .before .before .before .lines .i)
+      (now (c .before .before .before .before .before .before .before .before .before .before .before .args .s)) (c .loop .cursor) (c .loop .runs)
+      (c .loop .stops) (c .loop .k) ≡ j → trainLine
+      (c .before .before .before .before .before .before .before .before .before .before .before .args .stations)
+      (c .before .before .before .before .before .before .before .before .before .before .before .args .first
+      + c .before .before .before .before .before .before .before .before .lines .i)
+      (now (c .before .before .before .before .before .before .before .before .before .before .before .args .s))
+      (c .before .before .before .before .before .before .before .before .lines .cursor)
+      ≡ mapParsed (trainOf (c .before .before .before .before .before .before .train-head .result .head)) j
   line-yet j e =
-      let head = sym (c .before .before .before .before .before .before .train-head .ensures) ∙ ended-told _ (c .before .before .before .before .ended .given .1) in
+      let head = sym (c .before .before .before .before .before .before .train-head .ensures)
+      ∙ ended-told _ (c .before .before .before .before .ended .given .1) in
       train-from _ _ _ _ _ _ _ j head (c .before .legs-between .ensures) (sym e ∙ c .loop .inv .0)
 
 no-train-requires : tie.Need-no-train-requires Inv-loop μ-loop Inv-lines μ-lines
@@ -136,9 +169,12 @@ loop-less c = search needs
 loop-again : tie.Need-loop-again Inv-loop μ-loop Inv-lines μ-lines
 loop-again c =
     let l = c .before .before .before .before .before .before .before .before .before .before .before in
-    let m : l .before .legs-between .result - 1 - l .loop .k ≡ suc (l .before .legs-between .result - 1 - (l .loop .k + 1)) = omega (arith, l .loop .inv .1, c .before .before .before .before .before .before .before .before .before .before .loop-test .taken) in
-    let r = ranged-told 2 3 run 32 _ _ _ refl refl (c .before .before .before .before .before .before .before .before .before .faults-on .ensures) (c .before .before .before .before .before .before .before .before .ranged .ensures) (c .before .before .before .before .before .before .r .given .1) in
-    let t = ranged-told 2 3 stop 32 _ _ _ refl refl (c .before .before .before .before .faults-on2 .ensures) (c .before .before .before .ranged2 .ensures) (c .before .t .given .1) in
+    let m : l .before .legs-between .result - 1 - l .loop .k ≡ suc (l .before .legs-between .result - 1 - (l .loop .k + 1)) = omega
+    (arith, l .loop .inv .1, c .before .before .before .before .before .before .before .before .before .before .loop-test .taken) in
+    let r = ranged-told 2 3 run 32 _ _ _ refl refl (c .before .before .before .before .before .before .before .before .before .faults-on .ensures)
+    (c .before .before .before .before .before .before .before .before .ranged .ensures) (c .before .before .before .before .before .before .r .given .1) in
+    let t = ranged-told 2 3 stop 32 _ _ _ refl refl (c .before .before .before .before .faults-on2 .ensures) (c .before .before .before .ranged2 .ensures)
+    (c .before .t .given .1) in
     (sym (journey-step _ _ _ _ _ _ _ _ m _ _ r _ _ t) ∙ l .loop .inv .0, omega (arith, m), l .loop .inv .2)
 
 faults-on-requires-3 : tie.Need-faults-on-requires-3 Inv-loop μ-loop Inv-lines μ-lines
@@ -166,13 +202,28 @@ train-of-requires : tie.Need-train-of-requires Inv-loop μ-loop Inv-lines μ-lin
 train-of-requires c κs = search needs
 
 mul-trains : tie.Need-mul-trains Inv-loop μ-loop Inv-lines μ-lines
-mul-trains c = omega (arith, left (c .before .before .before .before .before .before .before), c .before .before .before .before .before .before .before .before .before .before .before .before .before .before .before .before .before .before .pre .0)
+mul-trains c =
+    omega (
+      arith,
+      left (c .before .before .before .before .before .before .before),
+      c .before .before .before .before .before .before .before .before .before .before .before .before .before .before .before .before .before .before .pre .0,
+    )
 
 array-set-from-trains : tie.Need-array-set-from-trains Inv-loop μ-loop Inv-lines μ-lines
-array-set-from-trains c = omega (arith, left (c .before .before .before .before .before .before .before), c .before .before .before .before .before .before .before .before .before .before .before .before .before .before .before .before .before .before .pre .0)
+array-set-from-trains c =
+    omega (
+      arith,
+      left (c .before .before .before .before .before .before .before),
+      c .before .before .before .before .before .before .before .before .before .before .before .before .before .before .before .before .before .before .pre .0,
+    )
 
 add-i : tie.Need-add-i Inv-loop μ-loop Inv-lines μ-lines
-add-i c = omega (arith, left (c .before .before .before .before .before .before .before), c .before .before .before .before .before .before .before .before .before .before .before .before .before .before .before .before .before .before .pre .0)
+add-i c =
+    omega (
+      arith,
+      left (c .before .before .before .before .before .before .before),
+      c .before .before .before .before .before .before .before .before .before .before .before .before .before .before .before .before .before .before .pre .0,
+    )
 
 lines-less : tie.Need-lines-less Inv-loop μ-loop Inv-lines μ-lines
 lines-less c = omega (arith, left (c .before .before .before .before .before .before .before))
@@ -180,10 +231,15 @@ lines-less c = omega (arith, left (c .before .before .before .before .before .be
 lines-again : tie.Need-lines-again Inv-loop μ-loop Inv-lines μ-lines
 lines-again c =
     let l = c .before .before .before .before .before .before .before in
-    let m : l .before .legs-between .result - 1 - l .loop .k ≡ 0 = omega (arith, l .loop .inv .1, c .before .before .before .before .before .before .loop-test .left) in
-    let r = ranged-told 2 3 run 10 _ _ _ refl refl (c .before .before .before .before .before .faults-on3 .ensures) (c .before .before .before .before .ranged3 .ensures) (c .before .before .last .given .1) in
-    let train = line-yet l _ (journey-last-read _ _ _ _ _ _ _ m _ _ r) in
-    (lines-read _ _ _ _ _ _ _ _ (l .before .before .before .before .before .before .before .before .lines .inv .0) (left l) _ _ _ train (c .train-of .ensures), omega (arith, left l))
+    let m : l .before .legs-between .result - 1 - l .loop .k ≡ 0 = omega
+    (arith, l .loop .inv .1, c .before .before .before .before .before .before .loop-test .left) in
+    let r = ranged-told 2 3 run 10 _ _ _ refl refl (c .before .before .before .before .before .faults-on3 .ensures)
+    (c .before .before .before .before .ranged3 .ensures) (c .before .before .last .given .1) in
+    let train = line-yet l _ (journey-last-read _ _ _ _ _ _ _ m _ _ r) in (
+      lines-read _ _ _ _ _ _ _ _ (l .before .before .before .before .before .before .before .before .lines .inv .0) (left l) _ _ _ train
+          (c .train-of .ensures),
+      omega (arith, left l),
+    )
 
 returns : tie.Need-returns Inv-loop μ-loop Inv-lines μ-lines
 unfolding padded
@@ -204,29 +260,38 @@ returns-3 : tie.Need-returns-3 Inv-loop μ-loop Inv-lines μ-lines
 unfolding padded
 returns-3 c =
     let l = c .before .before .before .before .before .before in
-    let m : l .before .legs-between .result - 1 - l .loop .k ≡ suc (l .before .legs-between .result - 1 - (l .loop .k + 1)) = omega (arith, l .loop .inv .1, c .before .before .before .before .before .loop-test .taken) in
-    let r = ranged-told 2 3 run 32 _ _ _ refl refl (c .before .before .before .before .faults-on .ensures) (c .before .before .before .ranged .ensures) (c .before .enum-told2 .given .1) in
+    let m : l .before .legs-between .result - 1 - l .loop .k ≡ suc (l .before .legs-between .result - 1 - (l .loop .k + 1)) = omega
+    (arith, l .loop .inv .1, c .before .before .before .before .before .loop-test .taken) in
+    let r = ranged-told 2 3 run 32 _ _ _ refl refl (c .before .before .before .before .faults-on .ensures) (c .before .before .before .ranged .ensures)
+    (c .before .enum-told2 .given .1) in
     let train = line-yet l _ (journey-stop-run _ _ _ _ _ _ _ _ m _ _ r) in
-    lines-stop _ _ _ _ _ _ _ _ (l .before .before .before .before .before .before .before .before .lines .inv .0) (left l) _ _ _ train (ended-told _ (c .stopped .ensures ∙ ap stoppedBy (c .before .enum-told2 .given .1)))
+    lines-stop _ _ _ _ _ _ _ _ (l .before .before .before .before .before .before .before .before .lines .inv .0) (left l) _ _ _ train
+    (ended-told _ (c .stopped .ensures ∙ ap stoppedBy (c .before .enum-told2 .given .1)))
 
 returns-4 : tie.Need-returns-4 Inv-loop μ-loop Inv-lines μ-lines
 unfolding padded
 returns-4 c =
     let l = c .before .before .before .before .before .before .before .before .before .before .before in
-    let m : l .before .legs-between .result - 1 - l .loop .k ≡ suc (l .before .legs-between .result - 1 - (l .loop .k + 1)) = omega (arith, l .loop .inv .1, c .before .before .before .before .before .before .before .before .before .before .loop-test .taken) in
-    let r = ranged-told 2 3 run 32 _ _ _ refl refl (c .before .before .before .before .before .before .before .before .before .faults-on .ensures) (c .before .before .before .before .before .before .before .before .ranged .ensures) (c .before .before .before .before .before .before .r .given .1) in
-    let t = ranged-told 2 3 stop 32 _ _ _ refl refl (c .before .before .before .before .faults-on2 .ensures) (c .before .before .before .ranged2 .ensures) (c .before .enum-told3 .given .1) in
+    let m : l .before .legs-between .result - 1 - l .loop .k ≡ suc (l .before .legs-between .result - 1 - (l .loop .k + 1)) = omega
+    (arith, l .loop .inv .1, c .before .before .before .before .before .before .before .before .before .before .loop-test .taken) in
+    let r = ranged-told 2 3 run 32 _ _ _ refl refl (c .before .before .before .before .before .before .before .before .before .faults-on .ensures)
+    (c .before .before .before .before .before .before .before .before .ranged .ensures) (c .before .before .before .before .before .before .r .given .1) in
+    let t = ranged-told 2 3 stop 32 _ _ _ refl refl (c .before .before .before .before .faults-on2 .ensures) (c .before .before .before .ranged2 .ensures)
+    (c .before .enum-told3 .given .1) in
     let train = line-yet l _ (journey-stop-stop _ _ _ _ _ _ _ _ m _ _ r _ _ t) in
-    lines-stop _ _ _ _ _ _ _ _ (l .before .before .before .before .before .before .before .before .lines .inv .0) (left l) _ _ _ train (ended-told _ (c .stopped2 .ensures ∙ ap stoppedBy (c .before .enum-told3 .given .1)))
+    lines-stop _ _ _ _ _ _ _ _ (l .before .before .before .before .before .before .before .before .lines .inv .0) (left l) _ _ _ train
+    (ended-told _ (c .stopped2 .ensures ∙ ap stoppedBy (c .before .enum-told3 .given .1)))
 
 returns-5 : tie.Need-returns-5 Inv-loop μ-loop Inv-lines μ-lines
 unfolding padded
 returns-5 c =
     let l = c .before .before .before .before .before .before in
     let m : l .before .legs-between .result - 1 - l .loop .k ≡ 0 = omega (arith, l .loop .inv .1, c .before .before .before .before .before .loop-test .left) in
-    let r = ranged-told 2 3 run 10 _ _ _ refl refl (c .before .before .before .before .faults-on3 .ensures) (c .before .before .before .ranged3 .ensures) (c .before .enum-told4 .given .1) in
+    let r = ranged-told 2 3 run 10 _ _ _ refl refl (c .before .before .before .before .faults-on3 .ensures) (c .before .before .before .ranged3 .ensures)
+    (c .before .enum-told4 .given .1) in
     let train = line-yet l _ (journey-last-stop _ _ _ _ _ _ _ m _ _ r) in
-    lines-stop _ _ _ _ _ _ _ _ (l .before .before .before .before .before .before .before .before .lines .inv .0) (left l) _ _ _ train (ended-told _ (c .stopped3 .ensures ∙ ap stoppedBy (c .before .enum-told4 .given .1)))
+    lines-stop _ _ _ _ _ _ _ _ (l .before .before .before .before .before .before .before .before .lines .inv .0) (left l) _ _ _ train
+    (ended-told _ (c .stopped3 .ensures ∙ ap stoppedBy (c .before .enum-told4 .given .1)))
 
 pub train-lines-spec : {M : Type 1} → statement M
 train-lines-spec =

@@ -39,8 +39,10 @@ refused-requires c κs = search needs
 
 returns : tie.Need-returns
 returns c =
-    let count = ranged-told 2 3 trainCount 10 _ _ _ refl refl (c .before .before .before .before .before .faults-on .ensures) (c .before .before .before .before .ranged .ensures) (c .before .before .enum-told .given .1) in
-    refusal (c .refused .ensures) (c .before .stopped .ensures ∙ ap stoppedBy (c .before .before .enum-told .given .1)) (section-no-count (trains-section _ _ _ _ _) count)
+    let count = ranged-told 2 3 trainCount 10 _ _ _ refl refl (c .before .before .before .before .before .faults-on .ensures)
+    (c .before .before .before .before .ranged .ensures) (c .before .before .enum-told .given .1) in
+    refusal (c .refused .ensures) (c .before .stopped .ensures ∙ ap stoppedBy (c .before .before .enum-told .given .1))
+    (section-no-count (trains-section _ _ _ _ _) count)
 
 cast-train-lines : tie.Need-cast-train-lines
 cast-train-lines c = search needs
@@ -53,7 +55,8 @@ add-train-lines-2 c = search needs
 
 train-lines-requires : tie.Need-train-lines-requires
 train-lines-requires c κs =
-    let count = ranged-told 2 3 trainCount 10 _ _ _ refl refl (c .before .before .before .before .faults-on .ensures) (c .before .before .before .ranged .ensures) (c .before .field .given .1) in
+    let count = ranged-told 2 3 trainCount 10 _ _ _ refl refl (c .before .before .before .before .faults-on .ensures)
+    (c .before .before .before .ranged .ensures) (c .before .field .given .1) in
     (ranged-spelt _ _ _ _ _ _ _ _ _ _ (omega arith) count .high, c .before .before .before .before .before .before .pre, omega arith)
 
 enum-known-ending : tie.Need-enum-known-ending
@@ -67,7 +70,8 @@ refused-requires-2 c κs = search needs
 
 returns-2 : tie.Need-returns-2
 returns-2 c =
-    let count = ranged-told 2 3 trainCount 10 _ _ _ refl refl (c .before .before .before .before .before .before .before .before .faults-on .ensures) (c .before .before .before .before .before .before .before .ranged .ensures) (c .before .before .before .before .before .field .given .1) in
+    let count = ranged-told 2 3 trainCount 10 _ _ _ refl refl (c .before .before .before .before .before .before .before .before .faults-on .ensures)
+    (c .before .before .before .before .before .before .before .ranged .ensures) (c .before .before .before .before .before .field .given .1) in
     let lines = sym (c .before .before .before .train-lines .ensures) ∙ ended-told _ (c .before .enum-told2 .given .1) in
     refusal (c .refused2 .ensures) (c .before .enum-told2 .given .1) (section-refused (trains-section _ _ _ _ _) count lines)
 
@@ -88,14 +92,22 @@ refused-requires-3 c κs = search needs
 
 returns-3 : tie.Need-returns-3
 returns-3 c =
-    let count = ranged-told 2 3 trainCount 10 _ _ _ refl refl (c .before .before .before .before .before .before .before .before .before .before .before .faults-on .ensures) (c .before .before .before .before .before .before .before .before .before .before .ranged .ensures) (c .before .before .before .before .before .before .before .before .field .given .1) in
-    let lines = sym (c .before .before .before .before .before .before .train-lines .ensures) ∙ ended-told _ (c .before .before .before .before .ending .given .1) in
+    let count = ranged-told 2 3 trainCount 10 _ _ _ refl refl
+    (c .before .before .before .before .before .before .before .before .before .before .before .faults-on .ensures)
+    (c .before .before .before .before .before .before .before .before .before .before .ranged .ensures)
+    (c .before .before .before .before .before .before .before .before .field .given .1) in
+    let lines = sym (c .before .before .before .before .before .before .train-lines .ensures)
+    ∙ ended-told _ (c .before .before .before .before .ending .given .1) in
     refusal (c .refused3 .ensures) refl (section-read (trains-section _ _ _ _ _) count lines ∙ trains-more _ _ _ _ _ _ _ (c .before .if1 .taken))
 
 returns-4 : tie.Need-returns-4
 returns-4 c =
-    let count = ranged-told 2 3 trainCount 10 _ _ _ refl refl (c .before .before .before .before .before .before .before .before .before .before .before .faults-on .ensures) (c .before .before .before .before .before .before .before .before .before .before .ranged .ensures) (c .before .before .before .before .before .before .before .before .field .given .1) in
-    let lines = sym (c .before .before .before .before .before .before .train-lines .ensures) ∙ ended-told _ (c .before .before .before .before .ending .given .1) in
+    let count = ranged-told 2 3 trainCount 10 _ _ _ refl refl
+    (c .before .before .before .before .before .before .before .before .before .before .before .faults-on .ensures)
+    (c .before .before .before .before .before .before .before .before .before .before .ranged .ensures)
+    (c .before .before .before .before .before .before .before .before .field .given .1) in
+    let lines = sym (c .before .before .before .before .before .before .train-lines .ensures)
+    ∙ ended-told _ (c .before .before .before .before .ending .given .1) in
     sym (ap answered (section-read (trains-section _ _ _ _ _) count lines ∙ trains-done _ _ _ _ _ _ _ (c .before .if1 .left)))
 
 pub train-part-spec : {M : Type 1} → statement M

@@ -47,7 +47,8 @@ returns-3 c =
     let destination = c .before in
     let origin = destination .before .before .before .before in
     found-later (fault-by _ _ (origin .before .before .number-fault .ensures) (origin .before .before .before .numbers .ensures)) (origin .enum-told .given .1)
-    (found-later (fault-by _ _ (destination .before .before .number-fault2 .ensures) (destination .before .before .before .numbers2 .ensures)) (destination .enum-told3 .given .1)
+    (found-later (fault-by _ _ (destination .before .before .number-fault2 .ensures) (destination .before .before .before .numbers2 .ensures))
+    (destination .enum-told3 .given .1)
     (same-ends _ _ _ (c .if1 .taken)))
 
 returns-4 : tie.Need-returns-4
@@ -56,7 +57,8 @@ returns-4 c =
     let destination = c .before in
     let origin = destination .before .before .before .before in
     found-later (fault-by _ _ (origin .before .before .number-fault .ensures) (origin .before .before .before .numbers .ensures)) (origin .enum-told .given .1)
-    (found-later (fault-by _ _ (destination .before .before .number-fault2 .ensures) (destination .before .before .before .numbers2 .ensures)) (destination .enum-told3 .given .1)
+    (found-later (fault-by _ _ (destination .before .before .number-fault2 .ensures) (destination .before .before .before .numbers2 .ensures))
+    (destination .enum-told3 .given .1)
     (other-ends _ _ _ (c .if1 .left)))
 
 pub path-fault-spec : {M : Type 1} → statement M

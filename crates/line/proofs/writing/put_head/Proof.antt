@@ -17,22 +17,28 @@ cast-put-field-2 : tie.Need-cast-put-field-2
 cast-put-field-2 c = search needs
 
 put-field-requires-2 : tie.Need-put-field-requires-2
-put-field-requires-2 c κs =
-    (omega (arith, head-size (c .before .before .before .before .before .before .before .before .args .train)), omega (arith, c .struct-known2 .given .1 .0 .fits))
+put-field-requires-2 c κs = (
+  omega (arith, head-size (c .before .before .before .before .before .before .before .before .args .train)),
+  omega (arith, c .struct-known2 .given .1 .0 .fits),
+)
 
 cast-put-field-3 : tie.Need-cast-put-field-3
 cast-put-field-3 c = search needs
 
 put-field-requires-3 : tie.Need-put-field-requires-3
-put-field-requires-3 c κs =
-    (omega (arith, head-size (c .before .before .before .before .before .before .before .before .before .before .before .before .before .args .train)), omega (arith, c .struct-known3 .given .1 .1 .0 .fits))
+put-field-requires-3 c κs = (
+  omega (arith, head-size (c .before .before .before .before .before .before .before .before .before .before .before .before .before .args .train)),
+  omega (arith, c .struct-known3 .given .1 .1 .0 .fits),
+)
 
 cast-put-field-4 : tie.Need-cast-put-field-4
 cast-put-field-4 c = search needs
 
 put-field-requires-4 : tie.Need-put-field-requires-4
 put-field-requires-4 c κs =
-    (omega (arith, head-size (c .before .before .before .before .before .before .before .before .before .before .before .before .before .before .before .before .before .before .args .train)), omega (arith, c .struct-known4 .given .1 .1 .1 .0 .fits))
+    let b = c .before .before .before .before .before .before .before .before in
+    let a = b .before .before .before .before .before .before .before .before .before .before .args in
+    (omega (arith, head-size (a .train)), omega (arith, c .struct-known4 .given .1 .1 .1 .0 .fits))
 
 cast-put-field-5 : tie.Need-cast-put-field-5
 cast-put-field-5 c = search needs
@@ -44,7 +50,19 @@ put-field-requires-5 c κs =
     let p2 = p3 .before .before .before .before .before in
     let p1 = p2 .before .before .before .before .before in
     let a = p1 .before .before .before .before in (
-      omega (arith, head-size (a .args .train), a .pre, p1 .put-field .ensures .next, p1 .put-field .kept .0, p2 .put-field2 .ensures .next, p2 .put-field2 .kept .0, p3 .put-field3 .ensures .next, p3 .put-field3 .kept .0, p4 .put-field4 .ensures .next, p4 .put-field4 .kept .0),
+      omega (
+        arith,
+        head-size (a .args .train),
+        a .pre,
+        p1 .put-field .ensures .next,
+        p1 .put-field .kept .0,
+        p2 .put-field2 .ensures .next,
+        p2 .put-field2 .kept .0,
+        p3 .put-field3 .ensures .next,
+        p3 .put-field3 .kept .0,
+        p4 .put-field4 .ensures .next,
+        p4 .put-field4 .kept .0,
+      ),
       omega (arith, c .struct-known5 .given .1 .1 .1 .1 .0 .fits),
     )
 
@@ -59,7 +77,8 @@ returns c =
     let p2 = p3 .before .before .before .before .before in
     let p1 = p2 .before .before .before .before .before in
     let a = p1 .before .before .before .before in
-    rw (head-parts (a .args .train)) (put-then (p1 .put-field .ensures) (put-then (p2 .put-field2 .ensures) (put-then (p3 .put-field3 .ensures) (put-then (p4 .put-field4 .ensures) (p5 .put-field5 .ensures)))))
+    rw (head-parts (a .args .train)) (put-then (p1 .put-field .ensures)
+    (put-then (p2 .put-field2 .ensures) (put-then (p3 .put-field3 .ensures) (put-then (p4 .put-field4 .ensures) (p5 .put-field5 .ensures)))))
 
 pub put-head-spec : {M : Type 1} → statement M
 put-head-spec =

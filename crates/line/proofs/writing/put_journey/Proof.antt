@@ -15,7 +15,8 @@ use Rattle.line.proofs.writing.put_journey.Tie as tie
 
 abbrev Inv-loop : tie.InvT-loop
 Inv-loop out₀ start legs runs stops at₀ k₀ out at k =
-    Putting out₀ start (journeyText (take (legs - 1) stops) (take legs runs) []) out at (journeyText (drop k (take (legs - 1) stops)) (drop k (take legs runs)) []) × (k + 1 ≤ legs)
+    Putting out₀ start (journeyText (take (legs - 1) stops) (take legs runs) []) out at
+    (journeyText (drop k (take (legs - 1) stops)) (drop k (take legs runs)) []) × (k + 1 ≤ legs)
 
 abbrev μ-loop : tie.MeasureT-loop
 μ-loop out₀ start legs runs stops at₀ k₀ out at k = legs - k
@@ -39,8 +40,10 @@ put-field-requires : tie.Need-put-field-requires Inv-loop μ-loop
 put-field-requires c κs =
     let w = c .before .before .loop in
     let a = c .before .before .before .before in
-    let short : Fits w16 (getD (a .args .t3) (w .k) 0) = search needs in
-    (omega (arith, journey-room (a .args .t3) (a .args .t4) (a .args .legs) (w .k) (omega arith) (w .inv .0) (omega arith) (a .pre .2)), omega (arith, short .fits))
+    let short : Fits w16 (getD (a .args .t3) (w .k) 0) = search needs in (
+      omega (arith, journey-room (a .args .t3) (a .args .t4) (a .args .legs) (w .k) (omega arith) (w .inv .0) (omega arith) (a .pre .2)),
+      omega (arith, short .fits),
+    )
 
 mul-put-field-2 : tie.Need-mul-put-field-2 Inv-loop μ-loop
 mul-put-field-2 c = search needs
@@ -57,7 +60,12 @@ put-field-requires-2 c κs =
     let w = c .before .before .before .before .before .before .loop in
     let a = c .before .before .before .before .before .before .before .before in
     let short : Fits w16 (getD (a .args .t4) (w .k) 0) = search needs in (
-      omega (arith, journey-room (a .args .t3) (a .args .t4) (a .args .legs) (w .k) (omega arith) (w .inv .0) (omega arith) (a .pre .2), put .ensures .next, put .kept .0),
+      omega (
+        arith,
+        journey-room (a .args .t3) (a .args .t4) (a .args .legs) (w .k) (omega arith) (w .inv .0) (omega arith) (a .pre .2),
+        put .ensures .next,
+        put .kept .0,
+      ),
       omega (arith, short .fits),
     )
 
@@ -72,8 +80,10 @@ loop-again c =
     let stop = c .before .before .put-field2 in
     let run = c .before .before .before .before .before .before .put-field in
     let w = c .before .before .before .before .before .before .before .before .before .loop in
-    let a = c .before .before .before .before .before .before .before .before .before .before .before in
-    (journey-put (a .args .t3) (a .args .t4) (a .args .legs) (w .k) (omega arith) (w .inv .0) (omega arith) (put-then (run .ensures) (stop .ensures)), omega arith)
+    let a = c .before .before .before .before .before .before .before .before .before .before .before in (
+      journey-put (a .args .t3) (a .args .t4) (a .args .legs) (w .k) (omega arith) (w .inv .0) (omega arith) (put-then (run .ensures) (stop .ensures)),
+      omega arith,
+    )
 
 mul-put-field-3 : tie.Need-mul-put-field-3 Inv-loop μ-loop
 mul-put-field-3 c = search needs

@@ -39,7 +39,15 @@ put-field-requires-2 c κs =
     let p2 = c .before .before .before in
     let p1 = p2 .before .before .before .before in
     let a = p1 .before .before .before .before .before .before in (
-      omega (arith, line-size (a .args .line), a .pre .1, p1 .put-field .ensures .next, p1 .put-field .kept .0, p2 .put-stations .ensures .next, p2 .put-stations .kept .0),
+      omega (
+        arith,
+        line-size (a .args .line),
+        a .pre .1,
+        p1 .put-field .ensures .next,
+        p1 .put-field .kept .0,
+        p2 .put-stations .ensures .next,
+        p2 .put-stations .kept .0,
+      ),
       omega (arith, a .pre .0 .stations),
     )
 
@@ -53,7 +61,17 @@ put-segments-requires c κs =
     let p1 = p2 .before .before .before .before in
     let a = p1 .before .before .before .before .before .before in (
       omega (arith, a .pre .0 .stations),
-      omega (arith, line-size (a .args .line), a .pre .1, p1 .put-field .ensures .next, p1 .put-field .kept .0, p2 .put-stations .ensures .next, p2 .put-stations .kept .0, p3 .put-field2 .ensures .next, p3 .put-field2 .kept .0),
+      omega (
+        arith,
+        line-size (a .args .line),
+        a .pre .1,
+        p1 .put-field .ensures .next,
+        p1 .put-field .kept .0,
+        p2 .put-stations .ensures .next,
+        p2 .put-stations .kept .0,
+        p3 .put-field2 .ensures .next,
+        p3 .put-field2 .kept .0,
+      ),
     )
 
 cast-put-field-3 : tie.Need-cast-put-field-3
@@ -66,7 +84,19 @@ put-field-requires-3 c κs =
     let p2 = p3 .before .before .before .before in
     let p1 = p2 .before .before .before .before in
     let a = p1 .before .before .before .before .before .before in (
-      omega (arith, line-size (a .args .line), a .pre .1, p1 .put-field .ensures .next, p1 .put-field .kept .0, p2 .put-stations .ensures .next, p2 .put-stations .kept .0, p3 .put-field2 .ensures .next, p3 .put-field2 .kept .0, p4 .put-segments .ensures .next, p4 .put-segments .kept .0),
+      omega (
+        arith,
+        line-size (a .args .line),
+        a .pre .1,
+        p1 .put-field .ensures .next,
+        p1 .put-field .kept .0,
+        p2 .put-stations .ensures .next,
+        p2 .put-stations .kept .0,
+        p3 .put-field2 .ensures .next,
+        p3 .put-field2 .kept .0,
+        p4 .put-segments .ensures .next,
+        p4 .put-segments .kept .0,
+      ),
       omega (arith, a .pre .0 .trains),
     )
 
@@ -82,8 +112,23 @@ put-trains-requires c κs =
     let p1 = p2 .before .before .before .before in
     let a = p1 .before .before .before .before .before .before in (
       omega (arith, a .pre .0 .trains),
-      each-map (TrainWithin (a .args .line .«station_count»)) HasPath (train-path (a .args .line .«station_count») (a .pre .0 .stations .1)) (trainsOf (a .args .line)) (a .pre .0 .each-train),
-      omega (arith, line-size (a .args .line), a .pre .1, p1 .put-field .ensures .next, p1 .put-field .kept .0, p2 .put-stations .ensures .next, p2 .put-stations .kept .0, p3 .put-field2 .ensures .next, p3 .put-field2 .kept .0, p4 .put-segments .ensures .next, p4 .put-segments .kept .0, p5 .put-field3 .ensures .next, p5 .put-field3 .kept .0),
+      each-map (TrainWithin (a .args .line .«station_count»)) HasPath (train-path (a .args .line .«station_count») (a .pre .0 .stations .1))
+          (trainsOf (a .args .line)) (a .pre .0 .each-train),
+      omega (
+        arith,
+        line-size (a .args .line),
+        a .pre .1,
+        p1 .put-field .ensures .next,
+        p1 .put-field .kept .0,
+        p2 .put-stations .ensures .next,
+        p2 .put-stations .kept .0,
+        p3 .put-field2 .ensures .next,
+        p3 .put-field2 .kept .0,
+        p4 .put-segments .ensures .next,
+        p4 .put-segments .kept .0,
+        p5 .put-field3 .ensures .next,
+        p5 .put-field3 .kept .0,
+      ),
     )
 
 same-length : tie.Need-same-length
@@ -98,7 +143,9 @@ returns c =
     let p2 = p3 .before .before .before .before in
     let p1 = p2 .before .before .before .before in
     let a = p1 .before .before .before .before .before .before in
-    rw (line-parts (a .args .line)) (put-then (p1 .put-field .ensures) (put-then (p2 .put-stations .ensures) (put-then (p3 .put-field2 .ensures) (put-then (p4 .put-segments .ensures) (put-then (p5 .put-field3 .ensures) (p6 .put-trains .ensures))))))
+    rw (line-parts (a .args .line)) (put-then (p1 .put-field .ensures)
+    (put-then (p2 .put-stations .ensures) (put-then (p3 .put-field2 .ensures)
+    (put-then (p4 .put-segments .ensures) (put-then (p5 .put-field3 .ensures) (p6 .put-trains .ensures))))))
 
 pub put-line-spec : {M : Type 1} → statement M
 put-line-spec =

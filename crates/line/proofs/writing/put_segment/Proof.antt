@@ -43,7 +43,8 @@ returns c =
     let letter = space .before .before .before .before in
     let a = letter .before .before .before .before in
     let first = rw (letter .before .letter-byte .ensures) at (letter .put-byte .ensures) in
-    rw (segment-parts (a .args .segment)) (put-then first (put-then (space .put-byte2 .ensures) (put-then (following .put-field .ensures) (opposing .put-field2 .ensures))))
+    rw (segment-parts (a .args .segment)) (put-then first
+    (put-then (space .put-byte2 .ensures) (put-then (following .put-field .ensures) (opposing .put-field2 .ensures))))
 
 pub put-segment-spec : {M : Type 1} → statement M
 put-segment-spec =

@@ -49,8 +49,11 @@ loop-less c = search needs
 loop-again : tie.Need-loop-again Inv-loop μ-loop
 loop-again c =
     let w = c .before .before .before .before .before .loop in
-    let a = c .before .before .before .before .before .before .before in
-    (each-put stationText station-then (a .args .count) (a .args .t3) (w .i) (omega arith) (w .inv .0) 0 (omega arith) (c .before .before .put-field .ensures), omega arith)
+    let a = c .before .before .before .before .before .before .before in (
+      each-put stationText station-then (a .args .count) (a .args .t3) (w .i) (omega arith) (w .inv .0) 0 (omega arith)
+          (c .before .before .put-field .ensures),
+      omega arith,
+    )
 
 same-length : tie.Need-same-length Inv-loop μ-loop
 same-length c = search needs

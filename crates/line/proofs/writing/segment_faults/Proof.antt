@@ -11,7 +11,8 @@ use Rattle.line.proofs.writing.segment_faults.Statement.{statement}
 use Rattle.line.proofs.writing.segment_faults.Tie as tie
 
 abbrev Inv-loop : tie.InvT-loop
-Inv-loop count first segments i₀ i = (linesFault (drop i (take count segments)) segmentFault (first + i) ≡ linesFault (take count segments) segmentFault first) × (i ≤ count)
+Inv-loop count first segments i₀ i =
+    (linesFault (drop i (take count segments)) segmentFault (first + i) ≡ linesFault (take count segments) segmentFault first) × (i ≤ count)
 
 abbrev μ-loop : tie.MeasureT-loop
 μ-loop count first segments i₀ i = count - i

@@ -11,7 +11,9 @@ use Rattle.line.proofs.writing.time_faults.Statement.{statement}
 use Rattle.line.proofs.writing.time_faults.Tie as tie
 
 abbrev Inv-loop : tie.InvT-loop
-Inv-loop count limits line times i₀ i = (linesFault (drop i (take count times)) (λ _ n. numberFault limits n line) i ≡ linesFault (take count times) (λ _ n. numberFault limits n line) 0) × (i ≤ count)
+Inv-loop count limits line times i₀ i =
+    (linesFault (drop i (take count times)) (λ _ n. numberFault limits n line) i ≡ linesFault (take count times)
+    (λ _ n. numberFault limits n line) 0) × (i ≤ count)
 
 abbrev μ-loop : tie.MeasureT-loop
 μ-loop count limits line times i₀ i = count - i

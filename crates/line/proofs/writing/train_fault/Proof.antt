@@ -28,7 +28,8 @@ legs-between-requires c κs = search needs
 time-faults-requires : tie.Need-time-faults-requires
 time-faults-requires c κs =
     let head = c .before .before in
-    legs-fit _ _ _ (head .before .before .head-fault .ensures) (head .enum-told .given .1) (head .before .before .before .pre) (c .before .legs-between .ensures) .1
+    legs-fit _ _ _ (head .before .before .head-fault .ensures) (head .enum-told .given .1) (head .before .before .before .pre)
+    (c .before .legs-between .ensures) .1
 
 enum-told-3 : tie.Need-enum-told-3
 enum-told-3 c = search needs
@@ -54,7 +55,8 @@ time-faults-requires-2 : tie.Need-time-faults-requires-2
 time-faults-requires-2 c κs =
     let legs = c .before .before .before .before .before in
     let head = legs .before in
-    let fits = legs-fit _ _ _ (head .before .before .head-fault .ensures) (head .enum-told .given .1) (head .before .before .before .pre) (legs .legs-between .ensures) in
+    let fits = legs-fit _ _ _ (head .before .before .head-fault .ensures) (head .enum-told .given .1) (head .before .before .before .pre)
+    (legs .legs-between .ensures) in
     omega arith
 
 returns-3 : tie.Need-returns-3

@@ -11,7 +11,8 @@ use Rattle.line.proofs.writing.train_faults.Statement.{statement}
 use Rattle.line.proofs.writing.train_faults.Tie as tie
 
 abbrev Inv-loop : tie.InvT-loop
-Inv-loop count stations first trains i₀ i = (linesFault (drop i (take count trains)) (trainFault stations) (first + i) ≡ linesFault (take count trains) (trainFault stations) first) × (i ≤ count)
+Inv-loop count stations first trains i₀ i =
+    (linesFault (drop i (take count trains)) (trainFault stations) (first + i) ≡ linesFault (take count trains) (trainFault stations) first) × (i ≤ count)
 
 abbrev μ-loop : tie.MeasureT-loop
 μ-loop count stations first trains i₀ i = count - i

@@ -51,7 +51,8 @@ lend-text-requires : tie.Need-lend-text-requires
 lend-text-requires c κs =
     let a = c .before .before .before .before .before .before .before .before .before .args in
     let put = c .before .before .before .put-line in
-    let within = within-of (a .line) (sym (c .before .before .before .before .before .before .before .fault-of .ensures) ∙ c .before .before .before .before .before .enum-told .given .1) in
+    let within = within-of (a .line) (sym (c .before .before .before .before .before .before .before .fault-of .ensures)
+    ∙ c .before .before .before .before .before .enum-told .given .1) in
     omega (arith, text-fits (a .line) within, put .ensures .next, put .kept .0)
 
 same-length : tie.Need-same-length
@@ -61,7 +62,8 @@ returns-2 : tie.Need-returns-2
 unfolding spelling
 returns-2 c =
     let a = c .before .before .before .before .before .before .before .before .before .before .before .before .args in
-    let none = sym (c .before .before .before .before .before .before .before .before .before .before .fault-of .ensures) ∙ c .before .before .before .before .before .before .before .before .enum-told .given .1 in
+    let none = sym (c .before .before .before .before .before .before .before .before .before .before .fault-of .ensures)
+    ∙ c .before .before .before .before .before .before .before .before .enum-told .given .1 in
     let put = c .before .before .before .before .before .before .put-line in
     let fits : length (textOf (a .line)) ≤ length (replicate {A = ℕ} 4096 0) =
     rw (length-replicate {A = ℕ} 4096 0) (text-fits (a .line) (within-of (a .line) none)) in

@@ -4,7 +4,8 @@ use mathlib.Core.Path.{refl, sym, _∙_}
 use mathlib.Core.Bool.{true, false}
 use borrow.Author.Needs.{needs}
 use Rattle.line.specs.declared.Kind.{Kind}
-use Rattle.rules.specs.ConflictsLaws.{keeps-by, both-first, both-second}
+use Rattle.text.specs.Decide.{both-first, both-second}
+use Rattle.rules.specs.ConflictsLaws.{keeps-by}
 use Rattle.rules.proofs.conflicts.keeps.Statement.{statement}
 use Rattle.rules.proofs.conflicts.keeps.Tie as tie
 

@@ -15,10 +15,12 @@ keeps-requires-2 : tie.Need-keeps-requires-2
 keeps-requires-2 c κs = search needs
 
 returns-2 : tie.Need-returns-2
-returns-2 c = neither-other _ _ _ (sym (c .before .before .before .keeps .ensures) ∙ c .before .before .if1 .left) (sym (c .before .keeps2 .ensures) ∙ c .if2 .taken)
+returns-2 c =
+    neither-other _ _ _ (sym (c .before .before .before .keeps .ensures) ∙ c .before .before .if1 .left) (sym (c .before .keeps2 .ensures) ∙ c .if2 .taken)
 
 returns-3 : tie.Need-returns-3
-returns-3 c = neither-both _ _ _ (sym (c .before .before .before .keeps .ensures) ∙ c .before .before .if1 .left) (sym (c .before .keeps2 .ensures) ∙ c .if2 .left)
+returns-3 c =
+    neither-both _ _ _ (sym (c .before .before .before .keeps .ensures) ∙ c .before .before .if1 .left) (sym (c .before .keeps2 .ensures) ∙ c .if2 .left)
 
 pub neither-spec : {M : Type 1} → statement M
 neither-spec = tie.close (tie.spec keeps-requires returns keeps-requires-2 returns-2 returns-3)

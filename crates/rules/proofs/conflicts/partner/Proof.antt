@@ -42,7 +42,8 @@ returns-2 c =
     let w = c .before .before .before .before .before .before in
     let x = w .before .before .before .passage-of .ensures in
     let y = c .before .before .before .before .passage-of2 .ensures in
-    let here = clash-here _ _ _ _ _ _ _ _ _ x y (c .before .neither .ensures) (c .if3 .taken) (w .loop .inv .0) (w .before .if1 .left) (c .before .before .if2 .taken) in
+    let here = clash-here _ _ _ _ _ _ _ _ _ x y (c .before .neither .ensures) (c .if3 .taken) (w .loop .inv .0) (w .before .if1 .left)
+    (c .before .before .if2 .taken) in
     partner-found _ _ _ _ _ _ _ (omega arith) here (w .loop .inv .2)
 
 add-j-2 : tie.Need-add-j-2 Inv-loop μ-loop

@@ -11,7 +11,8 @@ use Rattle.rules.proofs.delay.free_arrival.Statement.{statement}
 use Rattle.rules.proofs.delay.free_arrival.Tie as tie
 
 abbrev Inv-loop : tie.InvT-loop
-Inv-loop legs runs stops arrival₀ k₀ arrival k = (1 ≤ k) × (k ≤ legs) × (arrival ≤ 131070 * k) × ((t : Train) → runs ≡ t .runs → stops ≡ t .stops → arrival₀ ≡ freeAfter t 0 → arrival ≡ freeAfter t (k - 1))
+Inv-loop legs runs stops arrival₀ k₀ arrival k =
+    (1 ≤ k) × (k ≤ legs) × (arrival ≤ 131070 * k) × ((t : Train) → runs ≡ t .runs → stops ≡ t .stops → arrival₀ ≡ freeAfter t 0 → arrival ≡ freeAfter t (k - 1))
 
 abbrev μ-loop : tie.MeasureT-loop
 μ-loop legs runs stops arrival₀ k₀ arrival k = legs - k
@@ -69,8 +70,12 @@ loop-less c = search needs
 
 loop-again : tie.Need-loop-again Inv-loop μ-loop
 loop-again c =
-    let w = c .before .before .before .loop in
-    (omega arith, omega arith, omega arith, λ t r s e. free-step t (w .k) (w .inv .0) r s (w .inv .3 t r s e) (c .before .wide3 .ensures .0) (c .wide4 .ensures .0))
+    let w = c .before .before .before .loop in (
+      omega arith,
+      omega arith,
+      omega arith,
+      λ t r s e. free-step t (w .k) (w .inv .0) r s (w .inv .3 t r s e) (c .before .wide3 .ensures .0) (c .wide4 .ensures .0),
+    )
 
 returns : tie.Need-returns Inv-loop μ-loop
 returns c =

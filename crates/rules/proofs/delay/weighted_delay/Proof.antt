@@ -23,7 +23,9 @@ abbrev μ-loop : tie.MeasureT-loop
 μ-loop m line n total₀ i₀ total i = n - i
 
 -- the train of this turn, which is within the limits
-within : (c : tie.After-train Inv-loop μ-loop) → TrainWithin (c .before .before .before .before .args .t1 .«station_count») (train (c .before .before .before .before .args .t1) (c .before .before .loop .i))
+within : (c : tie.After-train Inv-loop μ-loop) →
+    TrainWithin (c .before .before .before .before .args .t1 .«station_count»)
+    (train (c .before .before .before .before .args .t1) (c .before .before .loop .i))
 within c =
     let a = c .before .before .before .before in
     let size : length (a .args .t1 .trains) ≡ 12 = sym (length-map (a .args .t1 .trains) _) ∙ a .good .0 .1 .1 .1 .1 .1 .1 .0 .1 .0 .1 in
@@ -33,8 +35,11 @@ path : (c : tie.After-train Inv-loop μ-loop) → Routed (train (c .before .befo
 path c = routed-within _ _ (within c) (c .before .before .before .before .pre .0 .stations .1)
 
 -- a weight of at most 99 times a delay below 65,536
-most : (c : tie.After-wide2 Inv-loop μ-loop) → c .wide2 .result * (c .before .before .before .wide .result - c .before .before .free-arrival .result) ≤ 99 * 65535
-most c = mul-le-mul {n₂ = 99} {m₂ = 65535} (omega (arith, c .wide2 .ensures .0, within (c .before .before .before .before .before .before) .weight)) (omega (arith, c .before .before .before .wide .ensures .1))
+most : (c : tie.After-wide2 Inv-loop μ-loop) →
+    c .wide2 .result * (c .before .before .before .wide .result - c .before .before .free-arrival .result) ≤ 99 * 65535
+most c =
+    mul-le-mul {n₂ = 99} {m₂ = 65535} (omega (arith, c .wide2 .ensures .0, within (c .before .before .before .before .before .before) .weight))
+    (omega (arith, c .before .before .before .wide .ensures .1))
 
 cast-n : tie.Need-cast-n Inv-loop μ-loop
 cast-n c = search needs
@@ -58,8 +63,12 @@ sub-last c = omega (arith, c .legs-between .ensures, legs-few _ (path (c .before
 
 arrival-of-requires : tie.Need-arrival-of-requires Inv-loop μ-loop
 arrival-of-requires c κs =
-    let a = c .before .before .before .before .before in
-    (path (c .before), a .pre .1, omega (arith, c .before .before .loop-test .taken, a .pre .0 .trains), omega (arith, c .legs-between .ensures, legs-few _ (path (c .before))))
+    let a = c .before .before .before .before .before in (
+      path (c .before),
+      a .pre .1,
+      omega (arith, c .before .before .loop-test .taken, a .pre .0 .trains),
+      omega (arith, c .legs-between .ensures, legs-few _ (path (c .before))),
+    )
 
 wide-requires : tie.Need-wide-requires Inv-loop μ-loop
 wide-requires c κs = search needs
@@ -79,7 +88,13 @@ mul-total c = omega (arith, most c)
 add-total : tie.Need-add-total Inv-loop μ-loop
 add-total c =
     let a = c .before .before .before .before .before .before .before .before .before .before in
-    omega (arith, most c, c .before .before .before .before .before .before .before .before .loop .inv .2, c .before .before .before .before .before .before .before .loop-test .taken, a .pre .0 .trains)
+    omega (
+      arith,
+      most c,
+      c .before .before .before .before .before .before .before .before .loop .inv .2,
+      c .before .before .before .before .before .before .before .loop-test .taken,
+      a .pre .0 .trains,
+    )
 
 add-i : tie.Need-add-i Inv-loop μ-loop
 add-i c = search needs
@@ -96,8 +111,11 @@ loop-again c =
     let legs = c .before .before .before .before .legs-between .ensures in
     ⊎-elim
     (λ w.
-    let late = cost-late (a .args .t1) (now (a .args .m)) (i .i) legs last (c .before .free-arrival .ensures) (w .1 .ensures .0) in
-    (omega (arith, here), w .2 ∙ sum-next (cost (a .args .t1) (now (a .args .m))) (i .i) (i .inv .1) late, omega (arith, w .2, i .inv .2, most (record { before = record { before = c .before; if1 = w .0 }; wide2 = w .1 }))))
+    let late = cost-late (a .args .t1) (now (a .args .m)) (i .i) legs last (c .before .free-arrival .ensures) (w .1 .ensures .0) in (
+      omega (arith, here),
+      w .2 ∙ sum-next (cost (a .args .t1) (now (a .args .m))) (i .i) (i .inv .1) late,
+      omega (arith, w .2, i .inv .2, most (record { before = record { before = c .before; if1 = w .0 }; wide2 = w .1 })),
+    ))
     (λ w.
     let none = cost-none (a .args .t1) (now (a .args .m)) (i .i) legs last (c .before .free-arrival .ensures) (w .0 .left) in
     let next = sum-next (cost (a .args .t1) (now (a .args .m))) (i .i) (i .inv .1) none in

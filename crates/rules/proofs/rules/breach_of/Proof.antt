@@ -51,7 +51,8 @@ enum-told-6 c = search needs
 returns-3 : tie.Need-returns-3
 unfolding breachOf
 returns-3 c =
-    breach-later (c .before .before .before .before .before .before .before .before .train-breach .ensures) (c .before .before .before .before .before .before .enum-told .given .1)
+    breach-later (c .before .before .before .before .before .before .before .before .train-breach .ensures)
+    (c .before .before .before .before .before .before .enum-told .given .1)
     (breach-later (c .before .before .before .before .before .train-breach2 .ensures) (c .before .before .before .enum-told3 .given .1)
     (breach-first _ (c .before .before .train-breach3 .ensures) (c .enum-told6 .given .1)))
 
@@ -67,8 +68,10 @@ enum-told-8 c = search needs
 returns-4 : tie.Need-returns-4
 unfolding breachOf
 returns-4 c =
-    breach-later (c .before .before .before .before .before .before .before .before .before .before .before .train-breach .ensures) (c .before .before .before .before .before .before .before .before .before .enum-told .given .1)
-    (breach-later (c .before .before .before .before .before .before .before .before .train-breach2 .ensures) (c .before .before .before .before .before .before .enum-told3 .given .1)
+    breach-later (c .before .before .before .before .before .before .before .before .before .before .before .train-breach .ensures)
+    (c .before .before .before .before .before .before .before .before .before .enum-told .given .1)
+    (breach-later (c .before .before .before .before .before .before .before .before .train-breach2 .ensures)
+    (c .before .before .before .before .before .before .enum-told3 .given .1)
     (breach-later (c .before .before .before .before .before .train-breach3 .ensures) (c .before .before .before .enum-told5 .given .1)
     (breach-first _ (c .before .before .train-breach4 .ensures) (c .enum-told8 .given .1))))
 
@@ -104,11 +107,17 @@ conflict-breach-requires c κs =
 returns-5 : tie.Need-returns-5
 unfolding breachOf
 returns-5 c =
-    let a = c .before .before .before .before .before .before .before .before .before .before .before .before .before .before .before .before .before .before .args in
-    breach-later (c .before .before .before .before .before .before .before .before .before .before .before .before .before .before .before .before .train-breach .ensures) (c .before .before .before .before .before .before .before .before .before .before .before .before .before .before .enum-told .given .1)
-    (breach-later (c .before .before .before .before .before .before .before .before .before .before .before .before .before .train-breach2 .ensures) (c .before .before .before .before .before .before .before .before .before .before .before .enum-told3 .given .1)
-    (breach-later (c .before .before .before .before .before .before .before .before .before .before .train-breach3 .ensures) (c .before .before .before .before .before .before .before .before .enum-told5 .given .1)
-    (breach-later (c .before .before .before .before .before .before .before .train-breach4 .ensures) (c .before .before .before .before .before .enum-told7 .given .1)
+    let a =
+    c .before .before .before .before .before .before .before .before .before .before .before .before .before .before .before .before .before .before .args in
+    breach-later
+    (c .before .before .before .before .before .before .before .before .before .before .before .before .before .before .before .before .train-breach .ensures)
+    (c .before .before .before .before .before .before .before .before .before .before .before .before .before .before .enum-told .given .1)
+    (breach-later (c .before .before .before .before .before .before .before .before .before .before .before .before .before .train-breach2 .ensures)
+    (c .before .before .before .before .before .before .before .before .before .before .before .enum-told3 .given .1)
+    (breach-later (c .before .before .before .before .before .before .before .before .before .before .train-breach3 .ensures)
+    (c .before .before .before .before .before .before .before .before .enum-told5 .given .1)
+    (breach-later (c .before .before .before .before .before .before .before .train-breach4 .ensures)
+    (c .before .before .before .before .before .enum-told7 .given .1)
     (c .conflict-breach .ensures ∙ ap conflictBreach (conflict-told (a .line) (now (a .m)) _ _ _
     (c .before .before .before .layout-of .ensures) (c .before .before .before .before .directions-of .ensures) (c .before .lowest-conflict .ensures))))))
 

@@ -50,7 +50,8 @@ arrival-of-requires c κs =
 returns-4 : tie.Need-returns-4
 returns-4 c =
     let a = c .before .before .before .before .before .before .before in
-    keeps-end (a .args .train) (now (a .args .m)) (a .args .i) _ (c .before .before .before .before .before .if1 .left) (c .before .before .before .before .if2 .left) (c .before .before .before .if3 .left)
+    keeps-end (a .args .train) (now (a .args .m)) (a .args .i) _ (c .before .before .before .before .before .if1 .left)
+    (c .before .before .before .before .if2 .left) (c .before .before .before .if3 .left)
     (c .before .before .legs-between .ensures) (c .before .arrival-of .ensures)
 
 pub keeps-rule-spec : {M : Type 1} → statement M

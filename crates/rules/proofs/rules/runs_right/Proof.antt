@@ -56,7 +56,9 @@ returns c =
     let departs = c .before .before .wide2 .ensures .0 ∙ c .before .before .before .departure-of .ensures in
     let run = c .before .wide3 .ensures .0 in
     sym (is-false (decides-runs (a .args .train) (now (a .args .m)) (a .args .i))
-    (λ h. let right = h (w .loop .k) (omega (arith, c .before .before .before .before .before .before .loop-test .taken, w .before .before .legs-between .ensures)) in omega (arith, right, arrives, departs, run, c .if1 .taken)))
+    (λ h. let right = h (w .loop .k) (omega
+    (arith, c .before .before .before .before .before .before .loop-test .taken, w .before .before .legs-between .ensures)) in
+    omega (arith, right, arrives, departs, run, c .if1 .taken)))
 
 add-k : tie.Need-add-k Inv-loop μ-loop
 add-k c = search needs
@@ -70,8 +72,11 @@ loop-again c =
     let a = w .before .before .before .before in
     let arrives = c .before .before .before .before .wide .ensures .0 ∙ c .before .before .before .before .before .arrival-of .ensures in
     let departs = c .before .before .wide2 .ensures .0 ∙ c .before .before .before .departure-of .ensures in
-    let run = c .before .wide3 .ensures .0 in
-    (omega arith, below-more (RunAt (a .args .train) (now (a .args .m)) (a .args .i)) (w .loop .k) (w .loop .inv .1) (omega (arith, arrives, departs, run, c .if1 .left)))
+    let run = c .before .wide3 .ensures .0 in (
+      omega arith,
+      below-more (RunAt (a .args .train) (now (a .args .m)) (a .args .i)) (w .loop .k) (w .loop .inv .1)
+          (omega (arith, arrives, departs, run, c .if1 .left)),
+    )
 
 returns-2 : tie.Need-returns-2 Inv-loop μ-loop
 returns-2 c =

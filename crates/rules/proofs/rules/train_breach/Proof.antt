@@ -9,12 +9,12 @@ use borrow.Author.Tests.{not-true, not-false}
 use lib.ListN.{length, length-map}
 use Rattle.text.specs.Below.{EachBelow}
 use Rattle.rules.specs.PathsLaws.{routed}
-use Rattle.rules.specs.BreachesLaws.{Kept, breach-at, breach-none}
+use Rattle.rules.specs.BreachesLaws.{RuleKept, breach-at, breach-none}
 use Rattle.rules.proofs.rules.train_breach.Statement.{statement}
 use Rattle.rules.proofs.rules.train_breach.Tie as tie
 
 abbrev Inv-loop : tie.InvT-loop
-Inv-loop rule m line n i₀ i = (i ≤ n) × EachBelow i (Kept rule line m)
+Inv-loop rule m line n i₀ i = (i ≤ n) × EachBelow i (RuleKept rule line m)
 
 abbrev μ-loop : tie.MeasureT-loop
 μ-loop rule m line n i₀ i = n - i
@@ -25,7 +25,7 @@ cast-n c = search needs
 loop-holds : tie.Need-loop-holds Inv-loop μ-loop
 loop-holds c =
     let a = c .before in
-    (omega arith, below-none (Kept (a .args .rule) (a .args .t2) (now (a .args .m))))
+    (omega arith, below-none (RuleKept (a .args .rule) (a .args .t2) (now (a .args .m))))
 
 mul-train : tie.Need-mul-train Inv-loop μ-loop
 mul-train c = search needs
@@ -36,8 +36,11 @@ element-copy-out-train c = search needs
 keeps-rule-requires : tie.Need-keeps-rule-requires Inv-loop μ-loop
 keeps-rule-requires c κs =
     let a = c .before .before .before .before in
-    let size : length (a .args .t2 .trains) ≡ 12 = sym (length-map (a .args .t2 .trains) _) ∙ a .good .1 .0 .1 .1 .1 .1 .1 .1 .0 .1 .0 .1 in
-    (routed (a .args .t2) (c .before .before .loop .i) (a .pre .0) size (c .before .loop-test .taken), a .pre .1, omega (arith, c .before .loop-test .taken, a .pre .0 .trains))
+    let size : length (a .args .t2 .trains) ≡ 12 = sym (length-map (a .args .t2 .trains) _) ∙ a .good .1 .0 .1 .1 .1 .1 .1 .1 .0 .1 .0 .1 in (
+      routed (a .args .t2) (c .before .before .loop .i) (a .pre .0) size (c .before .loop-test .taken),
+      a .pre .1,
+      omega (arith, c .before .loop-test .taken, a .pre .0 .trains),
+    )
 
 add-t15 : tie.Need-add-t15 Inv-loop μ-loop
 add-t15 c = search needs
@@ -46,7 +49,8 @@ returns : tie.Need-returns Inv-loop μ-loop
 returns c =
     let a = c .before .before .before .before .before .before in
     let i = c .before .before .before .before .loop in
-    breach-at (a .args .rule) (a .args .t2) (now (a .args .m)) (i .i) (c .before .before .before .loop-test .taken) (sym (c .before .keeps-rule .ensures) ∙ not-true _ (c .if1 .taken)) (i .inv .1)
+    breach-at (a .args .rule) (a .args .t2) (now (a .args .m)) (i .i) (c .before .before .before .loop-test .taken)
+    (sym (c .before .keeps-rule .ensures) ∙ not-true _ (c .if1 .taken)) (i .inv .1)
 
 add-i : tie.Need-add-i Inv-loop μ-loop
 add-i c = search needs
@@ -57,8 +61,11 @@ loop-less c = search needs
 loop-again : tie.Need-loop-again Inv-loop μ-loop
 loop-again c =
     let a = c .before .before .before .before .before .before in
-    let i = c .before .before .before .before .loop in
-    (omega arith, below-more (Kept (a .args .rule) (a .args .t2) (now (a .args .m))) (i .i) (i .inv .1) (sym (c .before .keeps-rule .ensures) ∙ not-false _ (c .if1 .left)))
+    let i = c .before .before .before .before .loop in (
+      omega arith,
+      below-more (RuleKept (a .args .rule) (a .args .t2) (now (a .args .m))) (i .i) (i .inv .1)
+          (sym (c .before .keeps-rule .ensures) ∙ not-false _ (c .if1 .left)),
+    )
 
 returns-2 : tie.Need-returns-2 Inv-loop μ-loop
 returns-2 c =

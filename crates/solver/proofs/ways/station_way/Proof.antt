@@ -3,7 +3,8 @@
 use mathlib.Core.Path.{refl, sym, _∙_}
 use borrow.Author.Needs.{needs}
 use borrow.Author.Tests.{not-true}
-use Rattle.solver.specs.WaysToldLaws.{first-fails, tells-pair, tells-none, steps-one, steps-row}
+use Rattle.text.specs.Decide.{both-first}
+use Rattle.solver.specs.WaysToldLaws.{tells-pair, tells-none, steps-one, steps-row}
 use Rattle.solver.proofs.ways.station_way.Statement.{statement}
 use Rattle.solver.proofs.ways.station_way.Tie as tie
 
@@ -19,9 +20,9 @@ no-way-requires c κs = search needs
 returns : tie.Need-returns
 returns c =
     let out = c .before .if1 .taken in
-    let bit = c .before .before .has-bit .ensures in (
-      tells-none _ _ _ _ (sym (first-fails _ _ bit out _)) (c .no-way .ensures .0),
-      steps-row _ _ _ (c .before .before .before .pre .2) (sym bit ∙ not-true _ out) (c .no-way .ensures .1),
+    let bit = sym (c .before .before .has-bit .ensures) ∙ not-true _ out in (
+      tells-none _ _ _ _ (sym (both-first _ _ _ bit refl)) (c .no-way .ensures .0),
+      steps-row _ _ _ (c .before .before .before .pre .2) bit (c .no-way .ensures .1),
     )
 
 two-of-requires : tie.Need-two-of-requires

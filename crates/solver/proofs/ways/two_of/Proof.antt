@@ -1,7 +1,8 @@
 -- `solver::ways::two_of` meets its contract, test by test. Assumes nothing.
-use mathlib.Core.Path.{refl}
+use mathlib.Core.Path.{refl, sym, _∙_}
 use borrow.Author.Needs.{needs}
-use Rattle.solver.specs.WaysToldLaws.{first-fails, first-holds}
+use borrow.Author.Tests.{not-true, not-false}
+use Rattle.text.specs.Decide.{both-first, both-second}
 use Rattle.solver.proofs.ways.two_of.Statement.{statement}
 use Rattle.solver.proofs.ways.two_of.Tie as tie
 
@@ -9,20 +10,20 @@ has-bit-requires : tie.Need-has-bit-requires
 has-bit-requires c κs = search needs
 
 returns : tie.Need-returns
-returns c = first-fails _ _ (c .before .has-bit .ensures) (c .if1 .taken) _
+returns c = both-first _ _ _ (sym (c .before .has-bit .ensures) ∙ not-true _ (c .if1 .taken)) refl
 
 has-bit-requires-2 : tie.Need-has-bit-requires-2
 has-bit-requires-2 c κs = search needs
 
 returns-2 : tie.Need-returns-2
 returns-2 c =
-    first-holds _ _ (c .before .before .before .has-bit .ensures) (c .before .before .if1 .left) _ _
-    (first-fails _ _ (c .before .has-bit2 .ensures) (c .if2 .taken) _)
+    both-second _ _ _ (sym (c .before .before .before .has-bit .ensures) ∙ not-false _ (c .before .before .if1 .left))
+    (both-first _ _ _ (sym (c .before .has-bit2 .ensures) ∙ not-true _ (c .if2 .taken)) refl)
 
 returns-3 : tie.Need-returns-3
 returns-3 c =
-    first-holds _ _ (c .before .before .before .has-bit .ensures) (c .before .before .if1 .left) _ _
-    (first-holds _ _ (c .before .has-bit2 .ensures) (c .if2 .left) _ _ refl)
+    both-second _ _ _ (sym (c .before .before .before .has-bit .ensures) ∙ not-false _ (c .before .before .if1 .left))
+    (both-second _ _ _ (sym (c .before .has-bit2 .ensures) ∙ not-false _ (c .if2 .left)) refl)
 
 pub two-of-spec : {M : Type 1} → statement M
 two-of-spec = tie.close (tie.spec has-bit-requires returns has-bit-requires-2 returns-2 returns-3)

@@ -42,13 +42,15 @@ returns c =
 add-t11 : tie.Need-add-t11 Inv-loop μ-loop
 add-t11 c =
     let a = c .before .before .before .before .before .before .before .args in
-    let e = digit-is _ _ _ _ (c .before .before .before .before .before .byte .ensures) (c .before .before .before .before .digit-of .ensures) (c .before .before .first .given .1) in
+    let e = digit-is _ _ _ _ (c .before .before .before .before .before .byte .ensures) (c .before .before .before .before .digit-of .ensures)
+    (c .before .before .first .given .1) in
     omega (arith, digit-inside (now (a .s)) (a .self) _ e)
 
 returns-2 : tie.Need-returns-2 Inv-loop μ-loop
 returns-2 c =
     let a = c .before .before .before .before .before .before .before .before .args in
-    let e = digit-is _ _ _ _ (c .before .before .before .before .before .before .byte .ensures) (c .before .before .before .before .before .digit-of .ensures) (c .before .before .before .first .given .1) in
+    let e = digit-is _ _ _ _ (c .before .before .before .before .before .before .byte .ensures) (c .before .before .before .before .before .digit-of .ensures)
+    (c .before .before .before .first .given .1) in
     sym (number-zero (now (a .s)) (a .self) (a .most) (e ∙ ap Digit.Worth (c .if1 .taken)))
 
 sub-left : tie.Need-sub-left Inv-loop μ-loop
@@ -57,7 +59,8 @@ sub-left c = omega arith
 loop-holds : tie.Need-loop-holds Inv-loop μ-loop
 loop-holds c =
     let a = c .before .before .before .before .before .before .before .before .args in
-    let e = digit-is _ _ _ _ (c .before .before .before .before .before .before .byte .ensures) (c .before .before .before .before .before .digit-of .ensures) (c .before .before .before .first .given .1) in
+    let e = digit-is _ _ _ _ (c .before .before .before .before .before .before .byte .ensures) (c .before .before .before .before .before .digit-of .ensures)
+    (c .before .before .before .first .given .1) in
     (refl, room-first (a .most) _ (omega arith) (omega arith) (digit-small (now (a .s)) (a .self) _ e))
 
 byte-requires-2 : tie.Need-byte-requires-2 Inv-loop μ-loop
@@ -82,14 +85,22 @@ add-value : tie.Need-add-value Inv-loop μ-loop
 add-value c =
     let w = c .before .before .before .before .before .before .loop in
     let e = digit-is _ _ _ _ (c .before .before .before .before .byte2 .ensures) (c .before .before .before .digit-of2 .ensures) (c .before .d .given .1) in
-    let small = digit-small (now (c .before .before .before .before .before .before .before .before .before .before .before .before .before .before .before .args .s)) (w .next) _ e in
+    let small = digit-small
+    (now (c .before .before .before .before .before .before .before .before .before .before .before .before .before .before .before .args .s)) (w .next) _ e in
     let room = room-step (w .left) (w .value) _ (c .before .before .before .before .before .loop-test .taken) small (w .inv .1) in
     omega (arith, room-below _ _ room)
 
 add-t16 : tie.Need-add-t16 Inv-loop μ-loop
 add-t16 c =
-    let e = digit-is _ _ _ _ (c .before .before .before .before .before .byte2 .ensures) (c .before .before .before .before .digit-of2 .ensures) (c .before .before .d .given .1) in
-    omega (arith, digit-inside (now (c .before .before .before .before .before .before .before .before .before .before .before .before .before .before .before .before .args .s)) (c .before .before .before .before .before .before .before .loop .next) _ e, c .before .before .before .before .before .before .before .before .before .before .before .before .before .before .before .before .good)
+    let e = digit-is _ _ _ _ (c .before .before .before .before .before .byte2 .ensures) (c .before .before .before .before .digit-of2 .ensures)
+    (c .before .before .d .given .1) in
+    omega (
+      arith,
+      digit-inside
+          (now (c .before .before .before .before .before .before .before .before .before .before .before .before .before .before .before .before .args .s))
+          (c .before .before .before .before .before .before .before .loop .next) _ e,
+      c .before .before .before .before .before .before .before .before .before .before .before .before .before .before .before .before .good,
+    )
 
 sub-left-2 : tie.Need-sub-left-2 Inv-loop μ-loop
 sub-left-2 c = omega arith
@@ -102,7 +113,8 @@ loop-again c =
     let w = c .before .before .before .before .before .before .before .loop in
     let s = now (c .before .before .before .before .before .before .before .before .before .before .before .before .before .before .before .before .args .s) in
     let some = c .before .before .before .before .before .before .loop-test .taken in
-    let e = digit-is _ _ _ _ (c .before .before .before .before .before .byte2 .ensures) (c .before .before .before .before .digit-of2 .ensures) (c .before .before .d .given .1) in (
+    let e = digit-is _ _ _ _ (c .before .before .before .before .before .byte2 .ensures) (c .before .before .before .before .digit-of2 .ensures)
+    (c .before .before .d .given .1) in (
       sym (more-step s (w .next) (w .left) (w .value) _ e some) ∙ w .inv .0,
       room-step (w .left) (w .value) _ some (digit-small s (w .next) _ e) (w .inv .1),
     )
@@ -114,7 +126,8 @@ returns-3 c =
     let a = c .before .before .before .before .before .before .before .before .before .before .args in
     let first = c .before .before .before .before .before .first .given in
     let z : w .left ≡ 0 = omega arith in
-    let e = digit-is _ _ _ _ (c .before .before .before .before .before .before .before .before .byte .ensures) (c .before .before .before .before .before .before .before .digit-of .ensures) (c .before .before .before .before .before .first .given .1) in
+    let e = digit-is _ _ _ _ (c .before .before .before .before .before .before .before .before .byte .ensures)
+    (c .before .before .before .before .before .before .before .digit-of .ensures) (c .before .before .before .before .before .first .given .1) in
     let rest : more 0 (now (a .s)) (w .next) (w .value) ≡ more (a .most - 1) (now (a .s)) (ahead (a .self)) (first .0 .0) = rw z at (w .inv .0) in
     rest ∙ sym (number-more (now (a .s)) (a .self) (a .most) _ e (c .before .before .if1 .left))
 
@@ -123,8 +136,11 @@ returns-4 c =
     let w = c .before .before .before .before .before .loop in
     let a = c .before .before .before .before .before .before .before .before .before .before .before .before .before .before .args in
     let none = digit-is _ _ _ _ (c .before .before .before .byte2 .ensures) (c .before .before .digit-of2 .ensures) (c .enum-told2 .given .1) in
-    let e = digit-is _ _ _ _ (c .before .before .before .before .before .before .before .before .before .before .before .before .byte .ensures) (c .before .before .before .before .before .before .before .before .before .before .before .digit-of .ensures) (c .before .before .before .before .before .before .before .before .before .first .given .1) in
-    sym (more-none (now (a .s)) (w .next) (w .left) (w .value) none) ∙ w .inv .0 ∙ sym (number-more (now (a .s)) (a .self) (a .most) _ e (c .before .before .before .before .before .before .if1 .left))
+    let e = digit-is _ _ _ _ (c .before .before .before .before .before .before .before .before .before .before .before .before .byte .ensures)
+    (c .before .before .before .before .before .before .before .before .before .before .before .digit-of .ensures)
+    (c .before .before .before .before .before .before .before .before .before .first .given .1) in
+    sym (more-none (now (a .s)) (w .next) (w .left) (w .value) none) ∙ w .inv .0
+    ∙ sym (number-more (now (a .s)) (a .self) (a .most) _ e (c .before .before .before .before .before .before .if1 .left))
 
 pub number-spec : {M : Type 1} → statement M
 number-spec =

@@ -33,7 +33,8 @@ returns-2 c =
 
 returns-3 : tie.Need-returns-3
 returns-3 c =
-    let field = sym (c .before .before .before .before .before .before .before .number-field .ensures) ∙ c .before .before .before .before .before .n .given .1 in
+    let field = sym (c .before .before .before .before .before .before .before .number-field .ensures)
+    ∙ c .before .before .before .before .before .n .given .1 in
     sym (ranged-value _ _ _ _ _ _ _ _ _ _ field _ (sym (c .before .before .before .value .ensures) ∙ c .before .v .given .1))
 
 pub ranged-spec : {M : Type 1} → statement M

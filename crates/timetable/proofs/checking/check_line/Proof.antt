@@ -41,8 +41,11 @@ verdict-of-requires c κs = search needs
 returns-2 : tie.Need-returns-2
 returns-2 c =
     let broken = c .before .enum-told4 .given .1 in
-    judged-read _ _ _ (c .before .before .before .before .before .before .before .before .read-timetable .ensures) (c .before .before .before .before .before .before .enum-told .given .1)
-    (c .verdict-of .ensures ∙ ap verdictOf (breach-rule _ (timetableOf _ (c .before .before .before .before .before .before .before .before .read-timetable .result)) (c .before .before .before .breach-of .ensures) broken))
+    judged-read _ _ _ (c .before .before .before .before .before .before .before .before .read-timetable .ensures)
+    (c .before .before .before .before .before .before .enum-told .given .1)
+    (c .verdict-of .ensures ∙ ap verdictOf (breach-rule _
+    (timetableOf _ (c .before .before .before .before .before .before .before .before .read-timetable .result))
+    (c .before .before .before .breach-of .ensures) broken))
 
 slice-aggregate-rest-breach : tie.Need-slice-aggregate-rest-breach
 slice-aggregate-rest-breach c = search needs
@@ -55,8 +58,12 @@ verdict-of-requires-2 c κs = search needs
 
 returns-3 : tie.Need-returns-3
 returns-3 c =
-    judged-read _ _ _ (c .before .before .before .before .before .before .before .before .before .before .before .read-timetable .ensures) (c .before .before .before .before .before .before .before .before .before .enum-told .given .1)
-    (c .verdict-of2 .ensures ∙ ap verdictOf (breach-rest _ (timetableOf _ (c .before .before .before .before .before .before .before .before .before .before .before .read-timetable .result)) (c .before .before .before .before .before .before .breach-of .ensures) (c .before .before .before .before .enum-told3 .given .1) (c .before .rest-breach .ensures)))
+    judged-read _ _ _ (c .before .before .before .before .before .before .before .before .before .before .before .read-timetable .ensures)
+    (c .before .before .before .before .before .before .before .before .before .enum-told .given .1)
+    (c .verdict-of2 .ensures ∙ ap verdictOf
+    (breach-rest _ (timetableOf _ (c .before .before .before .before .before .before .before .before .before .before .before .read-timetable .result))
+    (c .before .before .before .before .before .before .breach-of .ensures) (c .before .before .before .before .enum-told3 .given .1)
+    (c .before .rest-breach .ensures)))
 
 pub check-line-spec : {M : Type 1} → statement M
 check-line-spec =

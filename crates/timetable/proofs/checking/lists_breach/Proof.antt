@@ -69,7 +69,8 @@ returns-2 : tie.Need-returns-2 Inv-loop μ-loop
 returns-2 c =
     let a = c .before .before in
     let size : length (a .args .t2 .at) ≡ 22 = sym (length-map (a .args .t2 .at) _) ∙ a .good .1 .0 .1 .1 .1 .0 .1 .0 .1 in
-    wrong-none _ _ (λ k l. c .before .loop .inv .1 k (omega (arith, l, lists-size (a .args .t2 .at) (a .args .t2 .count) (omega (arith, size, a .pre)), c .loop-test .left)))
+    wrong-none _ _ (λ k l. c .before .loop .inv .1 k
+    (omega (arith, l, lists-size (a .args .t2 .at) (a .args .t2 .count) (omega (arith, size, a .pre)), c .loop-test .left)))
 
 pub lists-breach-spec : {M : Type 1} → statement M
 lists-breach-spec =

@@ -29,7 +29,8 @@ size-of-requires-2 c κs = search needs
 returns : tie.Need-returns Inv-loop μ-loop
 returns c =
     let a = c .before .before .before .args in
-    sym (is-false (decides-matches (listed (a .t1)) (listed (a .t2))) (λ h. c .if1 .taken (c .before .size-of2 .ensures .0 ∙ h .0 ∙ sym (c .before .before .size-of .ensures .0))))
+    sym (is-false (decides-matches (listed (a .t1)) (listed (a .t2)))
+    (λ h. c .if1 .taken (c .before .size-of2 .ensures .0 ∙ h .0 ∙ sym (c .before .before .size-of .ensures .0))))
 
 loop-holds : tie.Need-loop-holds Inv-loop μ-loop
 loop-holds c =
@@ -56,7 +57,8 @@ cast-if2-2 c = search needs
 
 add-if2 : tie.Need-add-if2 Inv-loop μ-loop
 add-if2 c =
-    let short : Fits w16 (getD (c .before .before .before .before .before .before .before .args .t2 .trains) (c .before .before .before .loop .j) 0) = search needs in
+    let short : Fits w16 (getD (c .before .before .before .before .before .before .before .args .t2 .trains) (c .before .before .before .loop .j) 0) =
+    search needs in
     record { fits = omega (arith, short .fits) }
 
 returns-2 : tie.Need-returns-2 Inv-loop μ-loop
@@ -81,16 +83,21 @@ loop-again c =
     let here = c .before .before .before .loop-test .taken in
     let left = c .before .before .before .before .before .if1 .left in
     let own : w .j < length (listed (a .t2)) = omega (arith, c .before .before .before .before .before .before .before .size-of .ensures .0, here) in
-    let read : w .j < length (listed (a .t1)) = omega (arith, c .before .before .before .before .before .before .size-of2 .ensures .0, left, here) in
-    (omega (arith, here), below-more (MatchAt (listed (a .t1)) (listed (a .t2))) (w .j) (w .inv .1) (omega (arith, entry-at (a .t1) (w .j) read, entry-at (a .t2) (w .j) own, c .if2 .left)))
+    let read : w .j < length (listed (a .t1)) = omega (arith, c .before .before .before .before .before .before .size-of2 .ensures .0, left, here) in (
+      omega (arith, here),
+      below-more (MatchAt (listed (a .t1)) (listed (a .t2))) (w .j) (w .inv .1)
+          (omega (arith, entry-at (a .t1) (w .j) read, entry-at (a .t2) (w .j) own, c .if2 .left)),
+    )
 
 returns-3 : tie.Need-returns-3 Inv-loop μ-loop
 returns-3 c =
     let a = c .before .before .before .before .before .args in
     let w = c .before .loop in
     let n = c .before .before .before .before .size-of .ensures .0 in
-    sym (is-true (decides-matches (listed (a .t1)) (listed (a .t2)))
-    (omega (arith, n, c .before .before .before .size-of2 .ensures .0, c .before .before .if1 .left), λ i l. w .inv .1 i (omega (arith, n, l, c .loop-test .left))))
+    sym (is-true (decides-matches (listed (a .t1)) (listed (a .t2))) (
+      omega (arith, n, c .before .before .before .size-of2 .ensures .0, c .before .before .if1 .left),
+      λ i l. w .inv .1 i (omega (arith, n, l, c .loop-test .left)),
+    ))
 
 pub same-list-spec : {M : Type 1} → statement M
 same-list-spec =

@@ -16,7 +16,8 @@ use Rattle.timetable.proofs.reading.list_line.Tie as tie
 
 abbrev Inv-fields : tie.InvT-fields
 Inv-fields s n line trains₀ own count limits cursor₀ k₀ trains cursor k =
-    (layMany (count - k) (listPart n count line) k s cursor trains k ≡ layMany count (listPart n count line) 0 s cursor₀ (replicate 12 0) 0) × (k ≤ count) × (count ≤ 12)
+    (layMany (count - k) (listPart n count line) k s cursor trains k ≡ layMany count (listPart n count line) 0 s cursor₀
+    (replicate 12 0) 0) × (k ≤ count) × (count ≤ 12)
 
 abbrev μ-fields : tie.MeasureT-fields
 μ-fields s n line trains₀ own count limits cursor₀ k₀ trains cursor k = count - k
@@ -88,7 +89,8 @@ fields-again c =
     let w = c .before .before .before .before .before .before .before .fields in
     let a = c .before .before .before .before .before .before .before .before .before .before .before .before .before .args in
     let count = c .before .before .before .before .before .before .before .before .before .field .given .0 .0 in
-    let number = ranged-told 8 9 (record { min = 1; max = _ }) _ _ _ _ refl (c .before .before .before .before .before .after-field .ensures) (c .before .before .before .before .faults-on .ensures) (c .before .before .before .ranged .ensures) (c .before .number .given .1) in
+    let number = ranged-told 8 9 (record { min = 1; max = _ }) _ _ _ _ refl (c .before .before .before .before .before .after-field .ensures)
+    (c .before .before .before .before .faults-on .ensures) (c .before .before .before .ranged .ensures) (c .before .number .given .1) in
     let m : count - w .k ≡ suc (count - (w .k + 1)) = omega (arith, w .inv .1, c .before .before .before .before .before .before .if1 .left) in
     (sym (lay-step (listPart (a .n) count (a .line)) _ _ _ _ _ _ _ _ m refl _ _ number) ∙ w .inv .0, omega (arith, m), w .inv .2)
 
@@ -99,7 +101,8 @@ returns-2 c =
     let count = c .before .before .before .field .given .0 .0 in
     let own = sym (c .before .before .before .before .before .own-count .ensures) ∙ ap toldField (c .before .before .before .field .given .1) in
     let m : count - w .k ≡ 0 = omega (arith, c .if1 .taken) in
-    sym (list-from _ _ _ _ _ _ _ (c .before .before .before .before .before .before .before .pre) own (sym (lay-done (listPart (a .n) count (a .line)) _ 0 _ 0 _ _ _ _ m) ∙ w .inv .0))
+    sym (list-from _ _ _ _ _ _ _ (c .before .before .before .before .before .before .before .pre) own
+    (sym (lay-done (listPart (a .n) count (a .line)) _ 0 _ 0 _ _ _ _ m) ∙ w .inv .0))
 
 returns-3 : tie.Need-returns-3 Inv-fields μ-fields
 returns-3 c =
@@ -107,11 +110,14 @@ returns-3 c =
     let a = c .before .before .before .before .before .before .before .before .before .before .before .before .before .args in
     let count = c .before .before .before .before .before .before .before .before .before .field .given .0 .0 in
     let refused = c .before .enum-told2 .given .1 in
-    let number = ranged-told 8 9 (record { min = 1; max = _ }) _ _ _ _ refl (c .before .before .before .before .before .after-field .ensures) (c .before .before .before .before .faults-on .ensures) (c .before .before .before .ranged .ensures) refused in
+    let number = ranged-told 8 9 (record { min = 1; max = _ }) _ _ _ _ refl (c .before .before .before .before .before .after-field .ensures)
+    (c .before .before .before .before .faults-on .ensures) (c .before .before .before .ranged .ensures) refused in
     let m : count - w .k ≡ suc (count - (w .k + 1)) = omega (arith, w .inv .1, c .before .before .before .before .before .before .if1 .left) in
-    let own = sym (c .before .before .before .before .before .before .before .before .before .before .before .own-count .ensures) ∙ ap toldField (c .before .before .before .before .before .before .before .before .before .field .given .1) in
+    let own = sym (c .before .before .before .before .before .before .before .before .before .before .before .own-count .ensures)
+    ∙ ap toldField (c .before .before .before .before .before .before .before .before .before .field .given .1) in
     ended-told _ (c .stopped2 .ensures ∙ ap stoppedBy refused)
-    ∙ sym (list-from _ _ _ _ _ _ _ (c .before .before .before .before .before .before .before .before .before .before .before .before .before .pre) own (sym (lay-stop (listPart (a .n) count (a .line)) _ _ _ 0 _ _ _ _ m _ _ number) ∙ w .inv .0))
+    ∙ sym (list-from _ _ _ _ _ _ _ (c .before .before .before .before .before .before .before .before .before .before .before .before .before .pre) own
+    (sym (lay-stop (listPart (a .n) count (a .line)) _ _ _ 0 _ _ _ _ m _ _ number) ∙ w .inv .0))
 
 pub list-line-spec : {M : Type 1} → statement M
 list-line-spec =

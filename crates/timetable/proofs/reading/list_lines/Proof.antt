@@ -17,7 +17,8 @@ use Rattle.timetable.proofs.reading.list_lines.Tie as tie
 
 abbrev Inv-lines : tie.InvT-lines
 Inv-lines s n count first lists₀ cursor₀ k₀ lists cursor k =
-    (after (map listed (take k lists)) (many (count - k) (listAt n) (first + k) s cursor) ≡ many count (listAt n) first s cursor₀) × (k ≤ count) × (length lists ≡ 22)
+    (after (map listed (take k lists)) (many (count - k) (listAt n) (first + k) s cursor) ≡ many count
+    (listAt n) first s cursor₀) × (k ≤ count) × (length lists ≡ 22)
 
 abbrev μ-lines : tie.MeasureT-lines
 μ-lines s n count first lists₀ cursor₀ k₀ lists cursor k = count - k
@@ -60,8 +61,13 @@ lines-again c =
     let more : a .count - w .k ≡ suc (a .count - (w .k + 1)) = omega (arith, w .inv .1, c .before .before .before .before .before .if1 .left) in
     let o = c .before .before .before .before .list-line .result .list in
     let list = sym (c .before .before .before .before .list-line .ensures) ∙ ended-told _ (c .before .before .ended .given .1) in
-    let room : w .k < length (w .lists) = omega (arith, w .inv .2, w .inv .1, more, c .before .before .before .before .before .before .before .before .before .pre) in
-    (sym (after-step (listAt (a .n)) _ _ (a .first + w .k) (a .first + (w .k + 1)) _ _ (map listed (take (w .k) (w .lists))) more (omega arith) _ _ list (listed-more (w .lists) (w .k) o room)) ∙ w .inv .0, omega (arith, more), length-set (w .lists) (w .k) o ∙ w .inv .2)
+    let room : w .k < length (w .lists) = omega
+    (arith, w .inv .2, w .inv .1, more, c .before .before .before .before .before .before .before .before .before .pre) in (
+      sym (after-step (listAt (a .n)) _ _ (a .first + w .k) (a .first + (w .k + 1)) _ _ (map listed (take (w .k) (w .lists))) more (omega arith) _ _ list
+          (listed-more (w .lists) (w .k) o room)) ∙ w .inv .0,
+      omega (arith, more),
+      length-set (w .lists) (w .k) o ∙ w .inv .2,
+    )
 
 returns : tie.Need-returns Inv-lines μ-lines
 returns c =
@@ -69,7 +75,8 @@ returns c =
     let a = c .before .before .before .before .args in
     let all : w .k ≡ a .count = omega arith in
     let none : a .count - w .k ≡ 0 = omega arith in
-    ap (λ (k : ℕ). Parsed.got (map listed (take k (w .lists))) (w .cursor)) (sym all) ∙ sym (after-done (listAt (a .n)) _ 0 _ 0 _ _ (map listed (take (w .k) (w .lists))) none) ∙ w .inv .0
+    ap (λ (k : ℕ). Parsed.got (map listed (take k (w .lists))) (w .cursor)) (sym all)
+    ∙ sym (after-done (listAt (a .n)) _ 0 _ 0 _ _ (map listed (take (w .k) (w .lists))) none) ∙ w .inv .0
 
 returns-2 : tie.Need-returns-2 Inv-lines μ-lines
 returns-2 c =

@@ -40,7 +40,8 @@ enum-told-2 c = search needs
 
 returns-2 : tie.Need-returns-2
 returns-2 c =
-    let number = sym (c .before .before .before .before .before .before .before .number .ensures) ∙ c .before .before .before .before .before .count .given .1 in
+    let number = sym (c .before .before .before .before .before .before .before .number .ensures)
+    ∙ c .before .before .before .before .before .count .given .1 in
     let byte = ends (c .before .before .before) in
     sym (own-unended _ _ _ _ number byte (sym (c .before .before .past .ensures) ∙ c .enum-told2 .given .1))
 
@@ -55,14 +56,16 @@ enum-told-3 c = search needs
 
 returns-3 : tie.Need-returns-3
 returns-3 c =
-    let number = sym (c .before .before .before .before .before .before .before .before .before .before .before .number .ensures) ∙ c .before .before .before .before .before .before .before .before .before .count .given .1 in
+    let number = sym (c .before .before .before .before .before .before .before .before .before .before .before .number .ensures)
+    ∙ c .before .before .before .before .before .before .before .before .before .count .given .1 in
     let byte = ends (c .before .before .before .before .before .before .before) in
     let past = sym (c .before .before .before .before .before .before .past .ensures) ∙ c .before .before .before .before .next .given .1 in
     sym (own-over _ _ _ _ number byte past (sym (c .before .before .value .ensures) ∙ c .enum-told3 .given .1))
 
 returns-4 : tie.Need-returns-4
 returns-4 c =
-    let number = sym (c .before .before .before .before .before .before .before .before .before .before .before .before .number .ensures) ∙ c .before .before .before .before .before .before .before .before .before .before .count .given .1 in
+    let number = sym (c .before .before .before .before .before .before .before .before .before .before .before .before .number .ensures)
+    ∙ c .before .before .before .before .before .before .before .before .before .before .count .given .1 in
     let byte = ends (c .before .before .before .before .before .before .before .before) in
     let past = sym (c .before .before .before .before .before .before .before .past .ensures) ∙ c .before .before .before .before .before .next .given .1 in
     sym (own-value _ _ _ _ number byte past (sym (c .before .before .before .value .ensures) ∙ c .before .v .given .1))

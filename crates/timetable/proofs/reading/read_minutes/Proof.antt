@@ -26,7 +26,8 @@ stopped-requires c κs = search needs
 returns : tie.Need-returns
 returns c =
     let refused = c .before .enum-told .given .1 in
-    let count = ranged-told 8 9 (record { min = _; max = _ }) 10 1 _ _ refl refl (c .before .before .before .before .faults-on .ensures) (c .before .before .before .ranged .ensures) refused in
+    let count = ranged-told 8 9 (record { min = _; max = _ }) 10 1 _ _ refl refl (c .before .before .before .before .faults-on .ensures)
+    (c .before .before .before .ranged .ensures) refused in
     ended-told _ (c .stopped .ensures ∙ ap stoppedBy refused) ∙ sym (minutes-no-count _ _ _ count)
 
 train-lines-requires : tie.Need-train-lines-requires
@@ -34,7 +35,8 @@ train-lines-requires c κs = search needs
 
 returns-2 : tie.Need-returns-2
 returns-2 c =
-    let count = ranged-told 8 9 (record { min = _; max = _ }) 10 1 _ _ refl refl (c .before .before .before .before .before .faults-on .ensures) (c .before .before .before .before .ranged .ensures) (c .before .before .count .given .1) in
+    let count = ranged-told 8 9 (record { min = _; max = _ }) 10 1 _ _ refl refl (c .before .before .before .before .before .faults-on .ensures)
+    (c .before .before .before .before .ranged .ensures) (c .before .before .count .given .1) in
     c .train-lines .ensures ∙ sym (minutes-counted _ _ _ count)
 
 pub read-minutes-spec : {M : Type 1} → statement M

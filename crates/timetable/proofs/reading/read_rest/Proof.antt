@@ -39,8 +39,10 @@ returns : tie.Need-returns
 returns c =
     let a = c .before .before .before .before .before .before .before .before .args in
     let refused = c .before .before .enum-told .given .1 in
-    let count = ranged-told 8 9 (record { min = _; max = _ }) 10 (a .first) _ _ refl refl (c .before .before .before .before .before .faults-on .ensures) (c .before .before .before .before .ranged .ensures) refused in
-    ended-told _ (c .no-rest .ensures ∙ c .before .stopped .ensures ∙ ap stoppedBy refused) ∙ sym (rest-no-count _ _ _ _ (c .before .before .before .before .before .before .list-count .ensures .0) count)
+    let count = ranged-told 8 9 (record { min = _; max = _ }) 10 (a .first) _ _ refl refl (c .before .before .before .before .before .faults-on .ensures)
+    (c .before .before .before .before .ranged .ensures) refused in
+    ended-told _ (c .no-rest .ensures ∙ c .before .stopped .ensures ∙ ap stoppedBy refused)
+    ∙ sym (rest-no-count _ _ _ _ (c .before .before .before .before .before .before .list-count .ensures .0) count)
 
 cast-count : tie.Need-cast-count
 cast-count c = search needs
@@ -49,8 +51,11 @@ add-list-lines : tie.Need-add-list-lines
 add-list-lines c = search needs
 
 list-lines-requires : tie.Need-list-lines-requires
-list-lines-requires c κs =
-    (c .before .before .before .before .before .before .before .pre .0 .trains .1, c .before .before .before .before .before .list-count .ensures .1, omega (arith, c .before .before .before .before .before .before .before .pre .1))
+list-lines-requires c κs = (
+  c .before .before .before .before .before .before .before .pre .0 .trains .1,
+  c .before .before .before .before .before .list-count .ensures .1,
+  omega (arith, c .before .before .before .before .before .before .before .pre .1),
+)
 
 enum-known-ended : tie.Need-enum-known-ended
 enum-known-ended c = search needs
@@ -64,10 +69,13 @@ no-rest-requires-2 c κs = search needs
 returns-2 : tie.Need-returns-2
 returns-2 c =
     let a = c .before .before .before .before .before .before .before .before .before .before .before .args in
-    let count = ranged-told 8 9 (record { min = _; max = _ }) 10 (a .first) _ _ refl refl (c .before .before .before .before .before .before .before .before .faults-on .ensures) (c .before .before .before .before .before .before .before .ranged .ensures) (c .before .before .before .before .before .field .given .1) in
+    let count = ranged-told 8 9 (record { min = _; max = _ }) 10 (a .first) _ _ refl refl
+    (c .before .before .before .before .before .before .before .before .faults-on .ensures)
+    (c .before .before .before .before .before .before .before .ranged .ensures) (c .before .before .before .before .before .field .given .1) in
     let refused = c .before .enum-told2 .given .1 in
     let lists = sym (c .before .before .before .list-lines .ensures) ∙ ended-told _ refused in
-    ended-told _ (c .no-rest2 .ensures ∙ refused) ∙ sym (rest-no-lists _ _ _ _ (c .before .before .before .before .before .before .before .before .before .list-count .ensures .0) count lists)
+    ended-told _ (c .no-rest2 .ensures ∙ refused)
+    ∙ sym (rest-no-lists _ _ _ _ (c .before .before .before .before .before .before .before .before .before .list-count .ensures .0) count lists)
 
 number-field-requires : tie.Need-number-field-requires
 number-field-requires c κs = search needs
@@ -90,10 +98,15 @@ no-rest-requires-3 c κs = search needs
 returns-3 : tie.Need-returns-3
 returns-3 c =
     let a = c .before .before .before .before .before .before .before .before .before .before .before .before .before .before .before .args in
-    let count = ranged-told 8 9 (record { min = _; max = _ }) 10 (a .first) _ _ refl refl (c .before .before .before .before .before .before .before .before .before .before .before .before .faults-on .ensures) (c .before .before .before .before .before .before .before .before .before .before .before .ranged .ensures) (c .before .before .before .before .before .before .before .before .before .field .given .1) in
-    let lists = sym (c .before .before .before .before .before .before .before .list-lines .ensures) ∙ ended-told _ (c .before .before .before .before .before .ended .given .1) in
+    let count = ranged-told 8 9 (record { min = _; max = _ }) 10 (a .first) _ _ refl refl
+    (c .before .before .before .before .before .before .before .before .before .before .before .before .faults-on .ensures)
+    (c .before .before .before .before .before .before .before .before .before .before .before .ranged .ensures)
+    (c .before .before .before .before .before .before .before .before .before .field .given .1) in
+    let lists = sym (c .before .before .before .before .before .before .before .list-lines .ensures)
+    ∙ ended-told _ (c .before .before .before .before .before .ended .given .1) in
     let total = sym (c .before .before .before .number-field .ensures) ∙ c .before .enum-told3 .given .1 in
-    ended-told _ (c .no-rest3 .ensures) ∙ sym (rest-no-total _ _ _ _ (c .before .before .before .before .before .before .before .before .before .before .before .before .before .list-count .ensures .0) count lists total)
+    let own = c .before .before .before .before .before .before .before .before .before .before .before .before .before .list-count .ensures .0 in
+    ended-told _ (c .no-rest3 .ensures) ∙ sym (rest-no-total _ _ _ _ own count lists total)
 
 add-t24 : tie.Need-add-t24
 add-t24 c = search needs
@@ -106,20 +119,37 @@ no-rest-requires-4 c κs = search needs
 
 returns-4 : tie.Need-returns-4
 returns-4 c =
-    let a = c .before .before .before .before .before .before .before .before .before .before .before .before .before .before .before .before .before .before .args in
-    let count = ranged-told 8 9 (record { min = _; max = _ }) 10 (a .first) _ _ refl refl (c .before .before .before .before .before .before .before .before .before .before .before .before .before .before .before .faults-on .ensures) (c .before .before .before .before .before .before .before .before .before .before .before .before .before .before .ranged .ensures) (c .before .before .before .before .before .before .before .before .before .before .before .before .field .given .1) in
-    let lists = sym (c .before .before .before .before .before .before .before .before .before .before .list-lines .ensures) ∙ ended-told _ (c .before .before .before .before .before .before .before .before .ended .given .1) in
+    let a =
+    c .before .before .before .before .before .before .before .before .before .before .before .before .before .before .before .before .before .before .args in
+    let count = ranged-told 8 9 (record { min = _; max = _ }) 10 (a .first) _ _ refl refl
+    (c .before .before .before .before .before .before .before .before .before .before .before .before .before .before .before .faults-on .ensures)
+    (c .before .before .before .before .before .before .before .before .before .before .before .before .before .before .ranged .ensures)
+    (c .before .before .before .before .before .before .before .before .before .before .before .before .field .given .1) in
+    let lists = sym (c .before .before .before .before .before .before .before .before .before .before .list-lines .ensures)
+    ∙ ended-told _ (c .before .before .before .before .before .before .before .before .ended .given .1) in
     let total = sym (c .before .before .before .before .before .before .number-field .ensures) ∙ c .before .before .before .before .total .given .1 in
-    ended-told _ (c .no-rest4 .ensures) ∙ sym (rest-more _ _ _ _ (c .before .before .before .before .before .before .before .before .before .before .before .before .before .before .before .before .list-count .ensures .0) count lists total (c .before .if1 .taken))
+    let own =
+    c .before .before .before .before .before .before .before .before .before .before .before .before .before .before .before .before .list-count .ensures .0 in
+    ended-told _ (c .no-rest4 .ensures) ∙ sym (rest-more _ _ _ _ own count lists total (c .before .if1 .taken))
 
 returns-5 : tie.Need-returns-5
 returns-5 c =
-    let a = c .before .before .before .before .before .before .before .before .before .before .before .before .before .before .before .before .before .before .args in
-    let own = c .before .before .before .before .before .before .before .before .before .before .before .before .before .before .before .before .list-count .ensures .0 in
-    let count = ranged-told 8 9 (record { min = _; max = _ }) 10 (a .first) _ _ refl refl (c .before .before .before .before .before .before .before .before .before .before .before .before .before .before .before .faults-on .ensures) (c .before .before .before .before .before .before .before .before .before .before .before .before .before .before .ranged .ensures) (c .before .before .before .before .before .before .before .before .before .before .before .before .field .given .1) in
-    let lists = sym (c .before .before .before .before .before .before .before .before .before .before .list-lines .ensures) ∙ ended-told _ (c .before .before .before .before .before .before .before .before .ended .given .1) in
+    let a =
+    c .before .before .before .before .before .before .before .before .before .before .before .before .before .before .before .before .before .before .args in
+    let own =
+    c .before .before .before .before .before .before .before .before .before .before .before .before .before .before .before .before .list-count .ensures .0 in
+    let count = ranged-told 8 9 (record { min = _; max = _ }) 10 (a .first) _ _ refl refl
+    (c .before .before .before .before .before .before .before .before .before .before .before .before .before .before .before .faults-on .ensures)
+    (c .before .before .before .before .before .before .before .before .before .before .before .before .before .before .ranged .ensures)
+    (c .before .before .before .before .before .before .before .before .before .before .before .before .field .given .1) in
+    let lists = sym (c .before .before .before .before .before .before .before .before .before .before .list-lines .ensures)
+    ∙ ended-told _ (c .before .before .before .before .before .before .before .before .ended .given .1) in
     let total = sym (c .before .before .before .before .before .before .number-field .ensures) ∙ c .before .before .before .before .total .given .1 in
-    ap (λ (k : ℕ). Parsed.got (record { lists = map listed (take k (c .before .before .before .before .before .before .before .before .before .before .list-lines .result .lists)); total = c .before .before .before .before .total .given .0 .0 }) (c .before .before .before .before .total .given .0 .1 .0)) (sym own)
+    ap (λ (k : ℕ). Parsed.got (record {
+      lists = map listed
+          (take k (c .before .before .before .before .before .before .before .before .before .before .list-lines .result .lists));
+      total = c .before .before .before .before .total .given .0 .0;
+    }) (c .before .before .before .before .total .given .0 .1 .0)) (sym own)
     ∙ sym (rest-whole _ _ _ _ own count lists total (omega (arith, c .before .if1 .left)))
 
 pub read-rest-spec : {M : Type 1} → statement M

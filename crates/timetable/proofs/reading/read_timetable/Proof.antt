@@ -44,8 +44,10 @@ read-rest-requires c κs =
 
 returns-3 : tie.Need-returns-3
 returns-3 c =
-    let minutes = sym (c .before .before .before .before .before .before .before .read-minutes .ensures) ∙ ended-told _ (c .before .before .before .before .before .ended .given .1) in
-    sym (file-rest _ _ (omega (arith, c .before .before .before .before .before .before .before .before .if1 .left)) minutes (c .before .before .read-rest .ensures) ∙ told-map _ (c .before .before .read-rest .result .ending) _)
+    let minutes = sym (c .before .before .before .before .before .before .before .read-minutes .ensures)
+    ∙ ended-told _ (c .before .before .before .before .before .ended .given .1) in
+    sym (file-rest _ _ (omega (arith, c .before .before .before .before .before .before .before .before .if1 .left)) minutes
+    (c .before .before .read-rest .ensures) ∙ told-map _ (c .before .before .read-rest .result .ending) _)
 
 pub read-timetable-spec : {M : Type 1} → statement M
 read-timetable-spec =

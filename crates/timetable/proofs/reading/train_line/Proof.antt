@@ -70,8 +70,18 @@ stopped-requires-2 c κs = search needs
 segment-between-requires : tie.Need-segment-between-requires Inv-fields μ-fields
 segment-between-requires c κs =
     let r = c .before .before .before .before .before .before .before .before .before .before .before .before .before .before .before .pre .0 in
-    let w = c .before .before .before .before .before .before .before .before .before .before .before .before .fields in
-    (r .origin .0, r .origin .1, r .destination .0, r .destination .1, omega (arith, w .inv .1, c .before .before .before .before .before .before .before .before .before .before .before .if1 .left, c .before .before .before .before .before .before .before .before .before .before .before .before .before .legs-between .ensures))
+    let w = c .before .before .before .before .before .before .before .before .before .before .before .before .fields in (
+      r .origin .0,
+      r .origin .1,
+      r .destination .0,
+      r .destination .1,
+      omega (
+        arith,
+        w .inv .1,
+        c .before .before .before .before .before .before .before .before .before .before .before .if1 .left,
+        c .before .before .before .before .before .before .before .before .before .before .before .before .before .legs-between .ensures,
+      ),
+    )
 
 mul-at : tie.Need-mul-at Inv-fields μ-fields
 mul-at c = search needs
@@ -111,9 +121,15 @@ fields-again c =
     let w = c .before .before .before .before .before .before .before .before .before .before .before .before .before .fields in
     let a = c .before .before .before .before .before .before .before .before .before .before .before .before .before .before .before .before .args in
     let legs = c .before .before .before .before .before .before .before .before .before .before .before .before .before .before .legs-between .result in
-    let k : legs - w .j ≡ suc (legs - (w .j + 1)) = omega (arith, w .inv .1, c .before .before .before .before .before .before .before .before .before .before .before .before .if1 .left) in
-    let departure = ranged-told 8 9 (record { min = 0; max = 2879 }) 32 (a .line) (now (a .s)) _ refl refl (c .before .before .before .before .before .before .before .before .before .before .before .faults-on .ensures) (c .before .before .before .before .before .before .before .before .before .before .ranged .ensures) (c .before .before .before .before .before .before .before .before .d .given .1) in
-    let arrival = ranged-told 8 9 (record { min = 0; max = 2879 }) (afterField (legs - (w .j + 1))) (a .line) (now (a .s)) _ refl (c .before .before .before .before .before .before .after-field .ensures) (c .before .before .before .before .before .faults-on2 .ensures) (c .before .before .before .before .ranged2 .ensures) (c .before .before .a .given .1) in
+    let k : legs - w .j ≡ suc (legs - (w .j + 1)) = omega
+    (arith, w .inv .1, c .before .before .before .before .before .before .before .before .before .before .before .before .if1 .left) in
+    let departure = ranged-told 8 9 (record { min = 0; max = 2879 }) 32 (a .line) (now (a .s)) _ refl refl
+    (c .before .before .before .before .before .before .before .before .before .before .before .faults-on .ensures)
+    (c .before .before .before .before .before .before .before .before .before .before .ranged .ensures)
+    (c .before .before .before .before .before .before .before .before .d .given .1) in
+    let arrival = ranged-told 8 9 (record { min = 0; max = 2879 }) (afterField (legs - (w .j + 1))) (a .line) (now (a .s)) _ refl
+    (c .before .before .before .before .before .before .after-field .ensures) (c .before .before .before .before .before .faults-on2 .ensures)
+    (c .before .before .before .before .ranged2 .ensures) (c .before .before .a .given .1) in
     (sym (legs-step _ _ _ _ _ _ _ _ _ k departure _ arrival (c .segment-between .ensures .0)) ∙ w .inv .0, omega (arith, k))
 
 returns : tie.Need-returns Inv-fields μ-fields
@@ -130,7 +146,8 @@ returns-2 c =
     let legs = c .before .before .before .before .before .before .before .legs-between .result in
     let k : legs - w .j ≡ suc (legs - (w .j + 1)) = omega (arith, w .inv .1, c .before .before .before .before .before .if1 .left) in
     let refused = c .before .enum-told .given .1 in
-    let departure = ranged-told 8 9 (record { min = 0; max = 2879 }) 32 (a .line) (now (a .s)) _ refl refl (c .before .before .before .before .faults-on .ensures) (c .before .before .before .ranged .ensures) refused in
+    let departure = ranged-told 8 9 (record { min = 0; max = 2879 }) 32 (a .line) (now (a .s)) _ refl refl
+    (c .before .before .before .before .faults-on .ensures) (c .before .before .before .ranged .ensures) refused in
     ended-told _ (c .stopped .ensures ∙ ap stoppedBy refused) ∙ sym (legs-no-departure _ _ _ _ _ _ _ _ _ k departure) ∙ w .inv .0
 
 returns-3 : tie.Need-returns-3 Inv-fields μ-fields
@@ -138,10 +155,16 @@ returns-3 c =
     let w = c .before .before .before .before .before .before .before .before .before .before .before .before .fields in
     let a = c .before .before .before .before .before .before .before .before .before .before .before .before .before .before .before .args in
     let legs = c .before .before .before .before .before .before .before .before .before .before .before .before .before .legs-between .result in
-    let k : legs - w .j ≡ suc (legs - (w .j + 1)) = omega (arith, w .inv .1, c .before .before .before .before .before .before .before .before .before .before .before .if1 .left) in
+    let k : legs - w .j ≡ suc (legs - (w .j + 1)) = omega
+    (arith, w .inv .1, c .before .before .before .before .before .before .before .before .before .before .before .if1 .left) in
     let refused = c .before .enum-told2 .given .1 in
-    let departure = ranged-told 8 9 (record { min = 0; max = 2879 }) 32 (a .line) (now (a .s)) _ refl refl (c .before .before .before .before .before .before .before .before .before .before .faults-on .ensures) (c .before .before .before .before .before .before .before .before .before .ranged .ensures) (c .before .before .before .before .before .before .before .d .given .1) in
-    let arrival = ranged-told 8 9 (record { min = 0; max = 2879 }) (afterField (legs - (w .j + 1))) (a .line) (now (a .s)) _ refl (c .before .before .before .before .before .after-field .ensures) (c .before .before .before .before .faults-on2 .ensures) (c .before .before .before .ranged2 .ensures) refused in
+    let departure = ranged-told 8 9 (record { min = 0; max = 2879 }) 32 (a .line) (now (a .s)) _ refl refl
+    (c .before .before .before .before .before .before .before .before .before .before .faults-on .ensures)
+    (c .before .before .before .before .before .before .before .before .before .ranged .ensures)
+    (c .before .before .before .before .before .before .before .d .given .1) in
+    let arrival = ranged-told 8 9 (record { min = 0; max = 2879 }) (afterField (legs - (w .j + 1))) (a .line) (now (a .s)) _ refl
+    (c .before .before .before .before .before .after-field .ensures) (c .before .before .before .before .faults-on2 .ensures)
+    (c .before .before .before .ranged2 .ensures) refused in
     ended-told _ (c .stopped2 .ensures ∙ ap stoppedBy refused) ∙ sym (legs-no-arrival _ _ _ _ _ _ _ _ _ k departure arrival) ∙ w .inv .0
 
 pub train-line-spec : {M : Type 1} → statement M

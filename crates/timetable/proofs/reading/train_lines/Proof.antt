@@ -59,7 +59,8 @@ lines-again : tie.Need-lines-again Inv-lines μ-lines
 lines-again c =
     let w = c .before .before .before .before .before .before .before .lines in
     let l = c .before .before .before .before .before .before .before .before .before .args .t3 in
-    let k : l .«train_count» - w .i ≡ suc (l .«train_count» - (w .i + 1)) = omega (arith, w .inv .1, c .before .before .before .before .before .before .if1 .left) in
+    let k : l .«train_count» - w .i ≡ suc (l .«train_count» - (w .i + 1)) = omega
+    (arith, w .inv .1, c .before .before .before .before .before .before .if1 .left) in
     let train = sym (c .before .before .before .before .train-line .ensures) ∙ ended-told _ (c .before .before .ended .given .1) in
     (sym (trains-step _ l _ _ _ _ _ k train) ∙ w .inv .0, omega (arith, k))
 

@@ -4,7 +4,8 @@ use mathlib.Core.Path.{_≡_, refl, sym, _∙_, ap}
 use native.Mathlib.Decide.{decLt}
 use native.Mathlib.Nat.{mul-zero, mul-suc}
 use native.Mathlib.Omega.{arith}
 use Rattle.text.specs.Below.{EachBelow, sum}
+use Rattle.text.specs.BelowLaws.{sum-same}
 
 pub sum-none : (f : ℕ → ℕ) (n : ℕ) → EachBelow n (λ i. f i ≡ 0) → sum f n ≡ 0
 unfolding sum
@@ -16,16 +17,22 @@ unfolding sum
 sum-both f g zero = refl
 sum-both f g (suc n) = omega (arith, sum-both f g n)
 
+-- one term is more by d, and every other is the same
+pub sum-one : (f g : ℕ → ℕ) (e d n : ℕ) → e < n → f e ≡ g e + d → EachBelow n (λ i. (i ≡ e → ⊥) → f i ≡ g i) → sum f n ≡ sum g n + d
+unfolding sum
+sum-one f g e d zero l p o = absurd (omega arith)
+sum-one f g e d (suc n) l p o = elim (decLt e n) [
+  | yes s ↦ omega (arith, sum-one f g e d n s p (λ i k. o i (omega arith)), o n (omega arith) (λ z. omega arith))
+  | no s ↦
+      let last : n ≡ e = omega arith in
+      omega (arith, sum-same f g n (λ i k. o i (omega arith) (λ z. omega arith)), ap f last, ap g last)
+]
+
 -- one term is all there is
 pub sum-only : (f : ℕ → ℕ) (n x : ℕ) → x < n → EachBelow n (λ i. (i ≡ x → ⊥) → f i ≡ 0) → sum f n ≡ f x
-unfolding sum
-sum-only f zero x b h = absurd (omega arith)
-sum-only f (suc n) x b h = elim (decLt x n) [
-  | yes s ↦ omega (arith, sum-only f n x s (λ i c. h i (omega arith)), h n (omega arith) (λ e. omega arith))
-  | no s ↦
-      let last : n ≡ x = omega arith in
-      omega (arith, sum-none f n (λ i c. h i (omega arith) (λ e. omega arith)), ap f last)
-]
+sum-only f n x b h =
+    let alone : f x ≡ 0 + f x = omega arith in
+    omega (arith, sum-one f (λ i. 0) x (f x) n b alone h, sum-none (λ i. 0) n (λ i c. refl))
 
 -- the first a terms and the b after them
 pub sum-parts : (f : ℕ → ℕ) (a b : ℕ) → sum f (a + b) ≡ sum f a + sum (λ i. f (a + i)) b
