@@ -140,7 +140,7 @@ pub fn check(file: &[u8], timetable: &[u8]) -> Result<(), Refusal> {
 /// length; the bytes past it keep their former content. Refused as in [`read`], then with 5 where no
 /// timetable keeps every rule, then with 6 where `lent` has fewer bytes than the text.
 ///
-/// The search is recursive and takes about 1.3 kB of stack for each choice of a plan; a plan has at
+/// The search is recursive and takes about 1.4 kB of stack for each choice of a plan; a plan has at
 /// most 1,386. Call it from a thread with [`SOLVE_STACK`] bytes of stack.
 ///
 /// ```
