@@ -42,7 +42,8 @@ mod sentences;
 pub const FILE_BYTES: usize = 4096;
 /// The most bytes that a timetable may have. As many lent bytes hold the text of every timetable.
 pub const TIMETABLE_BYTES: usize = 4096;
-/// The bytes of stack that suffice for [`solve`], whatever file it is lent.
+/// The bytes of stack to give to [`solve`]: about twice what its recursion takes at its deepest, as far
+/// as that is argued and tested. No proof bounds it.
 pub const SOLVE_STACK: usize = 4 << 20;
 
 /// Why the planner turned something down. Nothing that was lent has changed then.

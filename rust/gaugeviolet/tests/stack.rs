@@ -1,8 +1,8 @@
 //! Solving in a thread of the stated stack with the deepest line that we could make.
 //!
-//! Its walk goes down some hundred levels at once and would then go on for years, so the solving runs in
-//! a process of its own, which ends after a while. A thread that overflows its stack ends its process
-//! by a signal.
+//! Its walk goes down some hundred levels at once and does not end in the time that a test has, so the
+//! solving runs in a process of its own, which ends after a while. A thread that overflows its stack
+//! ends its process by a signal.
 
 use std::process::{Command, ExitStatus};
 use std::time::Duration;
