@@ -2,13 +2,14 @@
 use Prim.Native.Nat.{ℕ, zero, suc, _+_, _≤_, _<_}
 use mathlib.Core.Path.{_≡_, refl, sym, _∙_, ap, ap₂}
 use mathlib.Core.Logic.{_⊎_, inl, inr}
-use mathlib.Core.Bool.{Bool, true, false, true≢false}
+use mathlib.Core.Bool.{Bool, true, false, not, _||_, true≢false}
 use mathlib.Core.List.{List}
 use native.Mathlib.Decide.{decLt}
 use native.Mathlib.Numerals.{add-one}
 use native.Mathlib.Omega.{arith}
 use lib.ListN.{getD}
 use lib.Dec.{eqb}
+use borrow.Author.Tests.{eqb-true, eqb-false, eq-eqb, ne-eqb}
 use Rattle.text.specs.Decide.{Decides, is-true, is-false, decides-and, decides-not, decides-lt, decides-eq, decides-self}
 use Rattle.text.specs.Below.{EachBelow, first-found, first-none}
 use Rattle.line.specs.declared.Kind.{Kind}
@@ -21,6 +22,7 @@ use Rattle.rules.specs.declared.conflicts.Passage.{Passage}
 use Rattle.rules.specs.declared.conflicts.TrainFound.{TrainFound}
 use Rattle.rules.specs.Directions.{directionsOf, way}
 use Rattle.rules.specs.Conflicts.{orConflict, firstConflict, gapBy, passage, keepsAfter, neitherFirst, clash, trainFound, partnerOf, pairWith, pairOn, segmentConflict, conflictOf, layoutOf, conflictIn}
+use Rattle.rules.specs.Scanning.{neitherAlone, keepsBehind, neitherBehind}
 
 -- ---- a search: nothing among the first i, and then at i nothing, or the conflict x
 
@@ -51,24 +53,35 @@ conflict-stays tag z (Conflict.AtStation s) h c = refl
 
 -- ---- the gap of rule 14
 
--- for the code's arms: what the test is, by the kind and the ways
-pub keeps-by : (k : Kind) (w : Bool) (g : Segment) (x y : Passage) (r : Bool) → g .kind ≡ k → eqb (x .way) (y .way) ≡ w →
-    r ≡ gapBy k w g (x .departs) (x .arrives) (y .departs) (y .arrives) → r ≡ keepsAfter g x y
-unfolding keepsAfter
-keeps-by k w g x y r e f h = h ∙ sym (ap₂ (λ (k : Kind) (w : Bool). gapBy k w g (x .departs) (x .arrives) (y .departs) (y .arrives)) e f)
+-- the test of two ways, asked the other way around
+way-turned : (w : Bool) (a b : ℕ) → eqb a b ≡ w → eqb b a ≡ w
+way-turned true a b e = eq-eqb b a (sym (eqb-true a b e))
+way-turned false a b e = ne-eqb b a (λ q. eqb-false a b e (sym q))
 
 module _ (g : Segment) (x y : Passage) where
-  pub neither-one : keepsAfter g x y ≡ true → false ≡ neitherFirst g x y
-  unfolding neitherFirst
-  neither-one e = rw e
+  -- that neither goes first, by the kind and whether the ways are the same
+  abbrev neitherBy : Kind → Bool → Bool
+  neitherBy Kind.S true = neitherAlone (g .following) x y
+  neitherBy Kind.F true = neitherBehind (g .following) x y
+  neitherBy Kind.D true = neitherBehind (g .following) x y
+  neitherBy Kind.S false = neitherAlone (g .opposing) x y
+  neitherBy Kind.F false = neitherAlone (g .opposing) x y
+  neitherBy Kind.D false = false
 
-  pub neither-other : keepsAfter g x y ≡ false → keepsAfter g y x ≡ true → false ≡ neitherFirst g x y
-  unfolding neitherFirst
-  neither-other e f = rw (e, f)
+  gap-by : (k : Kind) (w : Bool) → neitherBy k w ≡
+      not (gapBy k w g (x .departs) (x .arrives) (y .departs) (y .arrives) || gapBy k w g (y .departs) (y .arrives) (x .departs) (x .arrives))
+  unfolding neitherAlone neitherBehind keepsBehind
+  gap-by Kind.S true = refl
+  gap-by Kind.F true = refl
+  gap-by Kind.D true = refl
+  gap-by Kind.S false = refl
+  gap-by Kind.F false = refl
+  gap-by Kind.D false = refl
 
-  pub neither-both : keepsAfter g x y ≡ false → keepsAfter g y x ≡ false → true ≡ neitherFirst g x y
-  unfolding neitherFirst
-  neither-both e f = rw (e, f)
+  -- for the code's arms
+  pub neither-by : (k : Kind) (w r : Bool) → g .kind ≡ k → eqb (x .way) (y .way) ≡ w → r ≡ neitherBy k w → r ≡ neitherFirst g x y
+  unfolding neitherFirst keepsAfter
+  neither-by k w r e f h = h ∙ gap-by k w ∙ sym (rw (e, f, way-turned w (x .way) (y .way) f) refl)
 
 -- ---- a train's partner, a segment's pair, the lowest segment
 

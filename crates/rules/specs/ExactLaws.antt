@@ -3,13 +3,12 @@ use Prim.Native.Nat.{ℕ, _+_, _-_, _≤_, _<_}
 use mathlib.Core.Path.{_≡_, refl, sym, ap, _∙_}
 use mathlib.Core.Logic.{_⊎_, inl, inr, ⊎-elim}
 use mathlib.Core.Bool.{Bool, true, false, cond, _&&_, true≢false}
-use mathlib.Core.Option.{Option, some, none}
 use mathlib.Core.List.{List}
 use native.Mathlib.Decide.{decLt}
 use native.Mathlib.Omega.{arith}
 use lib.Dec.{leb}
 use Rattle.text.specs.Decide.{Decides, by-test, is-true, is-false, decides-lt, decides-le, decides-then, decides-and, decides-or, decides-not, decides-as}
-use Rattle.text.specs.Below.{EachBelow, first-none, none-first}
+use Rattle.text.specs.Below.{EachBelow}
 use Rattle.text.specs.BelowLaws.{count-same, count-never}
 use Rattle.line.specs.declared.Kind.{Kind}
 use Rattle.line.specs.declared.Segment.{Segment}
@@ -24,8 +23,8 @@ use Rattle.rules.specs.Minutes.{departsOn, arrivesOn}
 use Rattle.rules.specs.Rules.{InDays, NotEarly, Runs, Stops, NotLate, GapBy, Before, Apart, stands, standing, Room, Lawful}
 use Rattle.rules.specs.Directions.{directionsOf, on}
 use Rattle.rules.specs.DirectionsLaws.{decides-on, same-way, outbound-way}
-use Rattle.rules.specs.Conflicts.{gapBy, passage, keepsAfter, neitherFirst, clash, trainFound, partnerOf, pairWith, pairOn, segmentConflict, standsIn, standsAt, standingAt, crowdAt, crowdOn, stationConflict, conflictOf}
-use Rattle.rules.specs.StationLaws.{or-nothing, conflict-none, none-conflict, never-crowded, crowded-never, crowd-middle, crowd-first, crowd-last}
+use Rattle.rules.specs.Conflicts.{gapBy, passage, keepsAfter, neitherFirst, clash, pairOn, segmentConflict, standsIn, standsAt, standingAt, crowdAt, crowdOn, stationConflict, conflictOf}
+use Rattle.rules.specs.StationLaws.{or-nothing, conflict-none, none-conflict, none-clash, clash-none, never-crowded, crowded-never, crowd-middle, crowd-first, crowd-last}
 use Rattle.rules.specs.PathsLaws.{decides-middle, train-within}
 use Rattle.rules.specs.RulesLaws.{decides-10, decides-11, decides-12, decides-13}
 use Rattle.rules.specs.Breaches.{trainBreach, conflictBreach, breachOf}
@@ -73,19 +72,10 @@ module _ (l : Line) (few : l .«train_count» ≤ 12) (m : List ℕ) (p : ℕ) (
 
   -- no pair is found exactly when the rule is kept
   pair-clear : pairOn (segment l p) (directionsOf l) m (l .«train_count») p ≡ Conflict.Nothing → Apart l m p
-  unfolding pairOn partnerOf
-  pair-clear e =
-      apart-of (λ i a. none-first (clash (segment l p) (directionsOf l) m p i) (l .«train_count») (nobody i _ (none-conflict _ (l .«train_count») e i a)))
-    where
-      nobody : (i : ℕ) (o : Option ℕ) → pairWith p i (trainFound o) ≡ Conflict.Nothing → o ≡ none
-      nobody i none q = refl
-      nobody i (some j) q = let z : _≡_ {A = ℕ} 0 1 = cc in absurd (omega arith)
+  pair-clear e = apart-of (none-clash (segment l p) (directionsOf l) m (l .«train_count») p e)
 
   clear-pair : Apart l m p → pairOn (segment l p) (directionsOf l) m (l .«train_count») p ≡ Conflict.Nothing
-  unfolding pairOn partnerOf
-  clear-pair h =
-      conflict-none _ (l .«train_count») (λ i a. ap (λ (o : Option ℕ). pairWith p i (trainFound o))
-      (first-none (clash (segment l p) (directionsOf l) m p i) (l .«train_count») (of-apart h i a)))
+  clear-pair h = clash-none (segment l p) (directionsOf l) m (l .«train_count») p (of-apart h)
 
 -- ---- rule 15
 

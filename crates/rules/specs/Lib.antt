@@ -9,6 +9,7 @@ pub mod Conflicts
 pub mod Scanning
 pub mod Orders
 pub mod Breaches
+pub mod BitsLaws
 pub mod PathsLaws
 pub mod DirectionsLaws
 pub mod ConflictsLaws

@@ -1,14 +1,47 @@
 -- What the scan for the lowest conflict may leave out, and what it collects of a station: the contracts of its parts.
 use Prim.Native.Nat.{ℕ, _+_, _*_, _-_, _≤_, _<_}
 use mathlib.Core.Path.{_≡_}
-use mathlib.Core.Bool.{Bool, true, _&&_}
+use mathlib.Core.Bool.{Bool, true, false, not, _&&_, _||_}
+use mathlib.Core.Logic.{_⊎_}
 use mathlib.Core.List.{List}
 use lib.ListN.{length, getD}
 use lib.Dec.{leb, ltb}
+use Rattle.line.specs.declared.Segment.{Segment}
 use Rattle.rules.specs.declared.conflicts.Conflict.{Conflict}
 use Rattle.rules.specs.declared.conflicts.Layout.{Layout}
+use Rattle.rules.specs.declared.conflicts.Passage.{Passage}
 use Rattle.rules.specs.declared.conflicts.Stays.{Stays}
-use Rattle.rules.specs.Conflicts.{segmentConflict, stay, standsAt, cameTo}
+use Rattle.rules.specs.Minutes.{departsOn, arrivesOn}
+use Rattle.rules.specs.Directions.{on}
+use Rattle.rules.specs.Conflicts.{passage, neitherFirst, segmentConflict, stay, standsAt, cameTo}
+
+-- ---- two trains on a segment
+
+-- how much later y is than gap after x, or, where it is earlier, the difference wrapped at 4,294,967,296
+pub record RoomFor (x gap y r : ℕ) : Type 0 where
+  pub later : x + gap ≤ y → r + (x + gap) ≡ y
+  pub earlier : y < x + gap → r + (x + gap) ≡ y + 4294967296
+
+-- a number of 32 bits that has the highest bit where b does not hold
+pub record Denies (b : Bool) (r : ℕ) : Type 0 where
+  pub within : r < 4294967296
+  pub low : b ≡ true → r < 2147483648
+  pub high : b ≡ false → 2147483648 ≤ r
+
+-- what two of them have in common has it where neither holds
+abbrev pub BothDeny : ℕ → ℕ → Bool → Type 0
+BothDeny one other r = (a b : Bool) → Denies a one → Denies b other → r ≡ not (a || b)
+
+-- neither leaves the segment so long before the other enters it
+unfoldable pub neitherAlone : ℕ → Passage → Passage → Bool
+neitherAlone gap x y = not (leb (x .arrives + gap) (y .departs) || leb (y .arrives + gap) (x .departs))
+
+-- y departs and arrives so long after x; neither does
+unfoldable pub keepsBehind : ℕ → Passage → Passage → Bool
+keepsBehind gap x y = leb (x .departs + gap) (y .departs) && leb (x .arrives + gap) (y .arrives)
+
+unfoldable pub neitherBehind : ℕ → Passage → Passage → Bool
+neitherBehind gap x y = not (keepsBehind gap x y || keepsBehind gap y x)
 
 -- ---- segments
 
@@ -19,6 +52,19 @@ SameRow m former b = (i : ℕ) → i < 16 → getD m (b + i) 0 ≡ getD former (
 -- departures and arrivals on segment p
 abbrev pub SameOn : List ℕ → List ℕ → ℕ → Type 0
 SameOn m former p = SameRow m former (16 * p) × SameRow m former (176 + 16 * p)
+
+-- train i goes over segment p at the same minutes
+abbrev pub SameTimes : List ℕ → List ℕ → ℕ → ℕ → Type 0
+SameTimes m former p i = (departsOn m p i ≡ departsOn former p i) × (arrivesOn m p i ≡ arrivesOn former p i)
+
+-- train i is in conflict with none of the n on segment p, which is g
+unfoldable pub Apart : Segment → List ℕ → List ℕ → ℕ → ℕ → ℕ → Type 0
+Apart g ds m p n i =
+    (j : ℕ) → j < n → (j ≡ i → ⊥) → on ds p i ≡ true → on ds p j ≡ true → neitherFirst g (passage ds m p i) (passage ds m p j) ≡ false
+
+-- each of the first k trains has its former minutes there or is in no conflict
+unfoldable pub ChangedApart : Segment → List ℕ → List ℕ → List ℕ → ℕ → ℕ → ℕ → Type 0
+ChangedApart g ds m former p n k = (i : ℕ) → i < k → SameTimes m former p i ⊎ Apart g ds m p n i
 
 abbrev pub LaidOut : Layout → Type 0
 LaidOut y = (2 ≤ y .stations) × (y .stations ≤ 12) × (y .trains ≤ 12)

@@ -1,65 +1,128 @@
--- Laws of the scan for the lowest conflict: a segment that was clear and whose minutes are the same is clear, the segments below a lowest conflict are
--- clear, and the entries of a station tell how many stand there. Assumes nothing.
+-- Laws of the scan for the lowest conflict: a segment that was clear is clear where no train with other minutes is in conflict, the segments below a
+-- lowest conflict are clear, and the entries of a station tell how many stand there. Assumes nothing.
 use Prim.Native.Nat.{ℕ, zero, suc, _+_, _*_, _-_, _≤_, _<_}
-use mathlib.Core.Path.{_≡_, refl, sym, _∙_, ap}
-use mathlib.Core.Bool.{Bool, true, false, cond, _&&_, true≢false}
-use mathlib.Core.Option.{Option}
+use mathlib.Core.Path.{_≡_, refl, sym, _∙_, ap, ap₂}
+use mathlib.Core.Logic.{_⊎_, inl, ⊎-elim}
+use mathlib.Core.Bool.{Bool, true, false, cond, not, _&&_, _||_, true≢false}
 use mathlib.Core.List.{List}
 use native.Mathlib.Decide.{ℕ-discrete}
 use native.Mathlib.Omega.{arith}
 use lib.ListN.{length, getD, set, replicate, length-set, getD-replicate}
 use lib.Seq.{getD-set-same, getD-set-other}
 use lib.Dec.{ltb}
+use borrow.Author.Count.{below-more}
 use borrow.Author.Tests.{lt-ltb, le-ltb}
-use Rattle.text.specs.Decide.{is-true, is-false, decides-and, decides-le}
+use Rattle.text.specs.Decide.{is-true, is-false, decides-and, decides-not, decides-eq, decides-le}
 use Rattle.text.specs.Below.{EachBelow, count}
-use Rattle.text.specs.BelowLaws.{first-same, count-same, count-within}
+use Rattle.text.specs.BelowLaws.{count-same, count-within}
 use Rattle.line.specs.declared.Segment.{Segment}
 use Rattle.line.specs.Record.{noSegment}
 use Rattle.rules.specs.declared.conflicts.Conflict.{Conflict}
 use Rattle.rules.specs.declared.conflicts.Layout.{Layout}
+use Rattle.rules.specs.declared.conflicts.Passage.{Passage}
 use Rattle.rules.specs.declared.conflicts.Stay.{Stay}
 use Rattle.rules.specs.declared.conflicts.Stays.{Stays}
 use Rattle.rules.specs.declared.conflicts.TrainFound.{TrainFound}
 use Rattle.rules.specs.declared.conflicts.MinuteFound.{MinuteFound}
+use Rattle.rules.specs.Directions.{way, on}
 use Rattle.rules.specs.DirectionsLaws.{same-test}
-use Rattle.rules.specs.Conflicts.{orConflict, firstConflict, passage, clash, trainFound, partnerOf, pairWith, pairOn, segmentConflict, cameTo, stay, standsIn, standsAt, standingAt, earliestCrowd, crowdAt, crowdOn, stationConflict, conflictIn}
-use Rattle.rules.specs.Scanning.{SameRow, SameOn, ClearBelow, clearSegments, standsBy, StaysOf}
-use Rattle.rules.specs.StationLaws.{none-conflict}
+use Rattle.rules.specs.Conflicts.{orConflict, firstConflict, passage, keepsAfter, neitherFirst, partnerOf, pairWith, pairOn, segmentConflict, cameTo, stay, standsIn, standsAt, standingAt, earliestCrowd, crowdAt, crowdOn, stationConflict, conflictIn}
+use Rattle.rules.specs.Scanning.{SameRow, SameOn, SameTimes, Apart, ChangedApart, ClearBelow, clearSegments, standsBy, StaysOf}
+use Rattle.rules.specs.ConflictsLaws.{decides-clash, NoSegment}
+use Rattle.rules.specs.StationLaws.{none-conflict, none-clash, clash-none}
 use Rattle.rules.specs.BreachesLaws.{first-holds}
 
--- ---- a segment whose minutes are the same
-
-conflict-same : (f g : ℕ → Conflict) (n : ℕ) → EachBelow n (λ i. f i ≡ g i) → firstConflict f n ≡ firstConflict g n
-unfolding firstConflict
-conflict-same f g zero h = refl
-conflict-same f g (suc n) h = rw (conflict-same f g n (λ i l. h i (omega arith)), h n (omega arith)) refl
+-- ---- a segment that had no conflict has none where no train with other minutes is in conflict
 
 pub row-same : (m former : List ℕ) (b i : ℕ) → 16 ≤ i → EachBelow i (λ j. getD m (b + j) 0 ≡ getD former (b + j) 0) → SameRow m former b
 unfolding SameRow
 row-same m former b i l h j k = h j (omega arith)
 
-module _ (ds m former : List ℕ) (p : ℕ) (same : SameOn m former p) where
-  passage-same : (i : ℕ) → i < 16 → passage ds m p i ≡ passage ds former p i
-  unfolding SameRow
-  passage-same i l =
+module _ (g : Segment) (ds m : List ℕ) (p i : ℕ) where
+  -- train i is not in conflict with train j
+  abbrev pub ApartFrom : ℕ → Type 0
+  ApartFrom j = (j ≡ i → ⊥) → on ds p i ≡ true → on ds p j ≡ true → neitherFirst g (passage ds m p i) (passage ds m p j) ≡ false
+
+  pub apart-each : (n j : ℕ) → n ≤ j → EachBelow j ApartFrom → Apart g ds m p n i
+  unfolding Apart
+  apart-each n j l h k a = h k (omega arith)
+
+  -- for the code: what it compares, with both passages
+  pub apart-off : (n : ℕ) (x : Passage) → x ≡ passage ds m p i → x .way ≡ 0 → Apart g ds m p n i
+  unfolding Apart
+  apart-off n x e o j l d u v = absurd (decides-not (decides-eq (way ds p i) 0) .yea u (sym (ap (λ (z : Passage). z .way) e) ∙ o))
+
+  pub apart-other-off : (j : ℕ) (y : Passage) → y ≡ passage ds m p j → y .way ≡ 0 → ApartFrom j
+  apart-other-off j y e o d u v = absurd (decides-not (decides-eq (way ds p j) 0) .yea v (sym (ap (λ (z : Passage). z .way) e) ∙ o))
+
+  pub apart-tested : (j : ℕ) (x y : Passage) (b : Bool) → x ≡ passage ds m p i → y ≡ passage ds m p j → b ≡ neitherFirst g x y → b ≡ false → ApartFrom j
+  apart-tested j x y b one other tested f d u v = sym (ap₂ (neitherFirst g) one other) ∙ sym tested ∙ f
+
+-- the same for either order of the two
+neither-turned : (g : Segment) (x y : Passage) → neitherFirst g x y ≡ neitherFirst g y x
+unfolding neitherFirst
+neither-turned g x y = turned (keepsAfter g x y) (keepsAfter g y x)
+  where
+    turned : (a b : Bool) → not (a || b) ≡ not (b || a)
+    turned true true = refl
+    turned true false = refl
+    turned false true = refl
+    turned false false = refl
+
+module _ (g : Segment) (ds m former : List ℕ) (p n : ℕ) where
+  pub changed-start : ChangedApart g ds m former p n 0
+  unfolding ChangedApart
+  changed-start i l = absurd (omega arith)
+
+  pub changed-more : (i : ℕ) → ChangedApart g ds m former p n i → SameTimes m former p i ⊎ Apart g ds m p n i → ChangedApart g ds m former p n (i + 1)
+  unfolding ChangedApart
+  changed-more i h k = below-more (λ j. SameTimes m former p j ⊎ Apart g ds m p n j) i h k
+
+  pub changed-all : (i : ℕ) → n ≤ i → ChangedApart g ds m former p n i → ChangedApart g ds m former p n n
+  unfolding ChangedApart
+  changed-all i b h j l = h j (omega arith)
+
+  -- where all minutes are the same, none changed
+  pub same-changed : n ≤ 16 → SameOn m former p → ChangedApart g ds m former p n n
+  unfolding ChangedApart SameRow
+  same-changed b same i l =
       let a : 176 + 16 * p + i ≡ 176 + (16 * p + i) = omega arith in
-      let dep = same .0 i l in
-      let arr = rw a at (same .1 i l) in
-      rw (dep, arr) refl
+      inl (same .0 i (omega arith), rw a at (same .1 i (omega arith)))
 
-  pair-same : (g : Segment) (n : ℕ) → n ≤ 16 → pairOn g ds m n p ≡ pairOn g ds former n p
-  unfolding pairOn partnerOf clash
-  pair-same g n b =
-      conflict-same _ _ n (λ i l. ap (λ (o : Option ℕ). pairWith p i (trainFound o))
-      (first-same _ _ n (λ j k. rw (passage-same i (omega arith), passage-same j (omega arith)) refl)))
+  -- two trains at their former minutes are in conflict only if they were; one with other minutes is in none
+  pub changed-clear : pairOn g ds former n p ≡ Conflict.Nothing → ChangedApart g ds m former p n n → pairOn g ds m n p ≡ Conflict.Nothing
+  unfolding ChangedApart Apart
+  changed-clear e h =
+      clash-none g ds m n p (λ i a j b. is-false (decides-clash g ds m p i j) (λ c.
+      let u = is-true (decides-not (decides-eq (way ds p i) 0)) (c .1 .0) in
+      let v = is-true (decides-not (decides-eq (way ds p j) 0)) (c .1 .1 .0) in
+      ⊎-elim
+      (λ s. ⊎-elim
+      (λ t. decides-clash g ds former p i j .nay (none-clash g ds former n p e i a j b)
+      (c .0, (c .1 .0, (c .1 .1 .0, rw (← s .0, ← s .1, ← t .0, ← t .1) (c .1 .1 .1)))))
+      (λ t. true≢false (sym (c .1 .1 .1) ∙ neither-turned g (passage ds m p i) (passage ds m p j) ∙ t i a (λ q. omega (arith, c .0)) v u))
+      (h j b))
+      (λ s. true≢false (sym (c .1 .1 .1) ∙ s j b (λ q. omega (arith, c .0)) u v))
+      (h i a)))
 
--- for the code: it was clear, and so it is
-pub still-none : (y : Layout) (ds m former : List ℕ) (clear p : ℕ) → ClearBelow y ds former clear → y .trains ≤ 16 → p < clear → SameOn m former p →
-    pairOn (getD (y .segments) p noSegment) ds m (y .trains) p ≡ Conflict.Nothing
+-- what it says that the segments below `clear` have no conflict
+module _ (y : Layout) (ds m : List ℕ) (clear : ℕ) (h : ClearBelow y ds m clear) where
+  pub clear-within : clear ≤ y .stations - 1
+  unfolding ClearBelow
+  clear-within = h .0
+
+  pub clear-below : NoSegment (y .segments) ds m (y .trains) clear
+  unfolding ClearBelow segmentConflict
+  clear-below = h .1
+
+  pub clear-at : (p : ℕ) → p < clear → pairOn (getD (y .segments) p noSegment) ds m (y .trains) p ≡ Conflict.Nothing
+  clear-at p l = none-conflict _ clear clear-below p l
+
+-- for the code, which comes to segment p among those that had no conflict at the former minutes, and returns its number
+pub clear-first : (y : Layout) (ds m former : List ℕ) (clear p r : ℕ) → ClearBelow y ds former clear → r ≡ p → p ≤ clear →
+    NoSegment (y .segments) ds m (y .trains) p → ClearBelow y ds m r
 unfolding ClearBelow segmentConflict
-still-none y ds m former clear p h b l same =
-    pair-same ds m former p same (getD (y .segments) p noSegment) (y .trains) b ∙ none-conflict _ clear (h .1) p l
+clear-first y ds m former clear p r h q l e = rw q (omega (arith, h .0), e)
 
 -- ---- the segments below the lowest conflict
 

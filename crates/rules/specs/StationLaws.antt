@@ -16,6 +16,7 @@ use borrow.Author.Tests.{lt-ltb, le-ltb, le-leb, lt-leb, eq-eqb, ne-eqb, ltb-fal
 use Rattle.text.specs.Decide.{Decides, is-false, decides-as, decides-and, decides-lt, decides-le, decides-self}
 use Rattle.text.specs.Below.{EachBelow, each-more, first-found, first-none, none-first, count, sum, sum-more}
 use Rattle.text.specs.BelowLaws.{table-size}
+use Rattle.line.specs.declared.Segment.{Segment}
 use Rattle.line.specs.declared.Line.{Line}
 use Rattle.rules.specs.declared.conflicts.Conflict.{Conflict}
 use Rattle.rules.specs.declared.conflicts.Layout.{Layout}
@@ -23,7 +24,7 @@ use Rattle.rules.specs.declared.conflicts.Stay.{Stay}
 use Rattle.rules.specs.declared.conflicts.MinuteFound.{MinuteFound}
 use Rattle.rules.specs.Minutes.{departsOn, arrivesOn}
 use Rattle.rules.specs.Directions.{directionEntry, directionsOf, way, on}
-use Rattle.rules.specs.Conflicts.{orConflict, firstConflict, cameTo, leavesFrom, stay, standsIn, standsAt, standingAt, minuteFound, earliestCrowd, inCrowd, crowdMask, crowdAt, crowdOn, stationConflict, segmentConflict, conflictIn}
+use Rattle.rules.specs.Conflicts.{orConflict, firstConflict, clash, trainFound, partnerOf, pairWith, pairOn, cameTo, leavesFrom, stay, standsIn, standsAt, standingAt, minuteFound, earliestCrowd, inCrowd, crowdMask, crowdAt, crowdOn, stationConflict, segmentConflict, conflictIn}
 use Rattle.rules.specs.ConflictsLaws.{conflict-start, conflict-on, conflict-hit}
 use Rattle.rules.specs.Standing.{crowd-arrives}
 
@@ -46,6 +47,23 @@ module _ (f : ℕ → Conflict) where
   none-conflict (suc n) e i l =
       let h = or-nothing (firstConflict f n) (f n) e in
       each-more (λ i. f i ≡ Conflict.Nothing) n (none-conflict n (h .0)) (h .1) i l
+
+-- there is no pair on a segment exactly when no two trains are in conflict there
+module _ (g : Segment) (ds m : List ℕ) (n p : ℕ) where
+  abbrev pub NoClash : Type 0
+  NoClash = EachBelow n (λ i. EachBelow n (λ j. clash g ds m p i j ≡ false))
+
+  pub none-clash : pairOn g ds m n p ≡ Conflict.Nothing → NoClash
+  unfolding pairOn partnerOf
+  none-clash e i a = none-first (clash g ds m p i) n (nobody i _ (none-conflict _ n e i a))
+    where
+      nobody : (i : ℕ) (o : Option ℕ) → pairWith p i (trainFound o) ≡ Conflict.Nothing → o ≡ none
+      nobody i none q = refl
+      nobody i (some j) q = let z : _≡_ {A = ℕ} 0 1 = cc in absurd (omega arith)
+
+  pub clash-none : NoClash → pairOn g ds m n p ≡ Conflict.Nothing
+  unfolding pairOn partnerOf
+  clash-none h = conflict-none _ n (λ i a. ap (λ (o : Option ℕ). pairWith p i (trainFound o)) (first-none (clash g ds m p i) n (h i a)))
 
 -- ---- when a train stands at a station
 

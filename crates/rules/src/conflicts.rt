@@ -1,13 +1,13 @@
 // The lowest conflict of some minutes: rule 14 segment by segment and pair by pair, then rule 15 station by station.
 ghost use mathlib.Core.Path.{_≡_};
-ghost use mathlib.Core.Bool.{true};
-ghost use Prim.Native.Nat.{ℕ, _+_, _*_, _-_, _≤_, _<_};
+ghost use mathlib.Core.Bool.{true, false};
+ghost use Prim.Native.Nat.{_+_, _*_, _-_, _≤_, _<_};
 ghost use lib.ListN.{length};
-ghost use lib.Dec.{leb};
 ghost use Rattle.text.specs.Below.{count};
 ghost use Rattle.rules.specs.Minutes.{departsOn, arrivesOn};
-ghost use Rattle.rules.specs.Conflicts.{keepsAfter, neitherFirst, passage, partnerOf, pairOn, segmentConflict, stay, standsIn, earliestCrowd, crowdMask, crowdAt, stationConflict, layoutOf, conflictIn};
-ghost use Rattle.rules.specs.Scanning.{SameRow, SameOn, LaidOut, Scans, clearSegments, StaysOf, standsBy};
+ghost use Rattle.rules.specs.Conflicts.{neitherFirst, passage, partnerOf, pairOn, segmentConflict, stay, standsIn, earliestCrowd, crowdMask, crowdAt, stationConflict, layoutOf, conflictIn};
+ghost use Rattle.rules.specs.declared.conflicts.Conflict.{Conflict as SomeConflict};
+ghost use Rattle.rules.specs.Scanning.{RoomFor, Denies, BothDeny, neitherAlone, keepsBehind, neitherBehind, SameRow, SameOn, SameTimes, Apart, ChangedApart, LaidOut, ClearBelow, Scans, clearSegments, StaysOf, standsBy};
 use crate::directions::way_on;
 use line::Kind;
 use line::Line;
@@ -49,13 +49,6 @@ pub fn wide(x: u16) -> u32
     x as u32
 }
 
-// Whether y is at least gap after x.
-fn after(x: u16, gap: u16, y: u16) -> bool
-    ensures { λ r. ⌜ r ≡ leb (x + gap) y ⌝ }
-{
-    wide(x) + wide(gap) <= wide(y)
-}
-
 pub fn departs_on(m: &[u16], p: usize, i: usize) -> u16
     requires { ⌜ (length (now m) ≡ 352) × (p < 11) × (i < 16) ⌝ }
     ensures { λ r. ⌜ r ≡ departsOn (now (m .entry)) p i ⌝ }
@@ -77,37 +70,6 @@ pub struct Passage {
     pub arrives: u16,
 }
 
-// Whether y goes after x on the segment and keeps its gap.
-fn keeps(g: Segment, x: Passage, y: Passage) -> bool
-    ensures { λ r. ⌜ r ≡ keepsAfter g x y ⌝ }
-{
-    let kind = g.kind;
-    let same = x.way == y.way;
-    match kind {
-        Kind::S => {
-            if same {
-                after(x.arrives, g.following, y.departs)
-            } else {
-                after(x.arrives, g.opposing, y.departs)
-            }
-        }
-        Kind::F => {
-            if same {
-                after(x.departs, g.following, y.departs) && after(x.arrives, g.following, y.arrives)
-            } else {
-                after(x.arrives, g.opposing, y.departs)
-            }
-        }
-        Kind::D => {
-            if same {
-                after(x.departs, g.following, y.departs) && after(x.arrives, g.following, y.arrives)
-            } else {
-                true
-            }
-        }
-    }
-}
-
 // How train i goes over segment p.
 fn passage_of(ds: &[u16], m: &[u16], p: usize, i: usize) -> Passage
     requires { ⌜ (length (now ds) ≡ 176) × (length (now m) ≡ 352) × (p < 11) × (i < 12) ⌝ }
@@ -120,17 +82,72 @@ fn passage_of(ds: &[u16], m: &[u16], p: usize, i: usize) -> Passage
     }
 }
 
+// How much later y is than gap after x. Where it is earlier the difference wraps, and so has its highest bit.
+fn room(x: u16, gap: u16, y: u16) -> u32
+    ensures { λ r. ⌜ RoomFor x gap y r ⌝ }
+{
+    std::num::wrapping_sub_u32(wide(y), wide(x) + wide(gap))
+}
+
+// Whether two answers have the highest bit. It is one test in place of two: which of two trains goes first is hard to foresee for a processor, that one of
+// them does is not.
+fn both_deny(one: u32, other: u32) -> bool
+    ensures { λ r. ⌜ BothDeny one other r ⌝ }
+{
+    (one & other) >= 2147483648
+}
+
+// Whether neither leaves the segment so long before the other enters it.
+fn neither_alone(gap: u16, x: Passage, y: Passage) -> bool
+    ensures { λ r. ⌜ r ≡ neitherAlone gap x y ⌝ }
+{
+    let one_first = room(x.arrives, gap, y.departs);
+    let other_first = room(y.arrives, gap, x.departs);
+    both_deny(one_first, other_first)
+}
+
+// Has the highest bit where y does not depart and arrive so long after x.
+fn behind(gap: u16, x: Passage, y: Passage) -> u32
+    ensures { λ r. ⌜ Denies (keepsBehind gap x y) r ⌝ }
+{
+    room(x.departs, gap, y.departs) | room(x.arrives, gap, y.arrives)
+}
+
+// Whether neither goes so long behind the other.
+fn neither_behind(gap: u16, x: Passage, y: Passage) -> bool
+    ensures { λ r. ⌜ r ≡ neitherBehind gap x y ⌝ }
+{
+    let one_first = behind(gap, x, y);
+    let other_first = behind(gap, y, x);
+    both_deny(one_first, other_first)
+}
+
 // Whether neither of x and y goes first on the segment.
 fn neither(g: Segment, x: Passage, y: Passage) -> bool
     ensures { λ r. ⌜ r ≡ neitherFirst g x y ⌝ }
 {
-    if keeps(g, x, y) {
-        return false;
+    let kind = g.kind;
+    let same = x.way == y.way;
+    match kind {
+        Kind::S => {
+            let gap = if same { g.following } else { g.opposing };
+            neither_alone(gap, x, y)
+        }
+        Kind::F => {
+            if same {
+                neither_behind(g.following, x, y)
+            } else {
+                neither_alone(g.opposing, x, y)
+            }
+        }
+        Kind::D => {
+            if same {
+                neither_behind(g.following, x, y)
+            } else {
+                false
+            }
+        }
     }
-    if keeps(g, y, x) {
-        return false;
-    }
-    true
 }
 
 // The lowest train above i that is in conflict with it on segment p.
@@ -191,41 +208,126 @@ fn same_row(m: &[u16], former: &[u16], b: usize) -> bool
     same
 }
 
-// Whether segment p is known to be clear: it was, and its minutes are those that they were.
-fn still_clear(m: &[u16], former: &[u16], clear: usize, p: usize) -> bool
+fn same_on(m: &[u16], former: &[u16], p: usize) -> bool
     requires { ⌜ (length (now m) ≡ 352) × (length (now former) ≡ 352) × (p < 11) ⌝ }
-    ensures { λ r. ⌜ (r ≡ true → (p < clear) × SameOn (now (m .entry)) (now (former .entry)) p) ⌝ }
+    ensures { λ r. ⌜ (r ≡ true → SameOn (now (m .entry)) (now (former .entry)) p) ⌝ }
 {
-    if clear <= p {
-        return false;
-    }
     if !same_row(m, former, 16 * p) {
         return false;
     }
     same_row(m, former, 176 + 16 * p)
 }
 
-// The lowest segment with a conflict, and its lowest pair. Those below `clear` had none at the former minutes, so one whose minutes are the same has none.
+// Whether train i goes over segment p at the minutes of before.
+fn same_times(m: &[u16], former: &[u16], p: usize, i: usize) -> bool
+    requires { ⌜ (length (now m) ≡ 352) × (length (now former) ≡ 352) × (p < 11) × (i < 12) ⌝ }
+    ensures { λ r. ⌜ (r ≡ true → SameTimes (now (m .entry)) (now (former .entry)) p i) ⌝ }
+{
+    if departs_on(m, p, i) != departs_on(former, p, i) {
+        return false;
+    }
+    arrives_on(m, p, i) == arrives_on(former, p, i)
+}
+
+// Whether train i is in conflict with any other on segment p.
+fn in_conflict(g: Segment, ds: &[u16], m: &[u16], p: usize, i: usize, n: usize) -> bool
+    requires { ⌜ (length (now ds) ≡ 176) × (length (now m) ≡ 352) × (p < 11) × (i < n) × (n ≤ 12) ⌝ }
+    ensures { λ r. ⌜ (r ≡ false → Apart g (now (ds .entry)) (now (m .entry)) p n i) ⌝ }
+{
+    let x = passage_of(ds, m, p, i);
+    if x.way == 0 {
+        return false;
+    }
+    let mut j: usize = 0;
+    while j < n {
+        let y = passage_of(ds, m, p, j);
+        if y.way != 0 {
+            if j != i {
+                if neither(g, x, y) {
+                    return true;
+                }
+            }
+        }
+        j = j + 1;
+    }
+    false
+}
+
+// Whether no train whose minutes on segment p changed is in conflict there.
+fn changed_apart(g: Segment, ds: &[u16], m: &[u16], former: &[u16], p: usize, n: usize) -> bool
+    requires { ⌜ (length (now ds) ≡ 176) × (length (now m) ≡ 352) × (length (now former) ≡ 352) × (p < 11) × (n ≤ 12) ⌝ }
+    ensures { λ r. ⌜ (r ≡ true → ChangedApart g (now (ds .entry)) (now (m .entry)) (now (former .entry)) p n n) ⌝ }
+{
+    let mut i: usize = 0;
+    while i < n {
+        if !same_times(m, former, p, i) {
+            if in_conflict(g, ds, m, p, i, n) {
+                return false;
+            }
+        }
+        i = i + 1;
+    }
+    true
+}
+
+// Whether segment p, which had no conflict at the former minutes, shows to have none: only trains whose minutes changed are looked at.
+fn still_clear(g: Segment, ds: &[u16], m: &[u16], former: &[u16], p: usize, n: usize) -> bool
+    requires { ⌜ (length (now ds) ≡ 176) × (length (now m) ≡ 352) × (length (now former) ≡ 352) × (p < 11) × (n ≤ 12)
+        × (pairOn g (now ds) (now former) n p ≡ SomeConflict.Nothing) ⌝ }
+    ensures { λ r. ⌜ (r ≡ true → pairOn g (now (ds .entry)) (now (m .entry)) n p ≡ SomeConflict.Nothing) ⌝ }
+{
+    if same_on(m, former, p) {
+        return true;
+    }
+    changed_apart(g, ds, m, former, p, n)
+}
+
+// How many segments show to have no conflict, of the first `clear`, which had none at the former minutes.
+fn clear_again(layout: Layout, ds: &[u16], m: &[u16], former: &[u16], clear: usize) -> usize
+    requires { ⌜ Scans layout (now ds) (now m) (now former) clear ⌝ }
+    ensures { λ r. ⌜ ClearBelow layout (now (ds .entry)) (now (m .entry)) r ⌝ }
+{
+    let segments = layout.segments;
+    let n = layout.trains;
+    let mut p: usize = 0;
+    while p < clear {
+        let g = segments[p];
+        if !still_clear(g, ds, m, former, p, n) {
+            return p;
+        }
+        p = p + 1;
+    }
+    clear
+}
+
+// The lowest segment with a conflict, and its lowest pair, where those below `clear` have none.
+fn conflict_from(layout: Layout, ds: &[u16], m: &[u16], clear: usize) -> Conflict
+    requires { ⌜ LaidOut layout × (length (now ds) ≡ 176) × (length (now m) ≡ 352) × ClearBelow layout (now ds) (now m) clear ⌝ }
+    ensures { λ r. ⌜ r ≡ segmentConflict (layout .segments) (now (ds .entry)) (now (m .entry)) (layout .stations - 1) (layout .trains) ⌝ }
+{
+    let segments = layout.segments;
+    let count = layout.stations - 1;
+    let n = layout.trains;
+    let mut p = clear;
+    while p < count {
+        let g = segments[p];
+        let found = pair_on(g, ds, m, p, n);
+        let Conflict::Nothing = found else {
+            return found;
+        };
+        p = p + 1;
+    }
+    Conflict::Nothing
+}
+
+// The lowest segment with a conflict, and its lowest pair. Those below `clear` had none at the former minutes.
 fn segment_conflict(layout: Layout, ds: &[u16], m: &[u16], former: &[u16], clear: usize) -> Conflict
     requires { ⌜ Scans layout (now ds) (now m) (now former) clear ⌝ }
     ensures { λ r. ⌜ r ≡ segmentConflict (layout .segments) (now (ds .entry)) (now (m .entry)) (layout .stations - 1)
         (layout .trains) ⌝ }
 {
-    let segments = layout.segments;
-    let count = layout.stations - 1;
-    let n = layout.trains;
-    let mut p: usize = 0;
-    while p < count {
-        if !still_clear(m, former, clear, p) {
-            let g = segments[p];
-            let found = pair_on(g, ds, m, p, n);
-            let Conflict::Nothing = found else {
-                return found;
-            };
-        }
-        p = p + 1;
-    }
-    Conflict::Nothing
+    let known = clear_again(layout, ds, m, former, clear);
+    conflict_from(layout, ds, m, known)
 }
 
 // When a train stands at a station: from its arrival to its departure, both included.

@@ -1,4 +1,4 @@
--- Laws of first numbers, counts, sums, tables and lists over the numbers below n.
+-- Laws of counts, sums, tables and lists over the numbers below n.
 use Prim.Native.Nat.{ℕ, zero, suc, _+_, _*_, _≤_, _<_, min}
 use mathlib.Core.Path.{_≡_, refl, sym, ap, _∙_, subst}
 use mathlib.Core.Logic.{⊎-elim}
@@ -10,16 +10,9 @@ use native.Mathlib.Omega.{arith}
 use lib.Dec.{leb, ltb}
 use lib.ListN.{length, getD, length-append}
 use borrow.Author.Tests.{leb-true, leb-false, lt-ltb, le-ltb}
-use Rattle.text.specs.Below.{EachBelow, each-more, first, gather, table, count, sum}
+use Rattle.text.specs.Below.{EachBelow, each-more, gather, table, count, sum}
 use Rattle.text.specs.Each.{Each}
 use Rattle.text.specs.EachLaws.{each-append, each-parts}
-
--- ---- the first number
-
-pub first-same : (f g : ℕ → Bool) (n : ℕ) → EachBelow n (λ i. f i ≡ g i) → first f n ≡ first g n
-unfolding first
-first-same f g zero h = refl
-first-same f g (suc n) h = rw (first-same f g n (λ i l. h i (omega arith)), h n (omega arith)) refl
 
 -- ---- counts and sums
 

@@ -1,44 +1,24 @@
--- `rules::conflicts::still_clear` meets its contract: only the last way out can say yes, and then both rows are the same. Assumes nothing.
-use mathlib.Core.Bool.{false≢true}
+-- `rules::conflicts::still_clear` meets its contract: where all minutes are the same none changed, and either way no train with other minutes is in
+-- conflict.
 use native.Mathlib.Omega.{arith}
-use borrow.Author.Tests.{not-false}
 use borrow.Author.Needs.{needs}
+use Rattle.rules.specs.ScanningLaws.{same-changed, changed-clear}
 use Rattle.rules.proofs.conflicts.still_clear.Statement.{statement}
 use Rattle.rules.proofs.conflicts.still_clear.Tie as tie
 
+same-on-requires : tie.Need-same-on-requires
+same-on-requires c κs = search needs
+
 returns : tie.Need-returns
-returns c e = absurd (false≢true e)
+returns c _ =
+    changed-clear _ _ _ _ _ _ (c .before .before .before .before .before .pre .5)
+    (same-changed _ _ _ _ _ _ (omega arith) (c .before .same-on .ensures (c .if1 .taken)))
 
-mul-same-row : tie.Need-mul-same-row
-mul-same-row c = search needs
-
-same-row-requires : tie.Need-same-row-requires
-same-row-requires c κs = search needs
+changed-apart-requires : tie.Need-changed-apart-requires
+changed-apart-requires c κs = search needs
 
 returns-2 : tie.Need-returns-2
-returns-2 c e = absurd (false≢true e)
-
-mul-same-row-2 : tie.Need-mul-same-row-2
-mul-same-row-2 c = search needs
-
-add-same-row : tie.Need-add-same-row
-add-same-row c = search needs
-
-same-row-requires-2 : tie.Need-same-row-requires-2
-same-row-requires-2 c κs = search needs
-
-returns-3 : tie.Need-returns-3
-returns-3 c e = (omega arith, (c .before .before .same-row .ensures (not-false _ (c .before .if2 .left)), c .same-row2 .ensures e))
+returns-2 c e = changed-clear _ _ _ _ _ _ (c .before .before .before .before .before .before .pre .5) (c .changed-apart .ensures e)
 
 pub still-clear-spec : {M : Type 1} → statement M
-still-clear-spec =
-    tie.close
-    (tie.spec
-    returns
-    mul-same-row
-    same-row-requires
-    returns-2
-    mul-same-row-2
-    add-same-row
-    same-row-requires-2
-    returns-3)
+still-clear-spec = tie.close (tie.spec same-on-requires returns changed-apart-requires returns-2)
