@@ -140,4 +140,5 @@ pub record Shaped (marks t ds : List ℕ) : Type 0 where
   pub rest-most : (e : ℕ) → UsedLeg marks t ds e → restIn t e ≤ 4800
   pub rest-falls : (e : ℕ) → UsedLeg marks t ds e → Ends t e ⊎ GoesOn t e (nextIn t e)
   pub beside-used : (e j : ℕ) → UsedLeg marks t ds e → j < 12 → inMask (getD marks e 0) j ≡ true → UsedLeg marks t ds (beside e j)
-  pub comes-used : (e j : ℕ) → UsedLeg marks t ds e → j < 12 → inMask (getD marks (leaving ds e) 0) j ≡ true → UsedLeg marks t ds (comesOn ds (stationOf ds e) j)
+  pub comes-used : (e j : ℕ) → UsedLeg marks t ds e → j < 12 → inMask (getD marks (leaving ds e) 0) j ≡ true →
+      UsedLeg marks t ds (comesOn ds (stationOf ds e) j)

@@ -31,13 +31,16 @@ pub mod LegTimesLaws
 pub mod RaisingLaws
 pub mod CostLaws
 pub mod Lifting
+pub mod RaisedPaths
 pub mod Prospects
 pub mod LiftingLaws
+pub mod SpreadingLaws
 pub mod ServingLaws
 pub mod ProspectsLaws
 pub mod StoreLaws
 pub mod RowLaws
 pub mod OnwardLaws
+pub mod RaisedPathsLaws
 pub mod ChoosingLaws
 pub mod TidyPlans
 pub mod TidyPlansLaws

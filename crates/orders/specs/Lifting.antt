@@ -4,7 +4,7 @@ use mathlib.Core.Path.{_≡_}
 use mathlib.Core.Logic.{_⊎_}
 use mathlib.Core.List.{List}
 use lib.ListN.{length, getD}
-use Rattle.orders.specs.NoLater.{_⊑_, WithinDays}
+use Rattle.orders.specs.NoLater.{_⊑_, WithinDays, slack}
 use Rattle.orders.specs.Tables.{runIn, costIn}
 use Rattle.orders.specs.Raising.{Kept, KeepsAll, Nothing, Reach, Raised, NoneFor}
 use Rattle.orders.specs.LegGraph.{LegArc, runs, slow, next, depart, arrive, after, gone, UsedLeg, Used, legGraph, InLimits, Shaped}
@@ -89,6 +89,25 @@ pub record Followed (Due : LegArc → Type 0) (marks t ds : List ℕ) (src cut :
   pub settled : Alive r → Settled t ds cut n r
   pub legs : Alive r → LegsKept marks t ds n
   pub none : r ≡ 4294967295 → NoneFor (legGraph marks t ds) (InLimits t ds) (costIn t) cut src Any m
+
+-- ---- raising under way
+
+-- the minutes rose from m to n, which cost r; of the arcs T is to do
+pub record Going (marks t ds : List ℕ) (src cut : ℕ) (H : List ℕ → Type 0) (D T : LegArc → Type 0) (m n : List ℕ) (r : ℕ) : Type 0 where
+  pub raised : Raised (legGraph marks t ds) src H D T m n
+  pub settled : Settled t ds cut n r
+  pub legs : LegsKept marks t ds n
+
+-- no solution from m
+abbrev pub NoWay : List ℕ → List ℕ → List ℕ → ℕ → ℕ → (List ℕ → Type 0) → List ℕ → Type 0
+NoWay marks t ds src cut H m = NoneFor (legGraph marks t ds) (InLimits t ds) (costIn t) cut src H m
+
+-- after the stores: leg e is where it was asked to be, and T is to do
+pub record Stepped (marks t ds : List ℕ) (T : LegArc → Type 0) (src cut e v w : ℕ) (m n : List ℕ) (c : ℕ) : Type 0 where
+  pub going : Going marks t ds src cut (Asks src e v w m) (Nothing (legGraph marks t ds)) T m n c
+  pub dep : v ≤ getD n e 0
+  pub arr : w ≤ getD n (176 + e) 0
+  pub less : slack n < slack m
 
 -- ---- a choice
 

@@ -4,24 +4,13 @@ use mathlib.Core.Path.{_≡_, refl, _∙_, subst⁻¹}
 use mathlib.Core.Logic.{_⊎_, inl}
 use mathlib.Core.List.{List}
 use native.Mathlib.Omega.{arith}
-use lib.ListN.{getD}
 use Rattle.orders.specs.NoLater.{slack}
 use Rattle.orders.specs.NoLaterLaws.{slack-le}
 use Rattle.orders.specs.Tables.{costIn}
-use Rattle.orders.specs.Raising.{Kept, Nothing, Raised, NoneFor}
-use Rattle.orders.specs.RaisingLaws.{raised-start, raised-then, raised-skip, none-then}
+use Rattle.orders.specs.Raising.{Kept, Nothing, Solves}
+use Rattle.orders.specs.RaisingLaws.{raised-start, raised-onto, raised-then, raised-skip, none-then}
 use Rattle.orders.specs.LegGraph.{LegArc, UsedLeg, Used, legGraph, InLimits}
-use Rattle.orders.specs.Lifting.{Alive, LegsKept, Ready, Settled, Asks, Any, Lifted, Followed}
-
--- the minutes rose from m to n, which cost r; of the arcs T is to do
-pub record Going (marks t ds : List ℕ) (src cut : ℕ) (H : List ℕ → Type 0) (D T : LegArc → Type 0) (m n : List ℕ) (r : ℕ) : Type 0 where
-  pub raised : Raised (legGraph marks t ds) src H D T m n
-  pub settled : Settled t ds cut n r
-  pub legs : LegsKept marks t ds n
-
--- no solution from m
-abbrev pub NoWay : List ℕ → List ℕ → List ℕ → ℕ → ℕ → (List ℕ → Type 0) → List ℕ → Type 0
-NoWay marks t ds src cut H m = NoneFor (legGraph marks t ds) (InLimits t ds) (costIn t) cut src H m
+use Rattle.orders.specs.Lifting.{Alive, Ready, Asks, Any, Lifted, Followed, Going, NoWay, Stepped}
 
 module _ (marks t ds : List ℕ) where
   pub ready-leg : (m : List ℕ) (e f cost cut : ℕ) → Ready m marks t ds e cost cut → UsedLeg marks t ds f → Ready m marks t ds f cost cut
@@ -94,7 +83,7 @@ module _ (marks t ds : List ℕ) where
 
     -- a call follows that does D′ of it
     module _ (D′ : LegArc → Type 0) (n′ : List ℕ) (r : ℕ) (f : Followed D′ marks t ds src cut n n′ r) where
-      going-then : (T′ : LegArc → Type 0) → ((a : LegArc) → Used marks t ds a → T a → D′ a ⊎ T′ a) → Alive r → Going marks t ds src cut H D T′ m n′ r
+      pub going-then : (T′ : LegArc → Type 0) → ((a : LegArc) → Used marks t ds a → T a → D′ a ⊎ T′ a) → Alive r → Going marks t ds src cut H D T′ m n′ r
       going-then T′ part a =
           record {
             raised = raised-then (legGraph marks t ds) src H D T m n (g .raised) Any D′ T′ n′ part (f .raised a) (λ y s. omega arith);
@@ -102,7 +91,7 @@ module _ (marks t ds : List ℕ) where
             legs = f .legs a;
           }
 
-      going-dead : r ≡ 4294967295 → NoWay marks t ds src cut H m
+      pub going-dead : r ≡ 4294967295 → NoWay marks t ds src cut H m
       going-dead q = none-then (legGraph marks t ds) src H D T m n (g .raised) (InLimits t ds) (costIn t) cut Any (f .none q) (λ y s. omega arith)
 
   -- nothing is to do any more
@@ -116,41 +105,47 @@ module _ (marks t ds : List ℕ) where
         none = λ q. absurd (omega (arith, g .settled .cost-in));
       }
 
-  -- ---- `lift` after its stores: leg e is where it was asked to be, and T is to do
+  -- ---- after stores: leg e is where it was asked to be, and T is to do
 
-  pub record Stepped (T : LegArc → Type 0) (src cut e v w : ℕ) (m n : List ℕ) (c : ℕ) : Type 0 where
-    pub going : Going marks t ds src cut (Asks src e v w m) (Nothing (legGraph marks t ds)) T m n c
-    pub dep : v ≤ getD n e 0
-    pub arr : w ≤ getD n (176 + e) 0
-    pub less : slack n < slack m
-
-  module _ (T : LegArc → Type 0) (src cut e v w : ℕ) (m n : List ℕ) (c : ℕ) (g : Stepped T src cut e v w m n c) where
+  module _ (T : LegArc → Type 0) (src cut e v w : ℕ) (m n : List ℕ) (c : ℕ) (g : Stepped marks t ds T src cut e v w m n c) where
     pub stepped-ready : (cost : ℕ) → Ready m marks t ds e cost cut → Ready n marks t ds e c cut
     stepped-ready cost r = going-ready src cut _ _ T m n c (g .going) e e cost r (r .leg)
 
-    module _ (D : LegArc → Type 0) (n′ : List ℕ) (r : ℕ) (f : Followed D marks t ds src cut n n′ r) where
-      pub stepped-then : (T′ : LegArc → Type 0) → ((a : LegArc) → Used marks t ds a → T a → D a ⊎ T′ a) → Alive r → Stepped T′ src cut e v w m n′ r
-      stepped-then T′ part a =
+    -- what is to do is kept already, or part of less
+    pub stepped-skip : (T′ : LegArc → Type 0) → ((a : LegArc) → Used marks t ds a → T a → Kept (legGraph marks t ds) n a ⊎ T′ a) →
+        Stepped marks t ds T′ src cut e v w m n c
+    stepped-skip T′ f = record { going = going-skip src cut _ _ T m n c (g .going) T′ f; dep = g .dep; arr = g .arr; less = g .less }
+
+    -- the stores of leg x follow, which leave T₂; what is to do then is T′
+    module _ (x p q : ℕ) (asks : (y : List ℕ) → Solves (legGraph marks t ds) src n y → Asks src x p q n y) where
+      pub stepped-onto : (T₂ T′ : LegArc → Type 0) (n′ : List ℕ) (r : ℕ) → Stepped marks t ds T₂ src cut x p q n n′ r →
+          ((a : LegArc) → Used marks t ds a → T a → Kept (legGraph marks t ds) n′ a ⊎ T′ a) → ((a : LegArc) → T₂ a → T′ a) →
+          Stepped marks t ds T′ src cut e v w m n′ r
+      stepped-onto T₂ T′ n′ r h part more =
           record {
-            going = going-then src cut _ _ T m n c (g .going) D n′ r f T′ part a;
-            dep = omega (arith, g .dep, f .raised a .grown .up e);
-            arr = omega (arith, g .arr, f .raised a .grown .up (176 + e));
-            less = omega (arith, g .less, slack-le n n′ (f .raised a .grown .size) (f .raised a .grown .up));
+            going = record {
+              raised = raised-onto (legGraph marks t ds) src _ _ T m n (g .going .raised) _ _ T₂ T′ n′ (h .going .raised) asks part more;
+              settled = h .going .settled;
+              legs = h .going .legs;
+            };
+            dep = omega (arith, g .dep, h .going .raised .grown .up e);
+            arr = omega (arith, g .arr, h .going .raised .grown .up (176 + e));
+            less = omega (arith, g .less, h .less);
           }
 
-      pub stepped-dead : (n″ : List ℕ) → r ≡ 4294967295 → Lifted marks t ds src cut e v w m n″ 4294967295
-      stepped-dead n″ q = lifted-dead src cut e v w m n″ (going-dead src cut _ _ T m n c (g .going) D n′ r f q)
+      pub stepped-none : NoWay marks t ds src cut (Asks src x p q n) n → NoWay marks t ds src cut (Asks src e v w m) m
+      stepped-none h = none-then (legGraph marks t ds) src _ _ T m n (g .going .raised) (InLimits t ds) (costIn t) cut _ h asks
 
-  pub stepped-last : (D : LegArc → Type 0) (src cut e v w : ℕ) (m n : List ℕ) (c : ℕ) → Stepped D src cut e v w m n c →
-      (n′ : List ℕ) (r : ℕ) → Followed D marks t ds src cut n n′ r → Lifted marks t ds src cut e v w m n′ r
-  stepped-last D src cut e v w m n c g n′ r f =
-      record {
-        raised = λ a. last a .going .raised;
-        there = λ a. (last a .dep, last a .arr);
-        settled = λ a. last a .going .settled;
-        legs = λ a. last a .going .legs;
-        none = λ q. going-dead src cut _ _ D m n c (g .going) D n′ r f q;
-      }
-    where
-      last : Alive r → Stepped (Nothing (legGraph marks t ds)) src cut e v w m n′ r
-      last a = stepped-then D src cut e v w m n c g D n′ r f (Nothing (legGraph marks t ds)) (λ a u x. inl x) a
+    -- a call follows that does all of it, or finds no way
+    pub stepped-last : (n′ : List ℕ) (r : ℕ) → Followed T marks t ds src cut n n′ r → Lifted marks t ds src cut e v w m n′ r
+    stepped-last n′ r f =
+        record {
+          raised = λ a. last a .raised;
+          there = λ a. (omega (arith, g .dep, f .raised a .grown .up e), omega (arith, g .arr, f .raised a .grown .up (176 + e)));
+          settled = f .settled;
+          legs = f .legs;
+          none = λ q. going-dead src cut _ _ T m n c (g .going) T n′ r f q;
+        }
+      where
+        last : Alive r → Going marks t ds src cut (Asks src e v w m) (Nothing (legGraph marks t ds)) (Nothing (legGraph marks t ds)) m n′ r
+        last a = going-then src cut _ _ T m n c (g .going) T n′ r f (Nothing (legGraph marks t ds)) (λ a u x. inl x) a

@@ -37,18 +37,22 @@ grown-then G D T T′ m n n′ g h =
     pass a u (inl k) = h .stays a u k
     pass a u (inr t) = h .due a u t
 
--- raising that leaves nothing to do does its part of what is due
-grown-part : (G : Graph) (D T T′ : G .Arc → Type 0) (m n : List ℕ) →
-    ((a : G .Arc) → G .Used a → T a → D a ⊎ T′ a) → Grown G D (Nothing G) m n → Grown G T T′ m n
-grown-part G D T T′ m n f g =
+-- T may be due to a raising that leaves T₂ to do, where each arc of T is kept after it or in T′, and T′ has all of T₂
+grown-onto : (G : Graph) (D T T₂ T′ : G .Arc → Type 0) (m n : List ℕ) → Grown G D T₂ m n →
+    ((a : G .Arc) → G .Used a → T a → Kept G n a ⊎ T′ a) → ((a : G .Arc) → T₂ a → T′ a) → Grown G T T′ m n
+grown-onto G D T T₂ T′ m n g f more =
     record {
       size = g .size;
       up = g .up;
       within = g .within;
-      due = λ a u t. ⊎-elim (λ d. inl (done (g .due a u d))) (λ r. inr r) (f a u t);
-      stays = λ a u k. inl (done (g .stays a u k));
-      rose = λ a u l. inl (done (g .rose a u l));
+      due = f;
+      stays = λ a u k. pass a (g .stays a u k);
+      rose = λ a u l. pass a (g .rose a u l);
     }
+  where
+    pass : (a : G .Arc) → Kept G n a ⊎ T₂ a → Kept G n a ⊎ T′ a
+    pass a (inl k) = inl k
+    pass a (inr t) = inr (more a t)
 
 -- what is to do is kept already, or part of less
 grown-skip : (G : Graph) (T T′ : G .Arc → Type 0) (m : List ℕ) → WithinDays m →
@@ -91,16 +95,24 @@ module _ (G : Graph) (src : ℕ) (H : List ℕ → Type 0) (D T : G .Arc → Typ
             (p .first y s h (G .from a));
       }
 
-  -- a raising follows that does D′ of what is to do and leaves T′
+  -- a raising follows that leaves T₂; what is to do then is T′
+  pub raised-onto :
+      (H′ : List ℕ → Type 0) (D′ T₂ T′ : G .Arc → Type 0) (n′ : List ℕ) → Raised G src H′ D′ T₂ n n′ → ((y : List ℕ) → Solves G src n y → H′ y) →
+      ((a : G .Arc) → G .Used a → T a → Kept G n′ a ⊎ T′ a) → ((a : G .Arc) → T₂ a → T′ a) → Raised G src H D T′ m n′
+  raised-onto H′ D′ T₂ T′ n′ q f part more =
+      record {
+        grown = grown-then G D T T′ m n n′ (p .grown) (grown-onto G D′ T T₂ T′ n n′ (q .grown) part more);
+        source = q .source ∙ p .source;
+        first = λ y s h. first-more src m n n′ y (p .source) (p .first y s h) (q .first y (solves-on y s h) (f y (solves-on y s h)));
+      }
+
+  -- a raising follows that does D′ of what is to do and leaves nothing of its own
   pub raised-then :
       (H′ : List ℕ → Type 0) (D′ T′ : G .Arc → Type 0) (n′ : List ℕ) → ((a : G .Arc) → G .Used a → T a → D′ a ⊎ T′ a) →
       Raised G src H′ D′ (Nothing G) n n′ → ((y : List ℕ) → Solves G src n y → H′ y) → Raised G src H D T′ m n′
   raised-then H′ D′ T′ n′ part q f =
-      record {
-        grown = grown-then G D T T′ m n n′ (p .grown) (grown-part G D′ T T′ n n′ part (q .grown));
-        source = q .source ∙ p .source;
-        first = λ y s h. first-more src m n n′ y (p .source) (p .first y s h) (q .first y (solves-on y s h) (f y (solves-on y s h)));
-      }
+      raised-onto H′ D′ (Nothing G) T′ n′ q f
+      (λ a u t. ⊎-elim (λ d. inl (done (q .grown .due a u d))) (λ r. inr r) (part a u t)) (λ a t. absurd t)
 
   pub raised-skip : (T′ : G .Arc → Type 0) → ((a : G .Arc) → G .Used a → T a → Kept G n a ⊎ T′ a) → Raised G src H D T′ m n
   raised-skip T′ f =

@@ -11,8 +11,8 @@ use Rattle.orders.specs.BitsLaws.{mask-none}
 use Rattle.orders.specs.Raising.{Kept, Nothing}
 use Rattle.orders.specs.RaisingLaws.{le-or-lt}
 use Rattle.orders.specs.LegGraph.{LegArc, runs, slow, next, depart, arrive, after, gone, stationOf, leaving, comesOn, UsedLeg, Used, legGraph}
-use Rattle.orders.specs.Lifting.{Alive, Ready, Any, Lifted, Followed, After, Gone, Follows, Comes}
-use Rattle.orders.specs.LiftingLaws.{Going, going-start, going-as, going-skip, followed, followed-dead}
+use Rattle.orders.specs.Lifting.{Alive, Ready, Any, Lifted, Followed, After, Gone, Going, Follows, Comes}
+use Rattle.orders.specs.LiftingLaws.{going-start, going-as, going-skip, followed, followed-dead}
 use Rattle.orders.specs.ServingLaws.{Serves, serves-dead, serves-raised, serves-still}
 
 abbrev trainOf : LegArc → ℕ

@@ -31,8 +31,8 @@ use Rattle.orders.specs.LegGraph.{
   InLimits,
 }
 use Rattle.orders.specs.LegTimes.{GoesBehind}
-use Rattle.orders.specs.Lifting.{Alive, Asks, Lifted, Onward, Follows, Comes}
-use Rattle.orders.specs.LiftingLaws.{Going, NoWay, going-skip}
+use Rattle.orders.specs.Lifting.{Alive, Asks, Lifted, Onward, Going, NoWay, Stepped, Follows, Comes}
+use Rattle.orders.specs.LiftingLaws.{going-skip}
 
 -- a fact of leg e and train j is one of whatever has their numbers
 pub at-pair : (P : ℕ → ℕ → Type 0) (e j x i : ℕ) → x ≡ e → i ≡ j → P e j → P x i
@@ -75,6 +75,14 @@ module _ (marks t ds : List ℕ) where
 
     pub serves-there : v ≤ getD n f 0 → w ≤ getD n (176 + f) 0 → (a : LegArc) → Used marks t ds a → Here a → Kept G n a
     serves-there p q a u x = kept-by n (p, q) a (omega arith) (h .ends a u x)
+
+    pub serves-stepped : (T : LegArc → Type 0) (src cut : ℕ) (n′ : List ℕ) (r : ℕ) → Stepped marks t ds T src cut f v w n n′ r →
+        (a : LegArc) → Used marks t ds a → Here a → Kept G n′ a ⊎ T a
+    serves-stepped T src cut n′ r l a u x =
+        ⊎-elim
+        (λ k. inl (kept-by n′ (l .dep, l .arr) a k (h .ends a u x)))
+        (λ k. l .going .raised .grown .rose a u k)
+        (le-or-lt (getD n′ (G .from a) 0) (getD n (G .from a) 0))
 
     pub serves-lifted : (src cut : ℕ) (n′ : List ℕ) (r : ℕ) → Lifted marks t ds src cut f v w n n′ r → Alive r →
         (a : LegArc) → Used marks t ds a → Here a → Kept G n′ a

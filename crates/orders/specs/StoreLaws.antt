@@ -1,4 +1,4 @@
--- Laws of the two stores of `lift`: one leg departs and arrives later. What leaves the leg is to do then; or there is no way.
+-- Laws of the two stores of `raise_leg`: one leg departs and arrives later. What leaves the leg is to do then; or there is no way.
 use Prim.Native.Nat.{ℕ, _+_, _≤_, _<_}
 use mathlib.Core.Path.{_≡_, refl, sym, _∙_, ap, subst⁻¹}
 use mathlib.Core.Logic.{_⊎_, inl, inr, ⊎-elim}
@@ -16,12 +16,8 @@ use Rattle.orders.specs.Raising.{Graph, Kept, KeepsAll, Solves, Reach, F
 use Rattle.orders.specs.RaisingLaws.{first-below}
 use Rattle.orders.specs.LegGraph.{LegArc, runs, slow, next, depart, arrive, after, gone, Used, legGraph, InLimits}
 use Rattle.orders.specs.LegTimes.{Departs, Arrives, SourceRises, moreCost}
-use Rattle.orders.specs.Lifting.{LegsKept, Ready, Asks, Lifted, Onward, After, Gone}
-use Rattle.orders.specs.LiftingLaws.{Stepped, lifted-dead}
-
--- what leaves leg e, in the order in which `lift` sees to it
-abbrev pub Outward : ℕ → LegArc → Type 0
-Outward e a = Onward e a ⊎ (After e a ⊎ Gone e a)
+use Rattle.orders.specs.Lifting.{LegsKept, Ready, Asks, NoWay, Stepped}
+use Rattle.orders.specs.RaisedPaths.{Outward, LegRaised}
 
 module _ (marks t ds : List ℕ) where
   abbrev G : Graph
@@ -99,20 +95,23 @@ module _ (marks t ds : List ℕ) where
 
     -- ---- no way: past the limit, back at the source, past the cut
 
-    pub store-late : (n : List ℕ) (limit : ℕ) → limit ≡ limitIn t e → limit < a → Lifted marks t ds src cut e v w m n 4294967295
+    no-way : (n : List ℕ) → NoWay marks t ds src cut (Asks src e v w m) m → LegRaised marks t ds src cut e v w m n 4294967295
+    no-way n h = record { stepped = λ q. absurd (q refl); none = λ _. h }
+
+    pub store-late : (n : List ℕ) (limit : ℕ) → limit ≡ limitIn t e → limit < a → LegRaised marks t ds src cut e v w m n 4294967295
     unfolding NoneFor
     store-late n limit q l =
-        lifted-dead marks t ds src cut e v w m n
+        no-way n
         (λ y s h within limits cheap. ⊎-elim
         (λ z. omega (arith, r .limits e (r .leg)))
         (λ z. omega (arith, s .above src, limits e (r .leg)))
         (reach-arr y s h))
 
     pub store-back : (n : List ℕ) (b : Bool) → SourceRises src e (getD m e 0) d (getD m (176 + e) 0) a b → b ≡ true →
-        Lifted marks t ds src cut e v w m n 4294967295
+        LegRaised marks t ds src cut e v w m n 4294967295
     unfolding NoneFor
     store-back n b k q =
-        lifted-dead marks t ds src cut e v w m n
+        no-way n
         (λ y s h within limits cheap. ⊎-elim
         (λ o. ⊎-elim (λ z. omega arith) (λ z. omega (arith, ap (λ (i : ℕ). getD y i 0) (o .0), ap (λ (i : ℕ). getD m i 0) (o .0))) (reach-dep y s h))
         (λ o. ⊎-elim (λ z. omega arith) (λ z. omega (arith, ap (λ (i : ℕ). getD y i 0) (o .0), ap (λ (i : ℕ). getD m i 0) (o .0))) (reach-arr y s h))
@@ -128,10 +127,10 @@ module _ (marks t ds : List ℕ) where
       cost-here : c ≡ costIn t m₁
       cost-here = omega (arith, store-cost)
 
-      pub store-dear : (n : List ℕ) → cut < c → Lifted marks t ds src cut e v w m n 4294967295
+      pub store-dear : (n : List ℕ) → cut < c → LegRaised marks t ds src cut e v w m n 4294967295
       unfolding NoneFor
       store-dear n l =
-          lifted-dead marks t ds src cut e v w m n
+          no-way n
           (λ y s h within limits cheap. omega (arith, cost-here, cost-grows t m₁ y (first-below G src m m₁ y s (store-first y s h))))
 
       -- ---- the store
@@ -211,8 +210,8 @@ module _ (marks t ds : List ℕ) where
             (λ z. z)
             (cases src)
 
-        pub store : (getD m e 0 < v) ⊎ (getD m (176 + e) 0 < w) → Stepped marks t ds (Outward e) src cut e v w m m₁ c
-        store rise =
+        stepped : (getD m e 0 < v) ⊎ (getD m (176 + e) 0 < w) → Stepped marks t ds (Outward e) src cut e v w m m₁ c
+        stepped rise =
             record {
               going = record {
                 raised = record {
@@ -237,3 +236,6 @@ module _ (marks t ds : List ℕ) where
                   (λ q. slack-less m m₁ (176 + e) size up within (omega (arith, at-arr, arr .asked)))
                   rise;
             }
+
+        pub store : (getD m e 0 < v) ⊎ (getD m (176 + e) 0 < w) → LegRaised marks t ds src cut e v w m m₁ c
+        store rise = record { stepped = λ _. stepped rise; none = λ q. absurd (omega (arith, r .cut-in)) }

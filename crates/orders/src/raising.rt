@@ -7,7 +7,8 @@ ghost use Prim.Native.Nat.{_+_, _≤_, _<_};
 ghost use lib.ListN.{getD};
 ghost use Rattle.orders.specs.Bits.{inMask};
 ghost use Rattle.orders.specs.LegGraph.{leaving};
-ghost use Rattle.orders.specs.Lifting.{Ready, Lifted, Followed, Onward, After, Gone, Choosing, Follows, Comes, Chose};
+ghost use Rattle.orders.specs.Lifting.{Ready, Lifted, Followed, After, Gone, Choosing, Follows, Comes, Chose};
+ghost use Rattle.orders.specs.RaisedPaths.{LegRaised, PathRaised};
 use crate::arcs::coming_leg;
 use crate::arcs::leaving_row;
 use crate::arcs::source_of;
@@ -26,8 +27,8 @@ use crate::times::source_rises;
 // No such minutes.
 pub const DEAD: u32 = 4294967295;
 
-// Raises leg e to depart at v and arrive at w or later, and all that follows.
-fn lift(
+// Raises leg e to depart at v and arrive at w or later, and nothing else.
+fn raise_leg(
     m: &mut [u16; 352],
     marks: &[u16; 368],
     t: &[u16; 1456],
@@ -40,7 +41,7 @@ fn lift(
     cut: u32,
 ) -> u32
     requires { ⌜ Ready (now m) (now marks) (now t) (now ds) e cost cut × ((getD (now m) e 0 < v) ⊎ (getD (now m) (176 + e) 0 < w)) × (v ≤ 20000) × (w ≤ 20000) ⌝ }
-    ensures { λ r. ⌜ Lifted (now (marks .entry)) (now (t .entry)) (now (ds .entry)) src cut e v w (now (m .entry)) (now (m .exit)) r ⌝ }
+    ensures { λ r. ⌜ LegRaised (now (marks .entry)) (now (t .entry)) (now (ds .entry)) src cut e v w (now (m .entry)) (now (m .exit)) r ⌝ }
 {
     let d = m[e];
     let a = m[176 + e];
@@ -59,40 +60,87 @@ fn lift(
     }
     m[e] = departure;
     m[176 + e] = arrival;
-    let c = onward(m, marks, t, ds, e, src, c, cut);
-    if c == DEAD {
-        return DEAD;
-    }
-    let c = followers(m, marks, t, ds, e, src, c, cut);
-    if c == DEAD {
-        return DEAD;
-    }
-    comers(m, marks, t, ds, e, src, c, cut)
+    c
 }
 
-// Raises the next leg of the train of leg e.
-fn onward(
+// How many legs of a path were raised, and what the minutes cost.
+pub struct Path {
+    pub legs: usize,
+    pub cost: u32,
+}
+
+// Raises leg e to depart at v and arrive at w or later, and the legs after it on the train's path as far as they must be later.
+fn raise_path(
     m: &mut [u16; 352],
     marks: &[u16; 368],
     t: &[u16; 1456],
     ds: &[u16; 176],
     e: usize,
+    v: u16,
+    w: u16,
+    src: usize,
+    cost: u32,
+    cut: u32,
+) -> Path
+    requires { ⌜ Ready (now m) (now marks) (now t) (now ds) e cost cut × ((getD (now m) e 0 < v) ⊎ (getD (now m) (176 + e) 0 < w)) × (v ≤ 20000) × (w ≤ 20000) ⌝ }
+    ensures { λ r. ⌜ PathRaised (now (marks .entry)) (now (t .entry)) (now (ds .entry)) src cut e v w (now (m .entry)) (now (m .exit)) r ⌝ }
+{
+    let mut c = raise_leg(m, marks, t, ds, e, v, w, src, cost, cut);
+    let mut f = e;
+    let mut legs: usize = 1;
+    while c != DEAD {
+        let next = next_at(t, f);
+        if next == f {
+            return Path { legs, cost: c };
+        }
+        let ready = m[176 + f] + stop_at(t, f);
+        if m[next] >= ready {
+            return Path { legs, cost: c };
+        }
+        c = raise_leg(m, marks, t, ds, next, ready, 0, src, c, cut);
+        f = next;
+        legs = legs + 1;
+    }
+    Path { legs, cost: DEAD }
+}
+
+// Raises leg e to depart at v and arrive at w or later, and all that follows: the train's own path first, as it ends soonest where it is late, and then
+// leg by leg what goes after it.
+fn lift(
+    m: &mut [u16; 352],
+    marks: &[u16; 368],
+    t: &[u16; 1456],
+    ds: &[u16; 176],
+    e: usize,
+    v: u16,
+    w: u16,
     src: usize,
     cost: u32,
     cut: u32,
 ) -> u32
-    requires { ⌜ Ready (now m) (now marks) (now t) (now ds) e cost cut ⌝ }
-    ensures { λ r. ⌜ Followed (Onward e) (now (marks .entry)) (now (t .entry)) (now (ds .entry)) src cut (now (m .entry)) (now (m .exit)) r ⌝ }
+    requires { ⌜ Ready (now m) (now marks) (now t) (now ds) e cost cut × ((getD (now m) e 0 < v) ⊎ (getD (now m) (176 + e) 0 < w)) × (v ≤ 20000) × (w ≤ 20000) ⌝ }
+    ensures { λ r. ⌜ Lifted (now (marks .entry)) (now (t .entry)) (now (ds .entry)) src cut e v w (now (m .entry)) (now (m .exit)) r ⌝ }
 {
-    let f = next_at(t, e);
-    if f == e {
-        return cost;
+    let path = raise_path(m, marks, t, ds, e, v, w, src, cost, cut);
+    let mut c = path.cost;
+    if c == DEAD {
+        return DEAD;
     }
-    let v = m[176 + e] + stop_at(t, e);
-    if m[f] < v {
-        return lift(m, marks, t, ds, f, v, 0, src, cost, cut);
+    let mut f = e;
+    let mut left = path.legs;
+    while left > 0 {
+        c = followers(m, marks, t, ds, f, src, c, cut);
+        if c == DEAD {
+            return DEAD;
+        }
+        c = comers(m, marks, t, ds, f, src, c, cut);
+        if c == DEAD {
+            return DEAD;
+        }
+        f = next_at(t, f);
+        left = left - 1;
     }
-    cost
+    c
 }
 
 // Raises the trains that go after that of leg e on its segment.
