@@ -1,5 +1,5 @@
 -- A way out of a conflict as the program has it: the choice by its mark and by the leg of the train that goes first.
-use Prim.Native.Nat.{ℕ, _+_, _*_, _-_, _≤_, _<_}
+use Prim.Native.Nat.{ℕ, _+_, _*_, _/_, _%_, _-_, _≤_, _<_}
 use mathlib.Core.Path.{_≡_}
 use mathlib.Core.Bool.{Bool, true, false, cond}
 use mathlib.Core.List.{List, [], _∷_}
@@ -9,7 +9,7 @@ use Rattle.rules.specs.declared.conflicts.SegmentConflict.{SegmentConflict}
 use Rattle.rules.specs.Directions.{way}
 use Rattle.orders.specs.Choices.{Choice, onSegment, atStation}
 use Rattle.orders.specs.Marks.{row, second}
-use Rattle.solver.specs.Ways.{wayOf}
+use Rattle.solver.specs.Ways.{twoOf, wayOf}
 use Rattle.solver.specs.declared.ways.Way.{Way}
 
 -- the leg on which train a leaves its middle station s, by the table of directions
@@ -46,6 +46,12 @@ pub record Steps (conflict : Conflict) (w : ℕ) (r : Way) : Type 0 where
   pub on : 1 ≤ r .step
   pub up-to : w + r .step ≤ 144
   pub none-between : (i : ℕ) → w < i → i < w + r .step → wayOf conflict i ≡ []
+
+-- the same of a station's trains: between the number of two of them and the next there is no pair
+pub record NextPair (mask w r : ℕ) : Type 0 where
+  pub on : 1 ≤ r
+  pub up-to : w + r ≤ 144
+  pub none-between : (i : ℕ) → w < i → i < w + r → twoOf mask (i / 12) (i % 12) ≡ false
 
 -- the numbers of a conflict are those of some line
 abbrev pub InRange : Conflict → Type 0

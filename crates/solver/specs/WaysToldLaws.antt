@@ -1,8 +1,9 @@
 -- Laws of the ways as the program has them: bits of a mask as it writes them, and one law for each way that it returns.
 use Prim.Native.Nat.{ℕ, zero, suc, _+_, _*_, _-_, _/_, _%_, _^_, _≤_, _<_}
 use mathlib.Core.Path.{_≡_, refl, sym, _∙_, ap}
-use mathlib.Core.Bool.{true, false}
+use mathlib.Core.Bool.{Bool, true, false, _&&_, true≢false}
 use mathlib.Core.List.{List, []}
+use native.Mathlib.Decide.{decLt}
 use native.Mathlib.Nat.{mod-eq-of-lt}
 use native.Mathlib.Omega.{arith}
 use lib.Bits.{bitOr}
@@ -14,11 +15,11 @@ use Rattle.rules.specs.declared.conflicts.Conflict.{Conflict}
 use Rattle.rules.specs.declared.conflicts.SegmentConflict.{SegmentConflict}
 use Rattle.rules.specs.declared.conflicts.StationConflict.{StationConflict}
 use Rattle.rules.specs.Directions.{way}
-use Rattle.orders.specs.Bits.{inMask, withBit}
+use Rattle.orders.specs.Bits.{inMask, NextBit, withBit}
 use Rattle.orders.specs.BitsLaws.{bit-shift, withBit-or}
 use Rattle.orders.specs.Choices.{onSegment, atStation}
 use Rattle.solver.specs.Ways.{twoOf, wayOf, wayCount}
-use Rattle.solver.specs.WaysTold.{legOut, Tells, TellsWay, TellsOnSegment, Steps}
+use Rattle.solver.specs.WaysTold.{legOut, Tells, TellsWay, TellsOnSegment, Steps, NextPair}
 use Rattle.solver.specs.declared.ways.Way.{Way}
 
 -- ---- a mask, by shifts
@@ -77,15 +78,71 @@ module _ (ds : List ℕ) (w : ℕ) (r : Way) where
 pub steps-one : (c : Conflict) (w : ℕ) (r : Way) → w < 144 → r .step ≡ 1 → Steps c w r
 steps-one c w r low one = record { on = omega arith; up-to = omega arith; none-between = λ i a b. absurd (omega arith) }
 
--- no train leaves first that is not in the conflict
-row-none : (x : StationConflict) (a i : ℕ) → inMask (x .trains) a ≡ false → i / 12 ≡ a → wayOf (Conflict.AtStation x) i ≡ []
-unfolding wayOf
-row-none x a i out same = rw (same, out) refl
+-- no pair has a train that is not in the mask: the one that leaves, or the one that comes
+none-leaves : (mask i : ℕ) → inMask mask (i / 12) ≡ false → twoOf mask (i / 12) (i % 12) ≡ false
+none-leaves mask i out = rw out refl
 
-pub steps-row : (x : StationConflict) (w : ℕ) (r : Way) → w < 144 → inMask (x .trains) (w / 12) ≡ false → r .step ≡ 12 - w % 12 →
+none-comes : (mask i : ℕ) → inMask mask (i % 12) ≡ false → twoOf mask (i / 12) (i % 12) ≡ false
+none-comes mask i out = rw out (go (inMask mask (i / 12)))
+  where
+    go : (b : Bool) → b && false ≡ false
+    go true = refl
+    go false = refl
+
+-- the lowest train of a mask is not above another of its trains
+pub lowest-most : (mask low a : ℕ) → NextBit mask 0 low → inMask mask a ≡ true → low ≤ a
+lowest-most mask low a l in-it = elim (decLt a low) [
+  | yes h ↦ absurd (true≢false (sym in-it ∙ l .none-between a (omega arith) h))
+  | no h ↦ omega arith
+]
+
+module _ (mask a b next : ℕ) (n : NextBit mask (b + 1) next) where
+  -- the same train leaves, the next one comes
+  pub pair-same : a < 12 → next < 12 → NextPair mask (12 * a + b) (next - b)
+  pair-same low h = record {
+    on = omega arith;
+    up-to = omega arith;
+    none-between = λ i p q. none-comes mask i (n .none-between (i % 12) (omega arith) (omega arith));
+  }
+
+  module _ (row : ℕ) (m : NextBit mask (a + 1) row) (past : 12 ≤ next) where
+    -- none of the trains from b + 1 on comes, and none between a and the next row leaves
+    none-before-row : (i : ℕ) → 12 * a + b < i → i < 12 * row → twoOf mask (i / 12) (i % 12) ≡ false
+    none-before-row i p q = elim (decLt a (i / 12)) [
+      | yes h ↦ none-leaves mask i (m .none-between (i / 12) (omega arith) (omega arith))
+      | no h ↦ none-comes mask i (n .none-between (i % 12) (omega arith) (omega arith))
+    ]
+
+    -- the next train leaves, the lowest one comes
+    pub pair-next-row : (low : ℕ) → NextBit mask 0 low → b < 12 → row < 12 → NextPair mask (12 * a + b) (12 * row + low - (12 * a + b))
+    pair-next-row low l lb h =
+        let most : low ≤ row = lowest-most mask low row l (m .member (omega arith)) in
+        record {
+          on = omega arith;
+          up-to = omega arith;
+          none-between = λ i p q. elim (decLt i (12 * row)) [
+            | yes k ↦ none-before-row i p k
+            | no k ↦ none-comes mask i (l .none-between (i % 12) (omega arith) (omega arith))
+          ];
+        }
+
+    -- no train leaves any more
+    pub pair-last : a < 12 → b < 12 → 12 ≤ row → NextPair mask (12 * a + b) (144 - (12 * a + b))
+    pair-last la lb h = record { on = omega arith; up-to = omega arith; none-between = λ i p q. none-before-row i p (omega arith) }
+
+-- a number that is of no pair has no way
+no-pair : (x : StationConflict) (i : ℕ) → twoOf (x .trains) (i / 12) (i % 12) ≡ false → wayOf (Conflict.AtStation x) i ≡ []
+unfolding wayOf
+no-pair x i e = rw e refl
+
+-- so the next pair is the next number that may have one
+pub steps-pair : (x : StationConflict) (w : ℕ) (r : Way) (n : ℕ) → NextPair (x .trains) (12 * (w / 12) + w % 12) n → r .step ≡ n →
     Steps (Conflict.AtStation x) w r
-steps-row x w r low out is =
-    record { on = omega arith; up-to = omega arith; none-between = λ i a b. row-none x (w / 12) i out (omega arith) }
+steps-pair x w r n h is = record {
+  on = omega arith;
+  up-to = omega arith;
+  none-between = λ i p q. no-pair x i (h .none-between i (omega arith) (omega arith));
+}
 
 -- it is not beyond the ways: on a segment each number has one
 segment-some : (x : SegmentConflict) (w : ℕ) → wayOf (Conflict.OnSegment x) (w + 1) ≡ [] → ⊥

@@ -6,7 +6,8 @@ ghost use lib.ListN.{length};
 ghost use Rattle.rules.specs.declared.conflicts.Conflict.{Conflict as SomeConflict};
 ghost use Rattle.orders.specs.Bits.{inMask, withBit};
 ghost use Rattle.solver.specs.Ways.{twoOf, wayOf, wayCount};
-ghost use Rattle.solver.specs.WaysTold.{legOut, InRange, TellsWay, TellsOnSegment, Steps};
+ghost use Rattle.solver.specs.WaysTold.{legOut, InRange, TellsWay, TellsOnSegment, Steps, NextPair};
+use orders::bits::next_bit;
 use rules::conflicts::Conflict;
 use rules::conflicts::SegmentConflict;
 use rules::conflicts::StationConflict;
@@ -110,6 +111,22 @@ fn segment_way(x: SegmentConflict, w: usize) -> Way
     }
 }
 
+// How far it is from the number of trains a and b to the next that may have a way.
+fn pair_step(mask: u16, a: usize, b: usize) -> usize
+    requires { ⌜ (a < 12) × (b < 12) ⌝ }
+    ensures { λ r. ⌜ NextPair mask (12 * a + b) r ⌝ }
+{
+    let next = next_bit(mask, b + 1);
+    if next < 12 {
+        return next - b;
+    }
+    let row = next_bit(mask, a + 1);
+    if row < 12 {
+        return 12 * row + next_bit(mask, 0) - (12 * a + b);
+    }
+    144 - (12 * a + b)
+}
+
 fn station_way(x: StationConflict, ds: &[u16; 176], w: usize) -> Way
     requires { ⌜ InRange (SomeConflict.AtStation x) × (length (now ds) ≡ 176) × (w < 144) ⌝ }
     ensures { λ r. ⌜ TellsWay (now (ds .entry)) (wayOf (SomeConflict.AtStation x) w) r × Steps (SomeConflict.AtStation x) w r ⌝ }
@@ -117,22 +134,20 @@ fn station_way(x: StationConflict, ds: &[u16; 176], w: usize) -> Way
     let s = x.station;
     let a = w / 12;
     let b = w % 12;
-    if !has_bit(x.trains, a) {
-        return no_way(12 - b);
-    }
+    let step = pair_step(x.trains, a, b);
     if two_of(x.trains, a, b) {
         let row = 176 + (16 * s + a);
         let leg = leg_out(ds, s, a);
         return Way {
             some: true,
-            step: 1,
+            step,
             station: true,
             row,
             leg,
             second: b,
         };
     }
-    no_way(1)
+    no_way(step)
 }
 
 // Way w out of the conflict.
