@@ -16,7 +16,7 @@ const PAIRS: usize = 10;
 /// How many dense lines of each size are planned.
 const WALKS: usize = 5;
 /// How often each of them is planned.
-const WALK_ROUNDS: usize = 5;
+const WALK_ROUNDS: usize = 9;
 /// The fewest and the most plans of their walks.
 const LEAST_PLANS: u64 = 200_000;
 const MOST_PLANS: u64 = 1_000_000;
@@ -109,8 +109,25 @@ fn checking(pairs: &[Pair]) {
     report("check", library, independent);
 }
 
+/// The time of all walks together, in microseconds: each by its best round, and each by its median.
+#[derive(Default)]
+struct Together {
+    library: (f64, f64),
+    independent: (f64, f64),
+}
+
+impl Together {
+    fn add(&mut self, plans: u64, library: (f64, f64), independent: (f64, f64)) {
+        let all = plans as f64;
+        self.library.0 += all * library.0;
+        self.library.1 += all * library.1;
+        self.independent.0 += all * independent.0;
+        self.independent.1 += all * independent.1;
+    }
+}
+
 /// Plans dense lines, from the bytes of the file to those of the timetable.
-fn walking(random: &mut Random, size: (u16, u16)) {
+fn walking(random: &mut Random, size: (u16, u16), together: &mut Together) {
     println!("{} stations, {} trains:", size.0, size.1);
     let mut lent = [0; gaugeviolet::TIMETABLE_BYTES];
     for _ in 0..WALKS {
@@ -128,12 +145,17 @@ fn walking(random: &mut Random, size: (u16, u16)) {
         }
         let library = report_walk("library", walked.plans, library);
         let independent = report_walk("independent", walked.plans, independent);
-        println!(
-            "walk     ratio        best {:8.2}     median {:8.2}",
-            library.0 / independent.0,
-            library.1 / independent.1
-        );
+        report_ratio("ratio", library, independent);
+        together.add(walked.plans, library, independent);
     }
+}
+
+fn report_ratio(of: &str, library: (f64, f64), independent: (f64, f64)) {
+    println!(
+        "walk     {of:11}  best {:8.2}     median {:8.2}",
+        library.0 / independent.0,
+        library.1 / independent.1
+    );
 }
 
 /// Prints the time of a plan, best and median, and returns both in microseconds.
@@ -174,7 +196,10 @@ fn main() {
 
     println!("Dense lines planned, each {WALK_ROUNDS} times.");
     let mut random = Random::new(3);
+    let mut together = Together::default();
     for size in [(6, 8), (8, 9)] {
-        walking(&mut random, size);
+        walking(&mut random, size, &mut together);
     }
+    println!("All of them together:");
+    report_ratio("ratio", together.library, together.independent);
 }
