@@ -1,6 +1,6 @@
 // The line of a railway: its record, the limits of its fields, and its file, read and written.
 ghost use mathlib.Core.Path.{_≡_};
-ghost use Prim.Native.Nat.{_+_, _-_, _≤_, _<_};
+ghost use Prim.Native.Nat.{_+_, _-_, _<_};
 ghost use Rattle.line.specs.Ranges.{station};
 ghost use Rattle.line.specs.Record.{legsBetween};
 use text::Limits;

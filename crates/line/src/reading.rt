@@ -5,7 +5,7 @@ ghost use Rattle.text.specs.Parsed.{mapParsed, many};
 ghost use Rattle.text.specs.Told.{toldEnding};
 ghost use Rattle.text.specs.Lists.{padded};
 ghost use Rattle.line.specs.Record.{noSegment, noTrain, emptyLine};
-ghost use Rattle.line.specs.File.{faultsOn, toldKind, stationLine, letterOf, kindAt, segmentLine, pathAt, headAt, trainWith, trainLine, trainsPart, segmentsPart, stationsPart, fileFrom, lineFile, answered};
+ghost use Rattle.line.specs.File.{faultsOn, toldKind, stationLine, letterOf, kindAt, segmentLine, pathAt, headAt, trainWith, trainLine, trainsPart, segmentsPart, fileFrom, lineFile, answered};
 use crate::Answer;
 use crate::Kind;
 use crate::Line;

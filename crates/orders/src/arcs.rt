@@ -1,7 +1,5 @@
 // What leaves a leg: when another train may go behind it on its segment, and which trains come to its station of departure.
 ghost use mathlib.Core.Path.{_≡_};
-ghost use mathlib.Core.Logic.{_⊎_};
-ghost use mathlib.Core.Bool.{true, false};
 ghost use Prim.Native.Nat.{_≤_, _<_};
 ghost use lib.ListN.{length};
 ghost use Rattle.orders.specs.LegGraph.{stationOf, leaving, comesOn};

@@ -1,6 +1,6 @@
 // Free arrival and weighted delay.
 ghost use mathlib.Core.Path.{_≡_};
-ghost use Prim.Native.Nat.{ℕ, _+_, _*_, _≤_, _<_};
+ghost use Prim.Native.Nat.{_+_, _*_, _<_};
 ghost use lib.ListN.{length};
 ghost use Rattle.line.specs.Within.{Within};
 ghost use Rattle.rules.specs.Paths.{Routed};

@@ -1,11 +1,11 @@
 // The first rule that some minutes break, in number order, with its lowest train, segment or station.
 ghost use mathlib.Core.Path.{_≡_};
-ghost use Prim.Native.Nat.{ℕ, _+_, _*_, _≤_, _<_};
+ghost use Prim.Native.Nat.{_+_, _≤_, _<_};
 ghost use lib.ListN.{length};
 ghost use Rattle.line.specs.Record.{legsBetween, legsOf};
 ghost use Rattle.line.specs.Within.{Within};
 ghost use Rattle.rules.specs.Paths.{Routed, segmentBetween};
-ghost use Rattle.rules.specs.Tests.{departureOf, arrivalOf, startsRight, runsRight, stopsRight, endsRight, keepsRule};
+ghost use Rattle.rules.specs.Tests.{departureOf, arrivalOf, runsRight, stopsRight, keepsRule};
 ghost use Rattle.rules.specs.Breaches.{trainBreach, placeOf, conflictBreach, breachOf};
 use crate::conflicts::Conflict;
 use crate::conflicts::arrives_on;

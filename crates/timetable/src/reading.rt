@@ -8,7 +8,7 @@ ghost use Rattle.text.specs.Told.{toldField, toldEnding};
 ghost use Rattle.line.specs.Record.{legsOf};
 ghost use Rattle.line.specs.Within.{Within};
 ghost use Rattle.rules.specs.Paths.{Routed};
-ghost use Rattle.rules.specs.Orders.{listed, listCount};
+ghost use Rattle.rules.specs.Orders.{listed};
 ghost use Rattle.timetable.specs.Reading.{afterField, faultsOn, legsAt, trainsAt, minutesAt, ownCountAt, listAt, restAt, timetableFile};
 ghost use Rattle.timetable.specs.Told.{restOf, timetableOf};
 use line::Line;

@@ -2,7 +2,7 @@
 ghost use mathlib.Core.Path.{_≡_};
 ghost use mathlib.Core.List.{[], map};
 ghost use Prim.Native.Nat.{_+_, _≤_, _<_};
-ghost use lib.ListN.{length, take};
+ghost use lib.ListN.{length};
 ghost use Rattle.text.specs.Each.{eachThen};
 ghost use Rattle.text.specs.Splice.{Put};
 ghost use Rattle.text.specs.Lend.{Lent};
@@ -11,7 +11,7 @@ ghost use Rattle.line.specs.Within.{Within};
 ghost use Rattle.rules.specs.Paths.{Routed, EachTrain};
 ghost use Rattle.rules.specs.Rules.{InDays};
 ghost use Rattle.rules.specs.Orders.{listed, listsIn};
-ghost use Rattle.timetable.specs.Spell.{legsText, trainsText, minutesText, namesText, listText, numbers, restText, timetableText};
+ghost use Rattle.timetable.specs.Spell.{legsText, trainsText, listText, numbers, timetableText};
 ghost use Rattle.timetable.specs.Writing.{timesRight, minutesFault, spelling};
 use crate::reading::after_field;
 use line::Line;
