@@ -50,9 +50,12 @@ bit-past (suc j) k zero x p = absurd (omega arith)
 bit-past (suc j) k (suc i) x p =
     bit-past j k i (x / 2) (omega arith) ∙ ap (bit k) (div-div-eq-div-mul x 2 (2 ^ j) ∙ ap (λ (n : ℕ). x / n) (sym (pow-succ' 2 j)))
 
-pub bit-shift : (j x : ℕ) → bit j x ≡ x / 2 ^ j % 2
+bit-shift : (j x : ℕ) → bit j x ≡ x / 2 ^ j % 2
 unfolding bit
 bit-shift j x = bit-past j 0 j x (omega arith)
+
+pub bit-of : (x j : ℕ) → eqb (x / 2 ^ j % 2) 1 ≡ inMask x j
+bit-of x j = ap (λ (b : ℕ). eqb b 1) (sym (bit-shift j x))
 
 pub withBit-or : (j x : ℕ) → withBit j x ≡ bitOr x (2 ^ j)
 unfolding withBit

@@ -1,20 +1,23 @@
 -- Laws of a first look at a choice: minutes that no solution can be before, along the legs of the train that has to wait, and what they cost at least.
-use Prim.Native.Nat.{ℕ, zero, suc, _+_, _≤_, _<_}
-use mathlib.Core.Path.{_≡_, sym, ap}
+use Prim.Native.Nat.{ℕ, zero, suc, _+_, _%_, _≤_, _<_}
+use mathlib.Core.Path.{_≡_, refl, sym, _∙_, ap, subst, subst⁻¹}
 use mathlib.Core.Logic.{_⊎_, inl, inr, ⊎-elim}
+use mathlib.Core.Bool.{Bool, true, false}
 use mathlib.Core.List.{List}
 use native.Mathlib.Omega.{arith}
 use lib.ListN.{getD, set}
 use lib.Seq.{getD-set-same}
+use borrow.Author.Tests.{ne-eqb}
 use Rattle.orders.specs.NoLater.{_⊑_}
 use Rattle.orders.specs.ArcsLaws.{stored}
+use Rattle.orders.specs.Bits.{inMask}
 use Rattle.orders.specs.Tables.{runIn, nextIn, limitIn, restIn, lastIn, costIn}
 use Rattle.orders.specs.CostLaws.{cost-grows, cost-one}
 use Rattle.orders.specs.Raising.{Graph, KeepsAll}
-use Rattle.orders.specs.LegGraph.{LegArc, runs, next, UsedLeg, Used, legGraph, Ends, GoesOn, Shaped}
+use Rattle.orders.specs.LegGraph.{LegArc, runs, next, depart, after, gone, beside, doubled, stationOf, leaving, comesOn, UsedLeg, Used, legGraph, Ends, GoesOn, Shaped}
 use Rattle.orders.specs.LegTimes.{Arrives, moreCost}
 use Rattle.orders.specs.Lifting.{Ready, NoneChosen}
-use Rattle.orders.specs.Prospects.{NoneFrom}
+use Rattle.orders.specs.Prospects.{NoneFrom, GoesBefore}
 use Rattle.orders.specs.ServingLaws.{Calls, Serves}
 
 -- the arrival by the leg that has to wait is no great minute
@@ -98,3 +101,56 @@ module _ (marks t ds : List ℕ) where
   unfolding NoneFrom NoneChosen
   none-chosen Chosen m f v w cut h none y within keeps above =
       none y within keeps above (called m y f v keeps above (h .departs)) (called m y (176 + f) w keeps above (h .arrives))
+
+  -- ---- a train that goes over the segment before
+
+  -- train j goes before that of leg e on its segment
+  module _ (e j : ℕ) (low : j < 12) (train : e % 16 < 12) (marked : inMask (getD marks (beside e j) 0) (e % 16) ≡ true)
+      (used : UsedLeg marks t ds (beside e j)) (y : List ℕ) (keeps : KeepsAll G y) where
+    place : beside (beside e j) (e % 16) ≡ e
+    place = omega arith
+
+    departs-before : getD y (beside e j) 0 ≤ getD y e 0
+    unfolding KeepsAll
+    departs-before = go (doubled t ds (beside e j) (e % 16)) refl
+      where
+        at-leg : getD y (beside (beside e j) (e % 16)) 0 ≡ getD y e 0
+        at-leg = ap (λ (x : ℕ). getD y x 0) place
+
+        go : (b : Bool) → doubled t ds (beside e j) (e % 16) ≡ b → getD y (beside e j) 0 ≤ getD y e 0
+        go true q = omega (arith, at-leg, keeps (depart (beside e j) (e % 16)) (used, train, marked, q))
+        go false q = omega (arith, at-leg, keeps (after (beside e j) (e % 16)) (used, train, marked, q), keeps (runs (beside e j)) used)
+
+    -- the other way
+    arrives-before : (getD ds (beside e j) 0 ≡ getD ds e 0 → ⊥) → getD y (176 + beside e j) 0 ≤ getD y e 0
+    unfolding KeepsAll
+    arrives-before other =
+        let apart : doubled t ds (beside e j) (e % 16) ≡ false = rw (place, ne-eqb (getD ds (beside e j) 0) (getD ds e 0) other) refl in
+        omega (arith, ap (λ (x : ℕ). getD y x 0) place, keeps (after (beside e j) (e % 16)) (used, train, marked, apart))
+
+  -- so it cannot come to the station after that train has left
+  pub before-none : (m : List ℕ) (e f j cost cut : ℕ) → Ready m marks t ds e cost cut → j < 12 → inMask (getD marks (leaving ds e) 0) j ≡ true →
+      f ≡ comesOn ds (stationOf ds e) j → GoesBefore marks t ds e f j → NoneChosen marks t ds cut m
+  unfolding NoneChosen KeepsAll
+  before-none m e f j cost cut r low mark is g y within keeps above limits cheap = ⊎-elim
+      (λ h. omega (
+        arith,
+        comes,
+        arrives-before e j low (g .train) (g .marked) (subst (UsedLeg marks t ds) (h .0) used) y keeps
+            (λ q. h .1 (ap (λ (x : ℕ). getD ds x 0) (h .0) ∙ q)),
+        ap (λ (x : ℕ). getD y (176 + x) 0) (h .0),
+      ))
+      (λ h. omega (
+        arith,
+        comes,
+        keeps (next f) (used, λ q. h .0 (sym q ∙ h .1)),
+        ap (λ (x : ℕ). getD y x 0) (h .1),
+        departs-before e j low (g .train) (g .marked) (subst (UsedLeg marks t ds) (h .1) (r .shaped .next-used f used)) y keeps,
+      ))
+      (g .goes)
+    where
+      used : UsedLeg marks t ds f
+      used = subst⁻¹ (UsedLeg marks t ds) is (r .shaped .comes-used e j (r .leg) low mark)
+
+      comes : getD y e 0 + 1 ≤ getD y (176 + f) 0
+      comes = omega (arith, keeps (gone e j) (r .leg, low, mark), ap (λ (x : ℕ). getD y (176 + x) 0) is)

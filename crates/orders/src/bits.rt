@@ -1,6 +1,14 @@
-// The bits of a mask, one after another.
+// The bits of a mask: whether it has one, and one after another.
+ghost use mathlib.Core.Path.{_≡_};
 ghost use Prim.Native.Nat.{_<_};
-ghost use Rattle.orders.specs.Bits.{NextBit};
+ghost use Rattle.orders.specs.Bits.{inMask, NextBit};
+
+pub fn has_bit(mask: u16, i: usize) -> bool
+    requires { ⌜ i < 16 ⌝ }
+    ensures { λ r. ⌜ r ≡ inMask mask i ⌝ }
+{
+    (mask >> i) % 2 == 1
+}
 
 // The lowest bit of the mask from this one on; 16 where there is none.
 pub fn next_bit(mask: u16, from: usize) -> usize

@@ -1,16 +1,19 @@
-// A first look at a choice, before anything is raised: by its own legs alone the train that has to wait may be late already, or cost too much.
+// A first look at a choice, before anything is raised: by its own legs alone the train that has to wait may be late already, or cost too much, or the
+// choice may contradict a mark.
 ghost use mathlib.Core.Path.{_≡_};
 ghost use mathlib.Core.Bool.{true};
 ghost use Prim.Native.Nat.{_≤_, _<_};
-ghost use lib.ListN.{getD};
+ghost use lib.ListN.{length, getD};
 ghost use Rattle.orders.specs.Bits.{inMask};
 ghost use Rattle.orders.specs.LegGraph.{leaving};
 ghost use Rattle.orders.specs.Lifting.{Ready, Choosing, Follows, Comes, NoneChosen};
-ghost use Rattle.orders.specs.Prospects.{NoneFrom};
+ghost use Rattle.orders.specs.Prospects.{NoneFrom, GoesBefore};
 use crate::arcs::coming_leg;
 use crate::arcs::times_behind;
+use crate::bits::has_bit;
 use crate::tables::last_at;
 use crate::tables::limit_at;
+use crate::tables::next_at;
 use crate::tables::rest_at;
 use crate::tables::run_at;
 use crate::times::arrival_for;
@@ -98,6 +101,33 @@ pub fn follow_fails(
     )
 }
 
+// Whether train j is marked to go over the segment of leg e before its train, as it comes there by leg f or leaves by its next one. Then it cannot come to
+// the station of leg e's departure after that train has left.
+fn goes_before(
+    marks: &[u16; 368],
+    t: &[u16; 1456],
+    ds: &[u16; 176],
+    e: usize,
+    f: usize,
+    j: usize,
+) -> bool
+    requires { ⌜ (length (now marks) ≡ 368) × (length (now t) ≡ 1456) × (length (now ds) ≡ 176) × (e < 176) × (f < 176) × (j < 12) ⌝ }
+    ensures { λ r. ⌜ (r ≡ true → GoesBefore (now (marks .entry)) (now (t .entry)) (now (ds .entry)) e f j) ⌝ }
+{
+    let x = 16 * (e / 16) + j;
+    let i = e % 16;
+    if i >= 12 {
+        return false;
+    }
+    if !has_bit(marks[x], i) {
+        return false;
+    }
+    if f == x {
+        return ds[f] != ds[e];
+    }
+    next_at(t, f) == x
+}
+
 // The same for the choice that train j comes to the station of leg e's departure after its train has left.
 pub fn come_after_fails(
     m: &[u16; 352],
@@ -113,5 +143,8 @@ pub fn come_after_fails(
     ensures { λ r. ⌜ (r ≡ true → NoneChosen (now (marks .entry)) (now (t .entry)) (now (ds .entry)) cut (now (m .entry))) ⌝ }
 {
     let f = coming_leg(ds, e, j);
+    if goes_before(marks, t, ds, e, f, j) {
+        return true;
+    }
     train_fails(m, marks, t, ds, f, 0, m[e] + 1, cost, cut)
 }

@@ -16,16 +16,13 @@ use Rattle.rules.specs.declared.conflicts.SegmentConflict.{SegmentConflict}
 use Rattle.rules.specs.declared.conflicts.StationConflict.{StationConflict}
 use Rattle.rules.specs.Directions.{way}
 use Rattle.orders.specs.Bits.{inMask, NextBit, withBit}
-use Rattle.orders.specs.BitsLaws.{bit-shift, withBit-or}
+use Rattle.orders.specs.BitsLaws.{withBit-or}
 use Rattle.orders.specs.Choices.{onSegment, atStation}
 use Rattle.solver.specs.Ways.{twoOf, wayOf, wayCount}
 use Rattle.solver.specs.WaysTold.{legOut, Tells, TellsWay, TellsOnSegment, Steps, NextPair}
 use Rattle.solver.specs.declared.ways.Way.{Way}
 
 -- ---- a mask, by shifts
-
-pub bit-of : (x j : ℕ) → eqb (x / 2 ^ j % 2) 1 ≡ inMask x j
-bit-of x j = ap (λ (b : ℕ). eqb b 1) (sym (bit-shift j x))
 
 pub bit-put : (x j : ℕ) → j < 16 → bitOr x (1 * 2 ^ j % 65536) ≡ withBit j x
 bit-put x j h =

@@ -7,6 +7,7 @@ ghost use Rattle.rules.specs.declared.conflicts.Conflict.{Conflict as SomeConfl
 ghost use Rattle.orders.specs.Bits.{inMask, withBit};
 ghost use Rattle.solver.specs.Ways.{twoOf, wayOf, wayCount};
 ghost use Rattle.solver.specs.WaysTold.{legOut, InRange, TellsWay, TellsOnSegment, Steps, NextPair};
+use orders::bits::has_bit;
 use orders::bits::next_bit;
 use rules::conflicts::Conflict;
 use rules::conflicts::SegmentConflict;
@@ -21,13 +22,6 @@ pub struct Way {
     pub row: usize,
     pub leg: usize,
     pub second: usize,
-}
-
-pub fn has_bit(mask: u16, i: usize) -> bool
-    requires { ⌜ i < 16 ⌝ }
-    ensures { λ r. ⌜ r ≡ inMask mask i ⌝ }
-{
-    (mask >> i) % 2 == 1
 }
 
 pub fn with_bit(mask: u16, i: usize) -> u16

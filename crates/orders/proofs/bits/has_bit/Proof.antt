@@ -1,8 +1,8 @@
--- `solver::ways::has_bit` meets its contract. Assumes nothing.
+-- `orders::bits::has_bit` meets its contract. Assumes nothing.
 use borrow.Author.Needs.{needs}
-use Rattle.solver.specs.WaysToldLaws.{bit-of}
-use Rattle.solver.proofs.ways.has_bit.Statement.{statement}
-use Rattle.solver.proofs.ways.has_bit.Tie as tie
+use Rattle.orders.specs.BitsLaws.{bit-of}
+use Rattle.orders.proofs.bits.has_bit.Statement.{statement}
+use Rattle.orders.proofs.bits.has_bit.Tie as tie
 
 cast-result : tie.Need-cast-result
 cast-result c = search needs
