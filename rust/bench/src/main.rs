@@ -16,7 +16,7 @@ const PAIRS: usize = 10;
 /// How many dense lines of each size are planned.
 const WALKS: usize = 5;
 /// How often each of them is planned.
-const WALK_ROUNDS: usize = 9;
+const WALK_ROUNDS: usize = 25;
 /// The fewest and the most plans of their walks.
 const LEAST_PLANS: u64 = 200_000;
 const MOST_PLANS: u64 = 1_000_000;
