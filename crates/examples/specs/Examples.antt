@@ -32,11 +32,12 @@ use Rattle.orders.specs.Arcs.{pull, pullAll}
 use Rattle.orders.specs.Bits.{bit, withBit, change}
 use Rattle.orders.specs.Marks.{free, also, marked}
 use Rattle.orders.specs.PlanArcs.{departsAt, arrivesAt, trainArcs, chosenArcs, arcs, rounds, least}
-use Rattle.solver.specs.Ranking.{aheadFrom, ahead}
-use Rattle.solver.specs.Walk.{BestSoFar, found, inOrder, improves, lookWays, lookLeast, look, follow, takeUp, plenty, walk}
-use Rattle.solver.specs.Ways.{wayOf, waysOf, ways}
-use Rattle.solver.specs.Planning.{start, isLeg, departures, inTime, planning}
-use Rattle.solver.specs.Solved.{solved, unsolved}
+use Rattle.plans.specs.Ranking.{aheadFrom, ahead}
+use Rattle.plans.specs.BestSoFar.{BestSoFar, found, improves}
+use Rattle.walk.specs.Walk.{inOrder, lookWays, lookLeast, look, follow, takeUp, plenty, walk}
+use Rattle.plans.specs.Ways.{wayOf, waysOf, ways}
+use Rattle.plans.specs.Planning.{start, isLeg, departures, inTime, planning}
+use Rattle.walk.specs.Solved.{solved, unsolved}
 use Rattle.examples.specs.Lines.{givenTrain, givenLine, minutesOf, fileA, twoStations, doubleLine, Answer, Costs, Examples}
 
 -- ---- the arrays of the records

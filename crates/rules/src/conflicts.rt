@@ -71,7 +71,7 @@ pub struct Passage {
 }
 
 // How train i goes over segment p.
-fn passage_of(ds: &[u16], m: &[u16], p: usize, i: usize) -> Passage
+pub fn passage_of(ds: &[u16], m: &[u16], p: usize, i: usize) -> Passage
     requires { ⌜ (length (now ds) ≡ 176) × (length (now m) ≡ 352) × (p < 11) × (i < 12) ⌝ }
     ensures { λ r. ⌜ r ≡ passage (now (ds .entry)) (now (m .entry)) p i ⌝ }
 {
@@ -123,7 +123,7 @@ fn neither_behind(gap: u16, x: Passage, y: Passage) -> bool
 }
 
 // Whether neither of x and y goes first on the segment.
-fn neither(g: Segment, x: Passage, y: Passage) -> bool
+pub fn neither(g: Segment, x: Passage, y: Passage) -> bool
     ensures { λ r. ⌜ r ≡ neitherFirst g x y ⌝ }
 {
     let kind = g.kind;
@@ -461,7 +461,7 @@ fn crowd_mask(ds: &[u16], m: &[u16], s: usize, t: u16, tracks: u16, n: usize) ->
 }
 
 // The conflict at station s, if there is one.
-fn crowd_on(ds: &[u16], m: &[u16], s: usize, tracks: u16, n: usize) -> Conflict
+pub fn crowd_on(ds: &[u16], m: &[u16], s: usize, tracks: u16, n: usize) -> Conflict
     requires { ⌜ (length (now ds) ≡ 176) × (length (now m) ≡ 352) × (1 ≤ s) × (s < 11) × (n ≤ 12) ⌝ }
     ensures { λ r. ⌜ r ≡ crowdAt (now (ds .entry)) (now (m .entry)) n tracks s (earliestCrowd (now (ds .entry)) (now (m .entry)) n tracks s) ⌝ }
 {

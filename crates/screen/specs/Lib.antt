@@ -2,3 +2,4 @@
 pub mod Packing
 pub mod Rewriting
 pub mod Solved
+pub mod Walking

@@ -5,6 +5,7 @@ ghost use Rattle.line.specs.File.{lineFile, answered};
 ghost use Rattle.screen.specs.Packing.{packed, packedAnswer, packedVerdict, packedWritten};
 ghost use Rattle.screen.specs.Rewriting.{Rewritten};
 ghost use Rattle.screen.specs.Solved.{Solved};
+ghost use Rattle.screen.specs.Walking.{walkLength};
 ghost use Rattle.timetable.specs.Check.{checkOf};
 use line::Answer;
 use line::reading::read;
@@ -13,6 +14,7 @@ use solver::solving::solve;
 use text::Written;
 use timetable::checking::Verdict;
 use timetable::checking::check;
+use walk::finding::best_of;
 
 fn pack(number: u8, value: usize) -> u64
     ensures { λ r. ⌜ r ≡ packed number value ⌝ }
@@ -76,4 +78,21 @@ pub extern "C" fn gaugeviolet_solve(file: &[u8], out: &mut [u8]) -> u64
     ensures { λ r. ⌜ Solved (now (file .entry)) (now (out .entry)) (now (out .exit)) r ⌝ }
 {
     pack_written(solve(file, out))
+}
+
+// The length of the walk that request K9 describes: how many plans it takes up for a line file, cut off at 4,294,967,295; or the file's refusal.
+#[no_mangle]
+pub extern "C" fn gaugeviolet_walk_length(file: &[u8]) -> u64
+    ensures { λ r. ⌜ r ≡ walkLength (now (file .entry)) ⌝ }
+{
+    let result = read(file);
+    let answer = result.answer;
+    match answer {
+        Answer::Accepted => {
+            let line = result.line;
+            let walked = best_of(line);
+            pack(0, walked.steps as usize)
+        }
+        Answer::Refused(number, place) => pack(number, place),
+    }
 }

@@ -26,9 +26,10 @@ use Rattle.timetable.specs.Spell.{timetableText}
 use Rattle.timetable.specs.Check.{checkOf}
 use Rattle.timetable.specs.FitsLaws.{timetable-fits}
 use Rattle.timetable.specs.Exact.{passed}
-use Rattle.solver.specs.Walk.{BestSoFar, nothing, found, walk}
-use Rattle.solver.specs.Planning.{planning}
-use Rattle.solver.specs.Solved.{solved, unsolved}
+use Rattle.plans.specs.BestSoFar.{BestSoFar, nothing, found}
+use Rattle.walk.specs.Walk.{walk}
+use Rattle.plans.specs.Planning.{planning}
+use Rattle.walk.specs.Solved.{solved, unsolved}
 use Rattle.solver.specs.Solving.{Refuses, Solving}
 
 -- ---- a line has a best timetable, or none keeps every rule

@@ -1,17 +1,45 @@
--- What is found of a line: its best timetable, or that no timetable keeps every rule; and the length of the walk, cut off at 4,294,967,295.
+-- The contracts of finding the best timetable of a line: what improves the best so far, and what searches the plan without choices.
 use Prim.Native.Nat.{ℕ}
 use mathlib.Core.Path.{_≡_}
 use mathlib.Core.Bool.{true, false}
 use mathlib.Core.List.{List}
 use Rattle.line.specs.declared.Line.{Line}
+use Rattle.rules.specs.declared.conflicts.Layout.{Layout}
 use Rattle.rules.specs.Rules.{Lawful}
 use Rattle.rules.specs.Delay.{Best}
+use Rattle.orders.specs.Marks.{free}
+use Rattle.plans.specs.Planning.{planning}
+use Rattle.plans.specs.Search.{Onward, NoneBetter}
+use Rattle.plans.specs.Tallies.{bestOf, Tallied}
+use Rattle.plans.specs.declared.tally.Tally.{Tally}
+use Rattle.solver.specs.Searching.{Held, Whole}
 use Rattle.solver.specs.declared.finding.Found.{Found}
-use Rattle.solver.specs.Walk.{walk}
-use Rattle.solver.specs.Planning.{planning}
-use Rattle.solver.specs.Tallies.{cutOff}
 
+-- m has the least minutes of the plan without choices, which cost nothing
+abbrev pub First : Line → List ℕ → List ℕ → List ℕ → List ℕ → List ℕ → Layout → Tally → Type 0
+First l m best t ds key layout y = Held l m free best t ds key layout 0 y
+
+pub record CanFind (m best t ds key : List ℕ) (layout : Layout) (y : Tally) : Type 0 where
+  pub line : Line
+  pub first : First line m best t ds key layout y
+
+-- the best so far stays, or a better lawful timetable takes its place
+pub record Improved (l : Line) (best : List ℕ) (y : Tally) (best′ : List ℕ) (r : Tally) : Type 0 where
+  pub tallied : Tallied l best′ r
+  pub onward : Onward (planning l) (bestOf y best) (bestOf r best′)
+
+abbrev pub Improves : List ℕ → List ℕ → List ℕ → List ℕ → List ℕ → Layout → Tally → List ℕ → Tally → Type 0
+Improves m best t ds key layout y best′ r = (l : Line) → First l m best t ds key layout y → Improved l best y best′ r
+
+-- and no lawful timetable is better then, unless the limit ended the search
+pub record SearchedTo (l : Line) (best : List ℕ) (limit : ℕ) (y : Tally) (best′ : List ℕ) (r : Tally) : Type 0 where
+  pub improved : Improved l best y best′ r
+  pub none-better : Whole limit r → NoneBetter (planning l) free (bestOf r best′)
+
+abbrev pub Searches : List ℕ → List ℕ → List ℕ → List ℕ → List ℕ → Layout → ℕ → Tally → List ℕ → Tally → Type 0
+Searches m best t ds key layout limit y best′ r = (l : Line) → First l m best t ds key layout y → SearchedTo l best limit y best′ r
+
+-- the best timetable of the line; or no timetable keeps every rule
 pub record Finds (l : Line) (r : Found) : Type 0 where
   pub best : r .found ≡ true → Best l (r .minutes)
   pub none : r .found ≡ false → (m : List ℕ) → Lawful l m → ⊥
-  pub steps : r .steps ≡ cutOff (walk (planning l) .steps)

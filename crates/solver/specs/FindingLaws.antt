@@ -1,99 +1,146 @@
--- What the walk from the plan without choices gives: it is the whole walk of the line, so what it finds is the best timetable, or there is none.
-use Prim.Native.Nat.{ℕ, suc, _+_, _*_, _-_, _<_}
-use mathlib.Core.Path.{_≡_, refl, sym, ap, _∙_}
-use mathlib.Core.Bool.{false}
+-- The laws of finding the best timetable in the terms of its contracts: each is what one way out of a function, or one call in it, asks for.
+use Prim.Native.Nat.{ℕ, _<_}
+use mathlib.Core.Path.{_≡_, refl, sym, subst}
+use mathlib.Core.Logic.{inl, inr}
+use mathlib.Core.Bool.{Bool, true, false, cond, false≢true}
 use mathlib.Core.List.{List}
 use native.Mathlib.Omega.{arith}
-use lib.ListN.{replicate}
-use Rattle.text.specs.Decide.{is-true, is-false}
 use Rattle.line.specs.declared.Line.{Line}
 use Rattle.line.specs.Within.{Within, Arrays}
+use Rattle.rules.specs.declared.conflicts.Layout.{Layout}
 use Rattle.rules.specs.Paths.{EachTrain}
 use Rattle.rules.specs.Rules.{NotLate}
-use Rattle.rules.specs.Delay.{weightedDelay}
-use Rattle.orders.specs.NoLater.{slack}
-use Rattle.orders.specs.NoLaterLaws.{slack-most}
-use Rattle.orders.specs.Least.{Least, minutes, none, Fit, IsLeast}
-use Rattle.orders.specs.Marks.{free}
+use Rattle.orders.specs.Least.{Fit}
+use Rattle.orders.specs.Marks.{Plan, free}
 use Rattle.orders.specs.Plans.{Keeps}
-use Rattle.orders.specs.TidyPlansLaws.{free-tidy}
-use Rattle.solver.specs.declared.tally.Tally.{Tally}
-use Rattle.solver.specs.Walk.{BestSoFar, nothing, found, Walked, walk, plenty, takeUp}
-use Rattle.solver.specs.ProblemLaws.{least-found}
-use Rattle.solver.specs.Planning.{start, inTime, planning}
-use Rattle.solver.specs.PlanningLaws.{decides-inTime}
-use Rattle.solver.specs.Solved.{planning-laws, solved, unsolved}
-use Rattle.solver.specs.Tallies.{bestOf, cutOff}
-use Rattle.solver.specs.Taking.{Planned, takenUp, planPart, Walks}
-use Rattle.solver.specs.TakingLaws.{taken-up, taken-none, taken-cut, taken-some}
-use Rattle.solver.specs.Finding.{Finds}
+use Rattle.plans.specs.BestSoFar.{BestSoFar, nothing, found}
+use Rattle.plans.specs.Search.{Onward, Searched}
+use Rattle.plans.specs.SearchLaws.{onward-then, searched-dead}
+use Rattle.plans.specs.Planning.{planning}
+use Rattle.plans.specs.LineSearched.{searched-best, searched-nothing}
+use Rattle.plans.specs.FirstLaws.{first-late}
+use Rattle.plans.specs.NextPlansLaws.{cut-low, recounted, recounted-best}
+use Rattle.plans.specs.Tallies.{bestOf, cutOf, Tallied}
+use Rattle.plans.specs.declared.tally.Tally.{Tally}
+use Rattle.solver.specs.Searching.{Held, Sought}
+use Rattle.solver.specs.SearchingLaws.{held-after}
+use Rattle.solver.specs.Neighbourhood.{Searchable}
+use Rattle.solver.specs.Finding.{First, CanFind, Improved, Improves, SearchedTo, Searches, Finds}
+
+-- ---- a tally with no plan counted
+
+abbrev pub AfreshOf : Tally → Tally → Type 0
+AfreshOf y b = (b .found ≡ y .found) × (b .delay ≡ y .delay) × (b .steps ≡ 0)
+
+module _ (l : Line) (best : List ℕ) (y b : Tally) (afresh : AfreshOf y b) where
+  afresh-tallied : Tallied l best y → Tallied l best b
+  afresh-tallied = recounted l best y b (afresh .0) (afresh .1) (omega (arith, afresh .2))
+
+  afresh-best : bestOf b best ≡ bestOf y best
+  afresh-best = recounted-best l best y b (afresh .0) (afresh .1)
+
+  pub afresh-held : (m marks t ds key : List ℕ) (layout : Layout) (cost : ℕ) → Held l m marks best t ds key layout cost y →
+      Held l m marks best t ds key layout cost b
+  afresh-held m marks t ds key layout cost h = held-after l m marks best t ds key layout cost 0 y h marks best b refl (afresh-tallied (h .given .tallied))
+
+  pub afresh-cut : (cut : ℕ) → cut ≡ cutOf b → Tallied l best y → cut < 4294967295
+  afresh-cut cut is t = omega (arith, cut-low l best b (afresh-tallied t))
+
+  -- a plan made from the first is one to search
+  pub near-held : (m t ds key : List ℕ) (layout : Layout) → First l m best t ds key layout y → (marks q : List ℕ) (cost : ℕ) → Searchable l marks q cost →
+      Held l q marks best t ds key layout cost b
+  near-held m t ds key layout h marks q cost s =
+      let g = h .given in
+      record {
+        given = record {
+          tabled = g .tabled;
+          keys = g .keys;
+          layout-is = g .layout-is;
+          planned = s .planned;
+          tallied = afresh-tallied (g .tallied);
+        };
+        under = s .under;
+      }
+
+  -- nothing was found
+  pub improved-none : Tallied l best y → Improved l best y best b
+  improved-none t = record { tallied = afresh-tallied t; onward = inl afresh-best }
+
+  -- what a search of any plan found
+  pub improved-sought : (p : Plan) (marks : List ℕ) (limit : ℕ) (marks′ best′ : List ℕ) (r : Tally) → Sought l p marks best limit b marks′ best′ r →
+      Improved l best y best′ r
+  improved-sought p marks limit marks′ best′ r s =
+      record { tallied = s .tallied; onward = subst (λ (x : BestSoFar). Onward (planning l) x (bestOf r best′)) afresh-best (s .onward) }
+
+  pub searched-sought : (limit : ℕ) (marks′ best′ : List ℕ) (r : Tally) → Sought l free free best limit b marks′ best′ r → SearchedTo l best limit y best′ r
+  searched-sought limit marks′ best′ r s = record { improved = improved-sought free free limit marks′ best′ r s; none-better = s .none-better }
+
+pub first-searchable : (l : Line) (m best t ds key : List ℕ) (layout : Layout) (y : Tally) → First l m best t ds key layout y → (q : List ℕ) → q ≡ m →
+    Searchable l free q 0
+first-searchable l m best t ds key layout y h q same =
+    subst (λ (x : List ℕ). Searchable l free x 0) (sym same) (record { planned = h .given .planned; under = h .under })
+
+-- ---- one after another
+
+pub improves-same : (m best t ds key : List ℕ) (layout : Layout) (y : Tally) → Improves m best t ds key layout y best y
+improves-same m best t ds key layout y l h = record { tallied = h .given .tallied; onward = inl refl }
+
+module _ (m best t ds key : List ℕ) (layout : Layout) (y : Tally) where
+  pub searches-improves : (limit : ℕ) (best₁ : List ℕ) (r₁ : Tally) → Searches m best t ds key layout limit y best₁ r₁ →
+      Improves m best t ds key layout y best₁ r₁
+  searches-improves limit best₁ r₁ s l h = s l h .improved
+
+  -- a search that ended below its limit went to its end
+  pub searches-below : (limit : ℕ) (best₁ : List ℕ) (r₁ : Tally) → r₁ .steps < limit → Searches m best t ds key layout limit y best₁ r₁ →
+      Searches m best t ds key layout 4294967295 y best₁ r₁
+  searches-below limit best₁ r₁ low s l h = record { improved = s l h .improved; none-better = λ _. s l h .none-better (inr low) }
+
+  module _ (best₁ : List ℕ) (r₁ : Tally) (i : Improves m best t ds key layout y best₁ r₁) where
+    first-after : (l : Line) → First l m best t ds key layout y → First l m best₁ t ds key layout r₁
+    first-after l h = held-after l m free best t ds key layout 0 0 y h free best₁ r₁ refl (i l h .tallied)
+
+    pub find-after : CanFind m best t ds key layout y → CanFind m best₁ t ds key layout r₁
+    find-after h = record { line = h .line; first = first-after (h .line) (h .first) }
+
+    pub improves-then : (best₂ : List ℕ) (r₂ : Tally) → Improves m best₁ t ds key layout r₁ best₂ r₂ → Improves m best t ds key layout y best₂ r₂
+    improves-then best₂ r₂ j l h =
+        let after = j l (first-after l h) in
+        record {
+          tallied = after .tallied;
+          onward = onward-then (planning l) (bestOf y best) (bestOf r₁ best₁) (bestOf r₂ best₂) (i l h .onward) (after .onward);
+        }
+
+    pub searches-then : (limit : ℕ) (best₂ : List ℕ) (r₂ : Tally) → Searches m best₁ t ds key layout limit r₁ best₂ r₂ →
+        Searches m best t ds key layout limit y best₂ r₂
+    searches-then limit best₂ r₂ s l h =
+        record {
+          improved = improves-then best₂ r₂ (λ k f. s k f .improved) l h;
+          none-better = s l (first-after l h) .none-better;
+        }
+
+-- ---- the line
 
 module _ (l : Line) (w : Within l) (a : Arrays l) where
-  -- the fuel of the walk, once the first plan is taken up
-  abbrev fuel : ℕ
-  fuel = suc (2880 * 352)
+  -- what a search of everything ends with
+  pub finds-searched : (best : List ℕ) (y : Tally) (best′ : List ℕ) (r : Tally) → y .found ≡ false → SearchedTo l best 4294967295 y best′ r →
+      Finds l (record { found = r .found; minutes = best′ })
+  finds-searched best y best′ r none-yet s = record {
+    best = λ e. searched-best l w a best′ (is true e);
+    none = λ e. searched-nothing l w a (is false e);
+  }
+    where
+      is : (c : Bool) → r .found ≡ c → Searched (planning l) free nothing (cond c (found best′) nothing)
+      is c e =
+          let before : bestOf y best ≡ nothing = rw none-yet refl in
+          let after : bestOf r best′ ≡ cond c (found best′) nothing = rw e refl in
+          subst (λ (x : BestSoFar). Searched (planning l) free nothing x) after
+          (subst (λ (x : BestSoFar). Searched (planning l) free x (bestOf r best′)) before
+          (record { onward = s .improved .onward; none-better = s .none-better (inl refl) }))
 
-  starts : replicate 352 0 ≡ start
-  unfolding start
-  starts = refl
-
-  start-here : Fit 352 start
-  start-here = planning-laws l w a .start-fit
-
-  -- ---- the first plan has the minutes m
-
-  module _ (m : List ℕ) (least : IsLeast 352 (Keeps l free) (replicate 352 0) m) where
-    first-least : planning l .least free start ≡ minutes m
-    first-least = least-found (planning l) (planning-laws l w a) free start start-here m (rw (sym starts) least)
-
-    walk-is : walk (planning l) ≡ takenUp (planning l) fuel free m nothing
-    unfolding walk plenty
-    walk-is = taken-up (planning l) fuel free start m nothing first-least
-
-    enough : slack m < fuel
-    enough = omega (arith, slack-most m, least .fit .size)
-
-    -- it is planned
-    pub first-planned : EachTrain l (NotLate l m) → weightedDelay l m ≡ 0 → Planned l free m 0
-    first-planned late cost =
-        record { fit = least .fit; keeps = least .keeps; tidy = free-tidy l; timely = is-true (decides-inTime l m) late; cost-is = sym cost }
-
-    -- what the walk from it ends with
-    pub finds-walked : (best : List ℕ) {best′ marks′ : List ℕ} {y r : Tally} → y .found ≡ false → y .steps ≡ 1 →
-        Walks l m free y (planPart l m free best y) marks′ best′ r →
-        Finds l (record { found = r .found; minutes = best′; steps = r .steps })
-    finds-walked best {best′} {marks′} {y} {r} none-yet one walks =
-        let none-so-far : bestOf y best ≡ nothing = rw none-yet refl in
-        let part = ap (λ (b : BestSoFar). takenUp (planning l) fuel free m b) none-so-far ∙ sym walk-is in
-        let best-is : bestOf r best′ ≡ walk (planning l) .best = walks .best-is fuel enough ∙ ap (λ (x : Walked). x .best) part in
-        let steps-are : r .steps ≡ cutOff (y .steps + (takenUp (planning l) fuel free m (bestOf y best) .steps - 1)) = walks .steps-are fuel enough in
-        let some = taken-some (planning l) fuel free m (bestOf y best) in
-        let all : y .steps + (takenUp (planning l) fuel free m (bestOf y best) .steps - 1) ≡ walk (planning l) .steps =
-        omega (arith, one, some, ap (λ (x : Walked). x .steps) part) in
-        record {
-          best = λ e. solved l w a best′ (sym best-is ∙ (rw e refl));
-          none = λ e. unsolved l w a (sym best-is ∙ (rw e refl));
-          steps = steps-are ∙ ap cutOff all;
-        }
-
-  -- ---- no minutes of the first plan are in time
-
-  module _ (late : (m : List ℕ) → Fit 352 m → Keeps l free m → EachTrain l (NotLate l m) → ⊥) where
-    walk-one : walk (planning l) ≡ record { best = nothing; steps = 1 }
-    unfolding walk plenty
-    walk-one = go (planning l .least free start) refl
-      where
-        go : (x : Least) → planning l .least free start ≡ x → takeUp (planning l) (suc fuel) free start nothing ≡ record { best = nothing; steps = 1 }
-        go none e = taken-none (planning l) fuel free start nothing e
-        go (minutes m) e =
-            let least = planning-laws l w a .least-is free start m start-here e in
-            let cut : inTime l m ≡ false = is-false (decides-inTime l m) (late m (least .fit) (least .keeps)) in
-            taken-up (planning l) fuel free start m nothing e ∙ taken-cut (planning l) fuel free m nothing (rw cut refl)
-
-    pub finds-nothing : (m : List ℕ) → Finds l (record { found = false; minutes = m; steps = 1 })
-    finds-nothing m =
-        record {
-          best = λ e. let z : _≡_ {A = ℕ} 0 1 = cc in absurd (omega arith);
-          none = λ e. unsolved l w a (ap (λ (x : Walked). x .best) walk-one);
-          steps = ap cutOff (sym (ap (λ (x : Walked). x .steps) walk-one));
-        }
+  -- no minutes of the first plan are in time
+  pub finds-nothing : ((m : List ℕ) → Fit 352 m → Keeps l free m → EachTrain l (NotLate l m) → ⊥) → (m : List ℕ) →
+      Finds l (record { found = false; minutes = m })
+  finds-nothing late m = record {
+    best = λ e. absurd (false≢true e);
+    none = λ e. searched-nothing l w a (searched-dead (planning l) free nothing (first-late l w a late));
+  }

@@ -1,24 +1,200 @@
-// The best timetable of a line: the walk from the plan without choices.
+// The best timetable of a line. A good one is looked for first, by searches that end at a limit of plans and by searches around the best so far: the better
+// it is, the more ways are dead in the search that then goes on to its end.
+ghost use mathlib.Core.Path.{_≡_};
 ghost use Rattle.line.specs.Within.{Within, Arrays};
-ghost use Rattle.solver.specs.Finding.{Finds};
-use crate::ranking::key_of;
-use crate::tally::Tally;
-use crate::walk::take_up;
+ghost use Rattle.solver.specs.Finding.{CanFind, Improves, Searches, Finds};
+use crate::neighbourhood::keep_orders;
+use crate::search::NO_LIMIT;
+use crate::search::take_up;
+use crate::selecting::no_hint;
 use line::Line;
 use orders::first::first_minutes;
+use orders::raising::DEAD;
 use orders::tables::tables_of;
+use plans::choosing::copy_minutes;
+use plans::ranking::key_of;
+use plans::tally::Tally;
+use plans::tally::cut_of;
+use plans::ways::with_bit;
+use rules::conflicts::Layout;
 use rules::conflicts::layout_of;
 use rules::directions::directions_of;
 
-// The best timetable of a line, if there is one, and how many plans were taken up to find it, cut off at 4,294,967,295.
+// The limits of plans and the numbers of neighbourhoods are tuned on busy days (docs/DECISIONS.md); what is found depends on none of them.
+const FIRST_LIMIT: u32 = 3000;
+
+const SECOND_LIMIT: u32 = 24000;
+
+const NEAR_LIMIT: u32 = 100;
+
+const FIRST_NEAR: usize = 40;
+
+const LAST_NEAR: usize = 120;
+
+// The best timetable of a line, if there is one.
 pub struct Found {
     pub found: bool,
     pub minutes: [u16; 352],
-    pub steps: u32,
+}
+
+// The same best so far, and no plan counted yet.
+fn afresh(tally: Tally) -> Tally
+    ensures { λ r. ⌜ (r .found ≡ tally .found) × (r .delay ≡ tally .delay) × (r .steps ≡ 0) ⌝ }
+{
+    Tally {
+        found: tally.found,
+        delay: tally.delay,
+        steps: 0,
+    }
+}
+
+// Searches the plan without choices, whose least minutes are m, up to a limit of plans.
+fn search_within(
+    m: &[u16; 352],
+    best: &mut [u16; 352],
+    t: &[u16; 1456],
+    ds: &[u16; 176],
+    key: &[u16; 132],
+    layout: Layout,
+    limit: u32,
+    tally: Tally,
+) -> Tally
+    requires { ⌜ CanFind (now m) (now best) (now t) (now ds) (now key) layout tally ⌝ }
+    ensures { λ r. ⌜ Searches (now (m .entry)) (now (best .entry)) (now (t .entry)) (now (ds .entry)) (now (key .entry)) layout limit tally
+        (now (best .exit)) r ⌝ }
+{
+    let mut marks = [0u16; 368];
+    let b = afresh(tally);
+    take_up(
+        m,
+        m,
+        &mut marks,
+        best,
+        t,
+        ds,
+        key,
+        layout,
+        0,
+        no_hint(),
+        limit,
+        b,
+    )
+}
+
+// Searches around the best so far: the plan in which all trains but the free ones keep its orders.
+fn search_around(
+    m: &[u16; 352],
+    best: &mut [u16; 352],
+    t: &[u16; 1456],
+    ds: &[u16; 176],
+    key: &[u16; 132],
+    layout: Layout,
+    free: u16,
+    tally: Tally,
+) -> Tally
+    requires { ⌜ CanFind (now m) (now best) (now t) (now ds) (now key) layout tally ⌝ }
+    ensures { λ r. ⌜ Improves (now (m .entry)) (now (best .entry)) (now (t .entry)) (now (ds .entry)) (now (key .entry)) layout tally
+        (now (best .exit)) r ⌝ }
+{
+    let b = afresh(tally);
+    let mut marks = [0u16; 368];
+    let mut q = [0u16; 352];
+    copy_minutes(m, &mut q);
+    let cost = keep_orders(&mut q, &mut marks, best, t, ds, layout, free, 0, cut_of(b));
+    if cost == DEAD {
+        return b;
+    }
+    take_up(
+        &q,
+        m,
+        &mut marks,
+        best,
+        t,
+        ds,
+        key,
+        layout,
+        cost,
+        no_hint(),
+        NEAR_LIMIT,
+        b,
+    )
+}
+
+// The next of a row of numbers below 65,536 that look drawn by chance.
+fn drawn(x: usize) -> usize {
+    (x % 65536 * 1103 + 12345) % 65536
+}
+
+// Up to six trains of twelve, as bits of a mask; other numbers give others.
+fn free_trains(number: usize) -> u16 {
+    let mut x = drawn(number);
+    let mut mask: u16 = 0;
+    let mut left: usize = 6;
+    while left > 0 {
+        x = drawn(x);
+        mask = with_bit(mask, x / 16 % 12);
+        left = left - 1;
+    }
+    mask
+}
+
+// Searches around the best so far, if there is one, with other trains free each time: those of the numbers from `number` up to `end`.
+fn search_near(
+    m: &[u16; 352],
+    best: &mut [u16; 352],
+    t: &[u16; 1456],
+    ds: &[u16; 176],
+    key: &[u16; 132],
+    layout: Layout,
+    number: usize,
+    end: usize,
+    tally: Tally,
+) -> Tally
+    requires { ⌜ CanFind (now m) (now best) (now t) (now ds) (now key) layout tally ⌝ }
+    ensures { λ r. ⌜ Improves (now (m .entry)) (now (best .entry)) (now (t .entry)) (now (ds .entry)) (now (key .entry)) layout tally
+        (now (best .exit)) r ⌝ }
+{
+    let mut b = tally;
+    if !b.found {
+        return b;
+    }
+    let mut k = number;
+    while k < end {
+        b = search_around(m, best, t, ds, key, layout, free_trains(k), b);
+        k = k + 1;
+    }
+    b
+}
+
+// Searches the plan without choices to its end. Where a search comes to its end below its limit, that is it.
+fn search_whole(
+    m: &[u16; 352],
+    best: &mut [u16; 352],
+    t: &[u16; 1456],
+    ds: &[u16; 176],
+    key: &[u16; 132],
+    layout: Layout,
+    tally: Tally,
+) -> Tally
+    requires { ⌜ CanFind (now m) (now best) (now t) (now ds) (now key) layout tally ⌝ }
+    ensures { λ r. ⌜ Searches (now (m .entry)) (now (best .entry)) (now (t .entry)) (now (ds .entry)) (now (key .entry)) layout 4294967295 tally
+        (now (best .exit)) r ⌝ }
+{
+    let first = search_within(m, best, t, ds, key, layout, FIRST_LIMIT, tally);
+    if first.steps < FIRST_LIMIT {
+        return first;
+    }
+    let near = search_near(m, best, t, ds, key, layout, 0, FIRST_NEAR, first);
+    let second = search_within(m, best, t, ds, key, layout, SECOND_LIMIT, near);
+    if second.steps < SECOND_LIMIT {
+        return second;
+    }
+    let last = search_near(m, best, t, ds, key, layout, FIRST_NEAR, LAST_NEAR, second);
+    search_within(m, best, t, ds, key, layout, NO_LIMIT, last)
 }
 
 // Finds the best timetable of a line within the limits.
-pub fn best_of(line: Line) -> Found
+pub fn best_timetable(line: Line) -> Found
     requires { ⌜ Within line × Arrays line ⌝ }
     ensures { λ r. ⌜ Finds line r ⌝ }
 {
@@ -28,7 +204,6 @@ pub fn best_of(line: Line) -> Found
         return Found {
             found: false,
             minutes: best,
-            steps: 1,
         };
     }
     let minutes = first.minutes;
@@ -36,28 +211,14 @@ pub fn best_of(line: Line) -> Found
     let ds = directions_of(line);
     let key = key_of(line);
     let layout = layout_of(line);
-    let mut marks = [0u16; 368];
     let none = Tally {
         found: false,
         delay: 0,
-        steps: 1,
+        steps: 0,
     };
-    let tally = take_up(
-        &minutes,
-        &minutes,
-        0,
-        &mut marks,
-        &mut best,
-        &t,
-        &ds,
-        &key,
-        layout,
-        0,
-        none,
-    );
+    let whole = search_whole(&minutes, &mut best, &t, &ds, &key, layout, none);
     Found {
-        found: tally.found,
+        found: whole.found,
         minutes: best,
-        steps: tally.steps,
     }
 }

@@ -1,7 +1,8 @@
-// The search for the best timetable.
+// The search for the best timetable, and solving a line file by it.
 pub mod finding;
-pub mod ranking;
+pub mod neighbourhood;
+pub mod pricing;
+pub mod scoring;
+pub mod search;
+pub mod selecting;
 pub mod solving;
-pub mod tally;
-pub mod walk;
-pub mod ways;

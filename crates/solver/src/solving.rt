@@ -1,7 +1,7 @@
 // Solving a line file: its best timetable, written into lent bytes.
 ghost use mathlib.Core.Path.{_≡_};
 ghost use Rattle.solver.specs.Solving.{Solving, fileRefused};
-use crate::finding::best_of;
+use crate::finding::best_timetable;
 use line::Answer;
 use line::reading::read;
 use text::Written;
@@ -26,10 +26,10 @@ pub fn solve(file: &[u8], out: &mut [u8]) -> Written
         return file_refused(answer);
     };
     let line = reading.line;
-    let plan = best_of(line);
-    if !plan.found {
+    let best = best_timetable(line);
+    if !best.found {
         return Written::Refused(5, 0);
     }
-    let minutes = plan.minutes;
+    let minutes = best.minutes;
     write(line, minutes, out)
 }

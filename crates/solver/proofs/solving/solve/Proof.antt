@@ -23,8 +23,8 @@ returns : tie.Need-returns
 returns c =
     solving-refused _ (c .before .before .before .read .ensures) _ (c .before .enum-told2 .given .1) (c .file-refused .ensures)
 
-best-of-requires : tie.Need-best-of-requires
-best-of-requires c κs =
+best-timetable-requires : tie.Need-best-timetable-requires
+best-timetable-requires c κs =
     let r = solved-read _ (c .before .before .before .read .ensures) (c .before .enum-told .given .1) in
     (r .limits, r .arrays)
 
@@ -32,7 +32,7 @@ returns-2 : tie.Need-returns-2
 returns-2 c =
     let told = c .before .before .before .before in
     solving-none _ (told .before .before .read .ensures) (told .enum-told .given .1) _
-    (c .before .before .best-of .ensures .none (not-true _ (c .if1 .taken))) refl
+    (c .before .before .best-timetable .ensures .none (not-true _ (c .if1 .taken))) refl
 
 write-requires : tie.Need-write-requires
 write-requires c κs = search needs
@@ -44,8 +44,8 @@ returns-3 : tie.Need-returns-3
 returns-3 c =
     let found = c .before .before .before .before .before .before .before in
     let told = found .before .before in
-    solving-best _ (told .before .before .read .ensures) (told .enum-told .given .1) (found .best-of .result .minutes)
-    (found .best-of .ensures .best (not-false _ (c .before .before .before .before .before .if1 .left))) (c .before .before .write .ensures)
+    solving-best _ (told .before .before .read .ensures) (told .enum-told .given .1) (found .best-timetable .result .minutes)
+    (found .best-timetable .ensures .best (not-false _ (c .before .before .before .before .before .if1 .left))) (c .before .before .write .ensures)
 
 pub solve-spec : {M : Type 1} → statement M
 solve-spec =
@@ -56,7 +56,7 @@ solve-spec =
     enum-told-2
     file-refused-requires
     returns
-    best-of-requires
+    best-timetable-requires
     returns-2
     write-requires
     same-length

@@ -1,0 +1,65 @@
+-- The plan without choices as a search begins with it: its least minutes, and that they lie below every lawful timetable.
+use Prim.Native.Nat.{ℕ, _≤_}
+use mathlib.Core.Path.{_≡_, sym, _∙_, subst}
+use mathlib.Core.Bool.{true, false, true≢false}
+use mathlib.Core.List.{List}
+use lib.ListN.{replicate, length-replicate}
+use Rattle.text.specs.Decide.{is-true}
+use Rattle.line.specs.declared.Line.{Line}
+use Rattle.line.specs.Within.{Within, Arrays}
+use Rattle.rules.specs.declared.conflicts.Layout.{Layout}
+use Rattle.rules.specs.Paths.{EachTrain}
+use Rattle.rules.specs.Rules.{NotLate}
+use Rattle.rules.specs.Conflicts.{layoutOf}
+use Rattle.rules.specs.Delay.{weightedDelay}
+use Rattle.rules.specs.Directions.{directionsOf}
+use Rattle.orders.specs.Least.{Fit, IsLeast}
+use Rattle.orders.specs.Marks.{free}
+use Rattle.orders.specs.Plans.{Keeps}
+use Rattle.orders.specs.Tables.{tablesOf}
+use Rattle.orders.specs.TidyPlansLaws.{free-tidy}
+use Rattle.plans.specs.BestSoFar.{nothing}
+use Rattle.plans.specs.Search.{Under, NoneBetter}
+use Rattle.plans.specs.SearchLaws.{under-start, under-least}
+use Rattle.plans.specs.Planning.{start, planning}
+use Rattle.plans.specs.PlanningLaws.{decides-inTime}
+use Rattle.plans.specs.LineSearched.{starts, planning-laws}
+use Rattle.plans.specs.Keys.{keyOf}
+use Rattle.plans.specs.Choosing.{Given}
+use Rattle.plans.specs.declared.tally.Tally.{Tally}
+
+module _ (l : Line) (w : Within l) (a : Arrays l) where
+  module _ (m : List ℕ) (least : IsLeast 352 (Keeps l free) (replicate 352 0) m) where
+    pub first-under : Under (planning l) free m
+    first-under =
+        let L = planning-laws l w a in
+        under-least (planning l) L free start m (under-start (planning l) L) (subst (λ (s : List ℕ). IsLeast 352 (Keeps l free) s m) starts least)
+
+    -- what a search is given of it, with nothing found yet
+    pub first-given : EachTrain l (NotLate l m) → weightedDelay l m ≡ 0 → (t ds key : List ℕ) (layout : Layout) → t ≡ tablesOf l → ds ≡ directionsOf l →
+        key ≡ keyOf l → layout ≡ layoutOf l → (y : Tally) → y .found ≡ false → y .steps ≤ 4294967295 →
+        Given l m free (replicate 352 0) t ds key layout 0 y
+    first-given late cost t ds key layout tables directions keys layout-is y none-yet low =
+        record {
+          tabled = record { within = w; arrays = a; tables = tables; directions = directions };
+          keys = keys;
+          layout-is = layout-is;
+          planned = record {
+            fit = least .fit;
+            keeps = least .keeps;
+            tidy = free-tidy l;
+            timely = is-true (decides-inTime l m) late;
+            cost-is = sym cost;
+          };
+          tallied = record {
+            size = length-replicate {A = ℕ} 352 0;
+            delay-is = λ e. absurd (true≢false (sym e ∙ none-yet));
+            delay-low = λ e. absurd (true≢false (sym e ∙ none-yet));
+            steps-low = low;
+          };
+        }
+
+  -- where no minutes of it are in time, nothing is lawful
+  pub first-late : ((m : List ℕ) → Fit 352 m → Keeps l free m → EachTrain l (NotLate l m) → ⊥) → NoneBetter (planning l) free nothing
+  unfolding NoneBetter
+  first-late late m h k _ = late m (h .0) k (h .1 .rule13)

@@ -1,0 +1,53 @@
+-- The timetables of a line as a problem for the walk.
+use Prim.Native.Nat.{ℕ, _/_, _%_}
+use mathlib.Core.Bool.{Bool, cond, _&&_}
+use mathlib.Core.List.{List}
+use lib.ListN.{replicate}
+use lib.Dec.{ltb}
+use Rattle.text.specs.Below.{all, table}
+use Rattle.line.specs.declared.Line.{Line}
+use Rattle.rules.specs.Paths.{train, legs}
+use Rattle.rules.specs.Minutes.{departure}
+use Rattle.rules.specs.Rules.{Lawful}
+use Rattle.rules.specs.Delay.{weightedDelay}
+use Rattle.rules.specs.Tests.{keepsRule}
+use Rattle.orders.specs.Least.{Fit}
+use Rattle.orders.specs.Choices.{Choice}
+use Rattle.orders.specs.Marks.{Plan, free, also}
+use Rattle.orders.specs.Plans.{Keeps}
+use Rattle.orders.specs.PlanArcs.{least}
+use Rattle.plans.specs.Problem.{Problem}
+use Rattle.plans.specs.Ways.{ways}
+
+-- all minutes 0
+unfoldable pub start : List ℕ
+start = replicate 352 0
+
+-- train i has a leg k
+unfoldable pub isLeg : Line → ℕ → ℕ → Bool
+isLeg l i k = ltb i (l .«train_count») && ltb k (legs l i)
+
+-- "departures are compared from train 1 up, each train's in travel order": 11 entries to a train, 0 where there is no leg
+unfoldable pub departures : Line → List ℕ → List ℕ
+departures l m = table (λ e. cond (isLeg l (e / 11) (e % 11)) (departure l m (e / 11) (e % 11)) 0) 132
+
+-- rule 13 of every train
+unfoldable pub inTime : Line → List ℕ → Bool
+inTime l m = all (λ i. keepsRule 13 (train l i) m i) (l .«train_count»)
+
+abbrev pub planning : Line → Problem
+planning l = record {
+  Choice = Choice;
+  Plan = Plan;
+  free = free;
+  also = also;
+  events = 352;
+  start = start;
+  Keeps = Keeps l;
+  Lawful = λ m. Fit 352 m × Lawful l m;
+  least = least l;
+  cost = weightedDelay l;
+  key = departures l;
+  inTime = inTime l;
+  ways = ways l;
+}

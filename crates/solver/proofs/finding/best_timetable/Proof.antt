@@ -1,0 +1,84 @@
+-- `solver::finding::best_timetable` meets its contract: a search of the first plan to its end is one of everything, or no minutes of that plan are in time.
+-- Assumes nothing.
+use mathlib.Core.Path.{refl}
+use mathlib.Core.Bool.{false}
+use native.Mathlib.Omega.{arith}
+use borrow.Author.Needs.{needs}
+use borrow.Author.Tests.{not-true, not-false}
+use lib.ListN.{replicate}
+use Rattle.orders.specs.Least.{IsLeast}
+use Rattle.orders.specs.Marks.{free}
+use Rattle.orders.specs.Plans.{Keeps}
+use Rattle.plans.specs.FirstLaws.{first-given, first-under}
+use Rattle.solver.specs.Finding.{First}
+use Rattle.solver.specs.FindingLaws.{finds-searched, finds-nothing}
+use Rattle.solver.proofs.finding.best_timetable.Statement.{statement}
+use Rattle.solver.proofs.finding.best_timetable.Tie as tie
+
+first-minutes-requires : tie.Need-first-minutes-requires
+first-minutes-requires c κs = search needs
+
+returns : tie.Need-returns
+returns c =
+    let a = c .before .before .before in
+    finds-nothing (a .args .line) (a .pre .0) (a .pre .1) (c .before .before .first-minutes .ensures .none (not-true _ (c .if1 .taken))) _
+
+tables-of-requires : tie.Need-tables-of-requires
+tables-of-requires c κs = search needs
+
+directions-of-requires : tie.Need-directions-of-requires
+directions-of-requires c κs = search needs
+
+key-of-requires : tie.Need-key-of-requires
+key-of-requires c κs = search needs
+
+layout-of-requires : tie.Need-layout-of-requires
+layout-of-requires c κs = search needs
+
+-- what is known before the search
+abbrev laid : tie.After-key → tie.After-layout-of
+laid c = c .before .before .before .before .before
+
+abbrev firstly : tie.After-key → tie.After-first-minutes
+firstly c = laid c .before .before .before .before .before .before .before
+
+least : (c : tie.After-key) →
+    IsLeast 352 (Keeps (firstly c .before .args .line) free) (replicate 352 0) (firstly c .first-minutes .result .minutes)
+least c = firstly c .first-minutes .ensures .least (not-false _ (laid c .before .before .before .before .before .if1 .left))
+
+first : (c : tie.After-key) →
+    First (firstly c .before .args .line) (firstly c .first-minutes .result .minutes) (replicate 352 0)
+    (laid c .before .before .before .tables-of .result) (laid c .before .before .directions-of .result) (laid c .before .key-of .result)
+    (laid c .layout-of .result) (record { found = false; delay = 0; steps = 0 })
+first c =
+    let a = firstly c .before in
+    let timely = not-false _ (laid c .before .before .before .before .before .if1 .left) in
+    record {
+      given =
+          first-given (a .args .line) (a .pre .0) (a .pre .1) _ (least c) (firstly c .first-minutes .ensures .rule13 timely)
+          (firstly c .first-minutes .ensures .cost timely) _ _ _ _ (laid c .before .before .before .tables-of .ensures)
+          (laid c .before .before .directions-of .ensures) (laid c .before .key-of .ensures) (laid c .layout-of .ensures) _ refl (omega arith);
+      under = first-under (a .args .line) (a .pre .0) (a .pre .1) _ (least c);
+    }
+
+search-whole-requires : tie.Need-search-whole-requires
+search-whole-requires c κs = record { line = firstly c .before .args .line; first = first c }
+
+returns-2 : tie.Need-returns-2
+returns-2 c =
+    let b = c .before in
+    let a = firstly b .before in
+    finds-searched (a .args .line) (a .pre .0) (a .pre .1) _ _ _ _ refl (c .search-whole .ensures (a .args .line) (first b))
+
+pub best-timetable-spec : {M : Type 1} → statement M
+best-timetable-spec =
+    tie.close
+    (tie.spec
+    first-minutes-requires
+    returns
+    tables-of-requires
+    directions-of-requires
+    key-of-requires
+    layout-of-requires
+    search-whole-requires
+    returns-2)

@@ -1,0 +1,84 @@
+-- `walk::finding::best_of` meets its contract: the walk from the first plan is the whole walk, or no minutes of that plan are in time.
+use mathlib.Core.Path.{refl}
+use mathlib.Core.Bool.{false}
+use native.Mathlib.Omega.{arith}
+use borrow.Author.Needs.{needs}
+use borrow.Author.Tests.{not-true, not-false}
+use lib.ListN.{replicate}
+use Rattle.orders.specs.Least.{IsLeast}
+use Rattle.orders.specs.Marks.{free}
+use Rattle.orders.specs.Plans.{Keeps}
+use Rattle.rules.specs.ScanningLaws.{clear-none}
+use Rattle.plans.specs.Choosing.{Given}
+use Rattle.plans.specs.FirstLaws.{first-given}
+use Rattle.walk.specs.FindingLaws.{finds-walked, finds-nothing}
+use Rattle.walk.proofs.finding.best_of.Statement.{statement}
+use Rattle.walk.proofs.finding.best_of.Tie as tie
+
+first-minutes-requires : tie.Need-first-minutes-requires
+first-minutes-requires c κs = search needs
+
+returns : tie.Need-returns
+returns c =
+    let a = c .before .before .before in
+    finds-nothing (a .args .line) (a .pre .0) (a .pre .1) (c .before .before .first-minutes .ensures .none (not-true _ (c .if1 .taken))) _
+
+tables-of-requires : tie.Need-tables-of-requires
+tables-of-requires c κs = search needs
+
+directions-of-requires : tie.Need-directions-of-requires
+directions-of-requires c κs = search needs
+
+key-of-requires : tie.Need-key-of-requires
+key-of-requires c κs = search needs
+
+layout-of-requires : tie.Need-layout-of-requires
+layout-of-requires c κs = search needs
+
+-- what is known before the walk
+abbrev laid : tie.After-key → tie.After-layout-of
+laid c = c .before .before .before .before .before .before .before
+
+abbrev first : tie.After-key → tie.After-first-minutes
+first c = laid c .before .before .before .before .before .before .before
+
+least : (c : tie.After-key) →
+    IsLeast 352 (Keeps (first c .before .args .line) free) (replicate 352 0) (first c .first-minutes .result .minutes)
+least c = first c .first-minutes .ensures .least (not-false _ (laid c .before .before .before .before .before .if1 .left))
+
+given : (c : tie.After-key) →
+    Given (first c .before .args .line) (first c .first-minutes .result .minutes) (replicate 368 0) (replicate 352 0)
+    (laid c .before .before .before .tables-of .result) (laid c .before .before .directions-of .result) (laid c .before .key-of .result)
+    (laid c .layout-of .result) 0 (record { found = false; delay = 0; steps = 1 })
+unfolding free
+given c =
+    let a = first c .before in
+    let timely = not-false _ (laid c .before .before .before .before .before .if1 .left) in
+    first-given (a .args .line) (a .pre .0) (a .pre .1) _ (least c) (first c .first-minutes .ensures .rule13 timely)
+    (first c .first-minutes .ensures .cost timely) _ _ _ _ (laid c .before .before .before .tables-of .ensures)
+    (laid c .before .before .directions-of .ensures) (laid c .before .key-of .ensures) (laid c .layout-of .ensures) _ refl (omega arith)
+
+take-up-requires : tie.Need-take-up-requires
+take-up-requires c κs =
+    record { line = first c .before .args .line; given = given c; former-size = given c .planned .fit .size; known = clear-none _ _ _ }
+
+returns-2 : tie.Need-returns-2
+unfolding free
+returns-2 c =
+    let b = c .before in
+    let a = first b .before in
+    finds-walked (a .args .line) (a .pre .0) (a .pre .1) (first b .first-minutes .result .minutes) (least b) (replicate 352 0) refl refl
+    (c .take-up .ensures (a .args .line) (given b))
+
+pub best-of-spec : {M : Type 1} → statement M
+best-of-spec =
+    tie.close
+    (tie.spec
+    first-minutes-requires
+    returns
+    tables-of-requires
+    directions-of-requires
+    key-of-requires
+    layout-of-requires
+    take-up-requires
+    returns-2)

@@ -1,0 +1,13 @@
+-- The walk of request K9: its definition, that it finds the best timetable, and the contracts of its functions.
+pub mod Walk
+pub mod Look
+pub mod Sound
+pub mod WalkLaws
+pub mod Solved
+pub mod ProblemLaws
+pub mod Taking
+pub mod TakingLaws
+pub mod WalksLaws
+pub mod TakenLaws
+pub mod Finding
+pub mod FindingLaws

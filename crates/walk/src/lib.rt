@@ -1,0 +1,3 @@
+// The walk over the plans that request K9 describes, with its length.
+pub mod finding;
+pub mod walk;
