@@ -6,7 +6,7 @@
  *   - the pointer is to as many bytes as the length says, all of them initialised; it is not null, not even for length 0;
  *   - `out` overlaps nothing else that is lent to the same call (`file` and `timetable` may overlap each other);
  *   - nobody else writes to the bytes, or reads `out`, until the call returns;
- *   - gaugeviolet_solve recurses: call it with 4 MB of stack left.
+ *   - gaugeviolet_solve and gaugeviolet_walk_length recurse: call them with 6 MB of stack left.
  *
  * Each answer is one number: see gaugeviolet_number and gaugeviolet_value. */
 #ifndef GAUGEVIOLET_H
@@ -37,10 +37,14 @@ uint64_t gaugeviolet_check(const uint8_t *file, size_t file_len, const uint8_t *
  * gaugeviolet_read, then with 5 where no timetable keeps every rule, then with 6. */
 uint64_t gaugeviolet_solve(const uint8_t *file, size_t file_len, uint8_t *out, size_t out_len);
 
+/* The length of the walk of request K9 on a line file: how many plans it takes up, cut off at 4,294,967,295, or refused
+ * as by gaugeviolet_read. For tests and measurements: on a busy day the walk does not end in reasonable time. */
+uint64_t gaugeviolet_walk_length(const uint8_t *file, size_t file_len);
+
 /* The number of a refusal, and 0 where nothing is refused. Where it is not 0, no lent byte has changed. */
 static inline uint32_t gaugeviolet_number(uint64_t answer) { return (uint32_t)(answer >> 32); }
 
-/* The place of a refusal; where nothing is refused, the length of what was written. */
+/* The place of a refusal; where nothing is refused, the length of what was written, or of the walk. */
 static inline uint32_t gaugeviolet_value(uint64_t answer) { return (uint32_t)answer; }
 
 #ifdef __cplusplus

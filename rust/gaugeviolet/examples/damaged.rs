@@ -44,7 +44,7 @@ fn run(count: u64) -> ExitCode {
     let mut numbers = Numbers::new();
     for at in 0..count {
         let damage = Damage::ALL[at as usize % Damage::ALL.len()];
-        // The walk of a full-size line may be too long to wait for.
+        // The search or the walk of a full-size line may be too long to wait for.
         let solved = at % 50 != 0;
         let planned = if solved {
             &lines[random.below(LINES)]
@@ -96,6 +96,7 @@ fn lend(random: &mut Random, pair: &Pair, solved: bool, numbers: &mut Numbers) {
             numbers,
             written(room, |lent| gaugeviolet::solve(&file, lent)),
         );
+        count(numbers, gaugeviolet::walk_length(&file));
     }
 }
 

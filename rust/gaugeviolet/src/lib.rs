@@ -44,7 +44,7 @@ pub const FILE_BYTES: usize = 4096;
 pub const TIMETABLE_BYTES: usize = 4096;
 /// The bytes of stack to give to [`solve`]: about twice what its recursion takes at its deepest, as far
 /// as that is argued and tested. No proof bounds it.
-pub const SOLVE_STACK: usize = 4 << 20;
+pub const SOLVE_STACK: usize = 6 << 20;
 
 /// Why the planner turned something down. Nothing that was lent has changed then.
 #[derive(Clone, Copy, Debug, PartialEq, Eq, PartialOrd, Ord, Hash)]
@@ -141,7 +141,7 @@ pub fn check(file: &[u8], timetable: &[u8]) -> Result<(), Refusal> {
 /// length; the bytes past it keep their former content. Refused as in [`read`], then with 5 where no
 /// timetable keeps every rule, then with 6 where `lent` has fewer bytes than the text.
 ///
-/// The search is recursive and takes about 1.4 kB of stack for each choice of a plan; a plan has at
+/// The search is recursive and takes about 2.4 kB of stack for each choice of a plan; a plan has at
 /// most 1,386. Call it from a thread with [`SOLVE_STACK`] bytes of stack.
 ///
 /// ```
@@ -164,6 +164,25 @@ pub fn check(file: &[u8], timetable: &[u8]) -> Result<(), Refusal> {
 /// ```
 pub fn solve(file: &[u8], lent: &mut [u8]) -> Result<usize, Refusal> {
     unpacked(screen::solve(file, lent)).map(|length| length as usize)
+}
+
+/// The length of the walk of a line file: how many plans that takes up, cut off at 4,294,967,295. Refused
+/// as in [`read`].
+///
+/// This is the walk of request K9, which goes from plan to plan in a fixed order. It is here for the tests
+/// and the benchmark; [`solve`] finds the same timetable by a shorter way. On a busy day the walk does not
+/// end in reasonable time. It is recursive too: call it from a thread with [`SOLVE_STACK`] bytes of stack.
+///
+/// ```
+/// // Two trains meet on the only segment: one plan without a choice, and one for each that goes first.
+/// let file = b"2\n1\n1\n1\nS 5 4\n2\n1 2 0 200 1 20\n2 1 0 200 2 15\n";
+/// assert_eq!(gaugeviolet::walk_length(file), Ok(3));
+///
+/// let refusal = gaugeviolet::walk_length(b"13\n").unwrap_err();
+/// assert_eq!((refusal.number, refusal.place), (3, 1));
+/// ```
+pub fn walk_length(file: &[u8]) -> Result<u32, Refusal> {
+    unpacked(screen::walk_length(file))
 }
 
 /// Takes a returned number apart: number · 2³² + value. Number 0 is success with its value, any

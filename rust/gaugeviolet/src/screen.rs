@@ -18,6 +18,7 @@ extern "C" {
         timetable_len: usize,
     ) -> u64;
     fn gaugeviolet_solve(file: *const u8, file_len: usize, out: *mut u8, out_len: usize) -> u64;
+    fn gaugeviolet_walk_length(file: *const u8, file_len: usize) -> u64;
 }
 
 pub(crate) fn read(file: &[u8]) -> u64 {
@@ -47,4 +48,9 @@ pub(crate) fn check(file: &[u8], timetable: &[u8]) -> u64 {
 pub(crate) fn solve(file: &[u8], out: &mut [u8]) -> u64 {
     // SAFETY: as for `rewrite`.
     unsafe { gaugeviolet_solve(file.as_ptr(), file.len(), out.as_mut_ptr(), out.len()) }
+}
+
+pub(crate) fn walk_length(file: &[u8]) -> u64 {
+    // SAFETY: as for `read`.
+    unsafe { gaugeviolet_walk_length(file.as_ptr(), file.len()) }
 }

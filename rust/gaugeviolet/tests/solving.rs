@@ -1,18 +1,16 @@
-//! Solving beside the independent walk and the planner that tries every order, byte for byte; each
-//! timetable printed passes the check, and a refusal changes no lent byte.
+//! Solving beside the independent planners, byte for byte: the one that tries every order and the walk on
+//! small files, the walk on Saturdays where it ends, and the search on larger ones. Each timetable printed
+//! passes the check, and a refusal changes no lent byte.
 
 use gaugeviolet::{check, solve, TIMETABLE_BYTES};
-use independent::exhaustive::{self, Unplanned};
-use independent::walk::plan_by_walk;
-use independent::Line;
-use inputs::{short_walk, small_line, Random, Shape};
-
-fn file_of(line: &Line) -> Vec<u8> {
-    independent::write(line).expect("a line within the limits")
-}
+use independent::search::search_within;
+use independent::walk::solve_within;
+use independent::{Line, Refusal};
+use inputs::{beside_another, beside_walks, short_walks, small_walks};
+use inputs::{saturday, some_saturday, Answer, Random, Style};
 
 /// What the library answers: the text, or number and place with every lent byte as before.
-fn solved(file: &[u8]) -> Result<Vec<u8>, (u32, u32)> {
+fn solved(file: &[u8]) -> Answer {
     let mut lent = [0xa5; TIMETABLE_BYTES];
     match solve(file, &mut lent) {
         Ok(length) => {
@@ -32,46 +30,48 @@ fn solved(file: &[u8]) -> Result<Vec<u8>, (u32, u32)> {
                 lent.iter().all(|&byte| byte == 0xa5),
                 "a byte changed with {refusal}"
             );
-            Err((refusal.number, refusal.place))
+            let (number, place) = (refusal.number, refusal.place);
+            Err(Refusal { number, place })
         }
     }
 }
 
-fn by_walk(file: &[u8]) -> Result<Vec<u8>, (u32, u32)> {
-    plan_by_walk(file).map_err(|refusal| (refusal.number, refusal.place))
+#[test]
+fn small_files_beside_every_order() {
+    let corners = beside_walks(small_walks(7).take(50_000), solved);
+    corners.ends("small files", 3_000);
 }
 
 #[test]
-fn as_the_independent_walk() {
-    let mut random = Random::new(20_261_115);
-    let mut without = 0;
-    for turn in 0..21_000 {
-        let walk = short_walk(&mut random, Shape::ALL[turn % Shape::ALL.len()], 2_000);
-        let file = file_of(&walk.line);
-        let answer = solved(&file);
-        assert_eq!(answer, by_walk(&file), "{}", String::from_utf8_lossy(&file));
-        without += usize::from(answer == Err((5, 0)));
-    }
-    assert!(without >= 500, "only {without} lines have no timetable");
+fn files_of_every_shape_beside_the_walk() {
+    let corners = beside_walks(short_walks(20_261_115, 2_000).take(20_000), solved);
+    corners.ends("files of every shape", 1_000);
 }
 
+/// The Saturdays of each style on which the walk ends within four million plans.
 #[test]
-fn as_the_planner_that_tries_every_order() {
-    let mut random = Random::new(7);
-    let mut without = 0;
-    for turn in 0..3_000 {
-        let (stations, trains) = (2 + turn % 3, 1 + turn / 3 % 3);
-        let file = file_of(&small_line(&mut random, stations, trains));
-        match exhaustive::plan(&file, u64::MAX) {
-            Ok(text) => assert_eq!(solved(&file), Ok(text)),
-            Err(Unplanned::Refused(refusal)) => {
-                without += 1;
-                assert_eq!(solved(&file), Err((refusal.number, refusal.place)));
-            }
-            Err(_) => unreachable!("no limit was set"),
-        }
+fn saturdays_beside_the_walk() {
+    let mut random = Random::new(8);
+    for style in Style::ALL {
+        let saturdays = (0..100).map(|_| some_saturday(&mut random, style));
+        let walk = |line: &Line| solve_within(line, 4_000_000).ok();
+        let outcomes = beside_another(saturdays, walk, solved);
+        println!("{style:?}: {outcomes:?}");
+        assert!(outcomes.lines >= 70 && outcomes.delayed >= 40);
     }
-    assert!(without >= 500, "only {without} lines have no timetable");
+}
+
+/// Saturdays of the greatest size, most of them with too long a walk.
+#[test]
+fn large_saturdays_beside_the_search() {
+    let mut random = Random::new(9);
+    for style in Style::ALL {
+        let saturdays = (0..40).map(|_| saturday(&mut random, 12, 12, style));
+        let search = |line: &Line| search_within(line, 300_000).ok();
+        let outcomes = beside_another(saturdays, search, solved);
+        println!("{style:?}: {outcomes:?}");
+        assert!(outcomes.lines >= 30 && outcomes.delayed >= 15);
+    }
 }
 
 #[test]

@@ -1,8 +1,9 @@
 //! Examples E1 to E12 of the scope document, and that of source document 003: what the samples hold,
-//! what the check says of it and of worse timetables, and what trying every order and the walk find.
+//! what the check says of it and of worse timetables, and what the three planners find.
 
 use crate::exhaustive::{best, plan, Unplanned, WorkLimit};
 use crate::rules::{first_breach, weighted_delay};
+use crate::search::{plan_by_search, search};
 use crate::test_texts::{line, minutes, minutes_checked, refused};
 use crate::walk::{plan_by_walk, solve};
 use crate::{check, timetable, Refusal, FILE_BYTES};
@@ -27,6 +28,8 @@ fn plans(file: &[u8], sample: &[u8], total: u32, rows: &[&[u16]]) {
     assert_eq!(plan(file, WORK).as_deref(), Ok(sample));
     assert_eq!(solve(&line(file)).best, Some(expected));
     assert_eq!(plan_by_walk(file).as_deref(), Ok(sample));
+    assert_eq!(search(&line(file)).best, Some(expected));
+    assert_eq!(plan_by_search(file).as_deref(), Ok(sample));
     assert_eq!(timetable::write(&line(file), &expected), sample);
     assert_eq!(check(file, sample), Ok(()));
 }
@@ -41,6 +44,8 @@ fn has_none(file: &[u8], sample: &[u8]) {
     assert_eq!(plan(file, WORK), Err(Unplanned::Refused(refusal)));
     assert_eq!(solve(&line(file)).best, None);
     assert_eq!(plan_by_walk(file), Err(refusal));
+    assert_eq!(search(&line(file)).best, None);
+    assert_eq!(plan_by_search(file), Err(refusal));
     assert_eq!(format!("{refusal}\n").as_bytes(), sample);
 }
 
@@ -187,6 +192,32 @@ fn the_lengths_of_the_walks() {
     assert_eq!(length(sample!("e8.line")), 3);
     assert_eq!(length(sample!("e9.line")), 3);
     assert_eq!(length(sample!("e10.line")), 3);
+    // No conflict, or the plan without choices is late.
+    assert_eq!(length(sample!("e11.line")), 1);
+    assert_eq!(length(sample!("e12-10.line")), 1);
+    assert_eq!(length(sample!("e12-9.line")), 1);
+}
+
+/// Worked by hand: the plan without choices, and the ways out that are taken up.
+#[test]
+fn the_lengths_of_the_searches() {
+    let length = |file| search(&line(file)).plans;
+    // Train 1 first on segment 1 costs 18 (2); the other way, at 34, is then dead.
+    assert_eq!(length(FILE_A), 2);
+    // Train 1 first on segment 1 costs 18 (2). There train 1 must leave station 2 before train 2
+    // arrives (3), and then go first on segment 2, for 88 (4). Train 2 first on segment 1 is alive (5).
+    assert_eq!(length(sample!("e2.line")), 5);
+    // Train 2 is late behind train 1: only one way is alive.
+    assert_eq!(length(sample!("e4.line")), 2);
+    // As E2, and behind train 1 on segment 2 train 2 is late, so that 3 ends. Train 1 is late behind
+    // train 2 (E5) or is not (E6).
+    assert_eq!(length(sample!("e5.line")), 3);
+    assert_eq!(length(sample!("e6.line")), 4);
+    // Of both orders the dearer one is dead after the cheaper (E7, E9), or costs the same (E8).
+    assert_eq!(length(sample!("e7.line")), 2);
+    assert_eq!(length(sample!("e8.line")), 3);
+    assert_eq!(length(sample!("e9.line")), 2);
+    assert_eq!(length(sample!("e10.line")), 2);
     // No conflict, or the plan without choices is late.
     assert_eq!(length(sample!("e11.line")), 1);
     assert_eq!(length(sample!("e12-10.line")), 1);

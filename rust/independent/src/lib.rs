@@ -1,11 +1,12 @@
 //! Line files and timetables in plain Rust, from the scope document alone: reading and writing, the
-//! rules, the check, a planner that tries every order, and one that walks through plans.
+//! rules, the check, a planner that tries every order, one that walks through plans, and one that
+//! searches through them.
 //!
 //! Nothing here comes from the proved crates or calls them: the tests compare the two, so a mistake
 //! has to be made twice to pass. The readers, the writers and the check allocate nothing (only
 //! [`write`] and [`timetable::write`] hand out a vector), so the benchmark can compare times as well.
-//! The planner of [`exhaustive`] is made to be believed, not to be fast; that of [`walk`] takes up the
-//! same plans as the proved solver, and is made to be fast.
+//! The planner of [`exhaustive`] is made to be believed, not to be fast. Those of [`walk`] and [`search`]
+//! are made to be fast; the walk takes up the same plans as the proved one.
 
 #![forbid(unsafe_code)]
 
@@ -13,13 +14,16 @@ use std::fmt;
 use std::ops::Range;
 
 pub mod exhaustive;
+pub mod plans;
 pub mod rules;
+pub mod search;
 pub mod timetable;
 pub mod walk;
 
 mod checker;
 mod position;
 mod reader;
+mod tables;
 mod text;
 mod writer;
 

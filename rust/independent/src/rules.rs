@@ -296,8 +296,9 @@ fn stands(line: &Line, minutes: &Minutes, station: usize) -> Spans {
     stands
 }
 
+/// When a train, by its number from 0, is in.
 #[inline]
-fn last_arrival(minutes: &Minutes, number: usize, train: &Train) -> u16 {
+pub fn last_arrival(minutes: &Minutes, number: usize, train: &Train) -> u16 {
     minutes.arrivals[train.segment(train.legs() - 1)][number]
 }
 

@@ -1,28 +1,36 @@
 //! Line files and timetables for tests and benchmarks: random lines within the limits, lines for the
-//! walk through plans, lawful timetables, texts with fields altered, texts with bytes damaged; and the
-//! count of what came of them.
+//! planners, Saturdays, lawful timetables, texts with fields altered, texts with bytes damaged; and the
+//! count of what they have and of what came of them.
 //! Everything comes from a seed, so a failure can be seen again.
 
 #![forbid(unsafe_code)]
 
+mod beside;
+mod corners;
 mod damage;
+mod edges;
 mod fields;
 mod parts;
 mod planned;
 mod random;
+mod saturdays;
 mod seen;
 mod shown;
 mod timetable_damage;
 mod walks;
 
+pub use beside::{beside_another, beside_walks, Answer, Outcomes};
+pub use corners::{Corner, Corners};
 pub use damage::{damage_bytes, damage_lines, with_one_byte_damaged};
 pub use fields::Fields;
 pub use planned::{full_size_planned, planned, small_line, small_planned, Pair, Planned, Traffic};
 pub use random::Random;
+pub use saturdays::{saturday, some_saturday, Style};
 pub use seen::{Least, Seen};
 pub use shown::shown;
 pub use timetable_damage::{damaged, Damage};
-pub use walks::{dense_line, dense_walk, short_walk, walk_line, LineWalk, Shape};
+pub use walks::{dense_line, dense_walk, short_walk, short_walks, small_walks, walk_line};
+pub use walks::{LineWalk, Shape};
 
 use independent::{Kind, Limits, Line, Segment, Train, STATIONS, TRAINS};
 

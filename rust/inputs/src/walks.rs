@@ -1,11 +1,13 @@
 //! Random lines for the walk through plans.
 
+use independent::plans::Found;
 use independent::rules::free_arrival;
-use independent::walk::{solve_within, Walked};
-use independent::{Kind, Limits, Line, Segment, Train};
+use independent::walk::solve_within;
+use independent::{exhaustive, Kind, Limits, Line, Segment, Train};
 
+use crate::edges::at_the_edges;
 use crate::parts::{of_size, used_parts, used_runs_and_stops};
-use crate::Random;
+use crate::{shown, small_line, Fields, Random};
 
 /// What the trains of a line have to do with each other.
 #[derive(Clone, Copy, Debug, PartialEq, Eq)]
@@ -22,6 +24,10 @@ pub enum Shape {
     ZeroWeights,
     /// Trains and segments that are all alike: ties everywhere.
     Ties,
+    /// As dense, with all trains starting in the same minute.
+    Together,
+    /// As dense, with following gaps that are far wider than the opposing ones.
+    WideFollowing,
     /// Numbers over the whole of their ranges and often at the ends; most trains may arrive up to the
     /// last minute.
     Wide,
@@ -29,13 +35,15 @@ pub enum Shape {
 
 impl Shape {
     /// All of them.
-    pub const ALL: [Shape; 7] = [
+    pub const ALL: [Shape; 9] = [
         Shape::Sparse,
         Shape::Dense,
         Shape::Tight,
         Shape::OneTrack,
         Shape::ZeroWeights,
         Shape::Ties,
+        Shape::Together,
+        Shape::WideFollowing,
         Shape::Wide,
     ];
 }
@@ -51,10 +59,10 @@ pub fn walk_line(random: &mut Random, stations: u16, trains: u16, shape: Shape) 
         Shape::OneTrack => 1,
         _ => random.within(1, 3),
     });
-    let alike = segment(random);
+    let alike = segment(random, shape);
     segments.fill_with(|| match shape {
         Shape::Ties => alike,
-        _ => segment(random),
+        _ => segment(random, shape),
     });
     let run = random.within(1, 20);
     trains.fill_with(|| match shape {
@@ -64,10 +72,14 @@ pub fn walk_line(random: &mut Random, stations: u16, trains: u16, shape: Shape) 
     line
 }
 
-fn segment(random: &mut Random) -> Segment {
+fn segment(random: &mut Random, shape: Shape) -> Segment {
+    let (narrowest, widest) = match shape {
+        Shape::WideFollowing => (20, 60),
+        _ => (1, 6),
+    };
     Segment {
         kind: random.one_of(&[Kind::S, Kind::S, Kind::F, Kind::D]),
-        following: random.within(1, 6),
+        following: random.within(narrowest, widest),
         opposing: random.within(1, 6),
     }
 }
@@ -75,6 +87,7 @@ fn segment(random: &mut Random) -> Segment {
 fn train(random: &mut Random, stations: u16, shape: Shape) -> Train {
     let (density, latest_start) = match shape {
         Shape::Sparse => (crate::Density::Sparse, 200),
+        Shape::Together => (crate::Density::Dense, 0),
         _ => (crate::Density::Dense, 30),
     };
     let ends = crate::path(random, stations, density);
@@ -140,7 +153,7 @@ pub struct LineWalk {
     /// The line, within the limits.
     pub line: Line,
     /// What its walk finds, and the number of plans.
-    pub walked: Walked,
+    pub walked: Found,
 }
 
 /// A random line of any size and this shape, whose walk takes up no more than `limit` plans.
@@ -158,6 +171,77 @@ pub fn short_walk(random: &mut Random, shape: Shape, limit: u64) -> LineWalk {
             return LineWalk { line, walked };
         }
     }
+}
+
+/// Lines of [`short_walk`], of every shape in turn and without end; and each altered so that its best
+/// timetable just holds, just fails, or ends with the day, where that walk is no longer either.
+pub fn short_walks(seed: u64, limit: u64) -> impl Iterator<Item = LineWalk> {
+    let mut random = Random::new(seed);
+    let shapes = Shape::ALL.into_iter().cycle();
+    shapes.flat_map(move |shape| {
+        let short = short_walk(&mut random, shape, limit);
+        with_altered(&mut random, short, |line| solve_within(line, limit).ok())
+    })
+}
+
+/// Small lines where mistakes would hide, without end, and each altered as in [`short_walks`]. Trying every
+/// order of them finds what the walk does.
+pub fn small_walks(seed: u64) -> impl Iterator<Item = LineWalk> {
+    let mut random = Random::new(seed);
+    let drawn = std::iter::repeat_with(move || {
+        let (stations, trains) = small_size(&mut random);
+        let line = match random.below(Shape::ALL.len() + 1) {
+            0 => small_line(&mut random, stations, trains),
+            shape => walk_line(&mut random, stations, trains, Shape::ALL[shape - 1]),
+        };
+        match beside_every_order(&line) {
+            Some(walked) => {
+                with_altered(&mut random, LineWalk { line, walked }, beside_every_order)
+            }
+            None => Vec::new(),
+        }
+    });
+    drawn.flatten()
+}
+
+/// A size of which every order is mostly tried quickly.
+fn small_size(random: &mut Random) -> (u16, u16) {
+    random.one_of(&[
+        (2, 2),
+        (2, 3),
+        (2, 4),
+        (2, 5),
+        (3, 2),
+        (3, 3),
+        (3, 4),
+        (4, 2),
+        (4, 3),
+        (5, 2),
+        (5, 3),
+    ])
+}
+
+/// The walk of a small line, held to trying every order, unless one of them takes too long.
+fn beside_every_order(line: &Line) -> Option<Found> {
+    let best = exhaustive::best(line, 50_000).ok()?;
+    let walked = solve_within(line, 100_000).ok()?;
+    assert_eq!(walked.best, best, "{}", shown(&Fields::of(line).text()));
+    Some(walked)
+}
+
+/// The line with its walk; and that line altered in every way, with the walks that `walk` ends.
+fn with_altered(
+    random: &mut Random,
+    first: LineWalk,
+    walk: impl Fn(&Line) -> Option<Found>,
+) -> Vec<LineWalk> {
+    let altered = at_the_edges(random, &first.line, first.walked.best.as_ref());
+    let mut all = vec![first];
+    all.extend(altered.into_iter().filter_map(|line| {
+        let walked = walk(&line)?;
+        Some(LineWalk { line, walked })
+    }));
+    all
 }
 
 /// A line of [`dense_line`] whose walk takes up from `least` to `most` plans.

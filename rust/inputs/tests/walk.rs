@@ -1,11 +1,12 @@
 //! The walk through plans beside the planner that tries every order, byte for byte, and beside the
 //! same walk word by word, which works out every plan from nothing, plan by plan counted.
 
-use independent::exhaustive::{self, Unplanned};
+use independent::plans::PlanLimit;
 use independent::rules::{weighted_delay, Minutes};
-use independent::walk::{plan_by_walk, solve, solve_within, PlanLimit};
+use independent::walk::{plan_by_walk, solve, solve_within};
 use independent::{check, Kind, Line, Refusal};
-use inputs::{dense_line, short_walk, small_line, walk_line, Random, Shape};
+use inputs::{beside_walks, dense_line, short_walk, small_line, small_walks, walk_line};
+use inputs::{Random, Shape};
 
 fn text(line: &Line) -> String {
     let file = independent::write(line).expect("a line within the limits");
@@ -247,22 +248,6 @@ impl Compared {
         self.most_plans = self.most_plans.max(walked.plans);
     }
 
-    /// Compares with trying every order, unless that takes too long.
-    fn by_orders(&mut self, line: &Line) {
-        let file = text(line).into_bytes();
-        let expected = match exhaustive::plan(&file, 50_000) {
-            Ok(timetable) => Ok(timetable),
-            Err(Unplanned::Refused(refusal)) => Err(refusal),
-            Err(Unplanned::WorkLimit) => return,
-        };
-        let planned = plan_by_walk(&file);
-        assert_eq!(planned, expected, "{}", text(line));
-        if let Ok(timetable) = planned {
-            assert_eq!(check(&file, &timetable), Ok(()), "{}", text(line));
-        }
-        self.count(line);
-    }
-
     /// Compares with the walk word by word, unless that is too long.
     fn word_by_word(&mut self, line: &Line, limit: u64) {
         let words = Words::walk(line, limit);
@@ -297,39 +282,10 @@ fn compared_by_shape(
     })
 }
 
-/// A size for which trying every order is mostly quick.
-fn small_size(random: &mut Random) -> (u16, u16) {
-    random.one_of(&[
-        (2, 2),
-        (2, 3),
-        (2, 4),
-        (3, 2),
-        (3, 3),
-        (4, 2),
-        (4, 3),
-        (5, 2),
-    ])
-}
-
 #[test]
 fn small_lines_beside_every_order() {
-    let mut random = Random::new(60);
-    let compared = compared("short times", 3000, |compared| {
-        let (stations, trains) = small_size(&mut random);
-        compared.by_orders(&small_line(&mut random, stations, trains));
-    });
-    assert!(compared.files >= 2000);
-    assert!(compared.without >= 200 && compared.delayed >= 200);
-}
-
-#[test]
-fn lines_of_every_shape_beside_every_order() {
-    let mut random = Random::new(61);
-    let by_shape = compared_by_shape(500, |compared, shape| {
-        let (stations, trains) = small_size(&mut random);
-        compared.by_orders(&walk_line(&mut random, stations, trains, shape));
-    });
-    assert!(by_shape.iter().all(|compared| compared.files >= 400));
+    let corners = beside_walks(small_walks(60).take(6000), plan_by_walk);
+    corners.ends("small lines", 250);
 }
 
 #[test]

@@ -1,0 +1,71 @@
+//! Lines altered so that their best timetable just holds, or just fails.
+
+use independent::rules::{free_arrival, last_arrival, Minutes};
+use independent::{Limits, Line, Train};
+
+use crate::parts::used_parts;
+use crate::Random;
+
+/// How a line is altered.
+#[derive(Clone, Copy)]
+enum Edge {
+    /// Some trains may arrive when they do in the best timetable, and not later: that just holds.
+    JustInTime,
+    /// The same, and for one of them, a delayed one if there is any, a minute less.
+    MinuteTooLate,
+    /// All times are later by as much, so that the best timetable would end with the day, or up to two
+    /// minutes before or after that.
+    EndOfDay,
+}
+
+/// The line, of which `best` is the best timetable, altered in every way. Without a timetable or a train
+/// there is no way.
+pub(crate) fn at_the_edges(random: &mut Random, line: &Line, best: Option<&Minutes>) -> Vec<Line> {
+    let edges = [Edge::JustInTime, Edge::MinuteTooLate, Edge::EndOfDay];
+    match best {
+        Some(best) if line.train_count > 0 => edges
+            .map(|edge| at_the_edge(random, line, best, edge))
+            .into(),
+        _ => Vec::new(),
+    }
+}
+
+fn at_the_edge(random: &mut Random, line: &Line, best: &Minutes, edge: Edge) -> Line {
+    let mut line = *line;
+    let trains = used_parts(&mut line).2;
+    let arrival = |(i, train): (usize, &Train)| last_arrival(best, i, train);
+    let arrivals: Vec<u16> = trains.iter().enumerate().map(arrival).collect();
+    match edge {
+        Edge::JustInTime => just_in_time(random, trains, &arrivals),
+        Edge::MinuteTooLate => {
+            just_in_time(random, trains, &arrivals);
+            let late = |&i: &usize| u32::from(arrivals[i]) > free_arrival(&trains[i]);
+            let delayed: Vec<usize> = (0..trains.len()).filter(late).collect();
+            let one = match delayed[..] {
+                [] => random.below(trains.len()),
+                _ => random.one_of(&delayed),
+            };
+            trains[one].latest = arrivals[one] - 1;
+        }
+        Edge::EndOfDay => {
+            let last = arrivals.iter().max().expect("there is a train");
+            let later = Limits::MINUTE.most + random.within(0, 4) - 2 - last;
+            for train in trains {
+                train.earliest = within_the_day(train.earliest + later);
+                train.latest = within_the_day(train.latest + later);
+            }
+        }
+    }
+    line
+}
+
+/// Draws each second latest arrival to the one that there is.
+fn just_in_time(random: &mut Random, trains: &mut [Train], arrivals: &[u16]) {
+    for (train, &arrival) in trains.iter_mut().zip(arrivals) {
+        train.latest = random.one_of(&[train.latest, arrival]);
+    }
+}
+
+fn within_the_day(minute: u16) -> u16 {
+    minute.min(Limits::MINUTE.most)
+}
