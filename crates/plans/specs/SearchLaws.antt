@@ -121,6 +121,18 @@ module _ (P : Problem) (L : Laws P) where
   unfolding Narrows
   narrows-onward cs ds b r o f m′ l k i = f m′ l k (onward-improves P m′ b r o i)
 
+  pub narrows-all : (cs : Plan) (b : BestSoFar) → Narrows P cs cs b
+  unfolding Narrows
+  narrows-all cs b m′ l k i = k
+
+  pub narrows-rest : (c : Choice) (cs : Plan) (b : BestSoFar) → Narrows P (also c cs) cs b
+  unfolding Narrows
+  narrows-rest c cs b m′ l k i = L .keeps-rest c cs m′ k
+
+  pub narrows-then : (cs ds es : Plan) (b : BestSoFar) → Narrows P cs ds b → Narrows P ds es b → Narrows P cs es b
+  unfolding Narrows
+  narrows-then cs ds es b f g m′ l k i = g m′ l (f m′ l k i) i
+
   pub none-narrows : (cs ds : Plan) (b : BestSoFar) → Narrows P cs ds b → NoneBetter P ds b → NoneBetter P cs b
   unfolding Narrows NoneBetter
   none-narrows cs ds b f h m′ l k i = h m′ l (f m′ l k i) i

@@ -66,7 +66,7 @@ pub fn way_count(conflict: Conflict) -> usize
     }
 }
 
-fn no_way(step: usize) -> Way
+pub fn no_way(step: usize) -> Way
     ensures { λ r. ⌜ (r .some ≡ false) × (r .step ≡ step) ⌝ }
 {
     Way {

@@ -5,6 +5,10 @@ pub mod Selecting
 pub mod SelectingLaws
 pub mod Searching
 pub mod SearchingLaws
+pub mod Forcing
+pub mod ForcingLaws
+pub mod Ahead
+pub mod AheadLaws
 pub mod Neighbourhood
 pub mod NeighbourhoodLaws
 pub mod Finding

@@ -38,11 +38,15 @@ pub record CanPriceWays (m marks t ds : List ℕ) (cost cut : ℕ) (conflict : C
   pub count-is : n ≡ wayCount conflict
   pub cut-low : cut < 4294967295
 
+-- of the numbers below n those priced as dead have choices of which D holds
+abbrev pub DeadBelow : (Choice → Type 0) → Conflict → ℕ → List ℕ → Type 0
+DeadBelow D conflict n prices =
+    (k : ℕ) → k < n → getD prices k 0 ≡ 4294967295 → (c : Choice) → List·Memᴰ c (wayOf conflict k) → D c
+
 -- of the first n numbers those priced as dead are
 pub record PricesWays (m marks t ds : List ℕ) (cost cut : ℕ) (conflict : Conflict) (n : ℕ) (marks′ prices : List ℕ) : Type 0 where
   pub marks-same : marks′ ≡ marks
-  pub dead : (l : Line) → Tabled l t ds → Planned l marks m cost → Real l m conflict → (k : ℕ) → k < n → getD prices k 0 ≡ 4294967295 →
-      (c : Choice) → List·Memᴰ c (wayOf conflict k) → NoRaise l c marks m cut
+  pub dead : (l : Line) → Tabled l t ds → Planned l marks m cost → Real l m conflict → DeadBelow (λ c. NoRaise l c marks m cut) conflict n prices
 
 -- ---- the next to try
 

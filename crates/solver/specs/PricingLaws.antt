@@ -17,12 +17,12 @@ use Rattle.orders.specs.Bits.{withBit}
 use Rattle.orders.specs.Choices.{Choice}
 use Rattle.plans.specs.Ways.{wayOf, wayCount}
 use Rattle.plans.specs.ConflictFacts.{Real}
-use Rattle.plans.specs.WaysTold.{TellsWay, Steps}
+use Rattle.plans.specs.WaysTold.{Tells, TellsWay, Steps}
 use Rattle.plans.specs.Choosing.{Tabled, Planned, NoRaise, Raised}
 use Rattle.plans.specs.TryingLaws.{way-there, way-absent, way-of-real, put-back}
 use Rattle.plans.specs.NextPlansLaws.{way-raises}
 use Rattle.plans.specs.declared.ways.Way.{Way}
-use Rattle.solver.specs.Pricing.{Prices, PricesWays, Cheapest, untried}
+use Rattle.solver.specs.Pricing.{Prices, DeadBelow, PricesWays, Cheapest, untried}
 
 pub planned-after : (l : Line) (m marks marks′ : List ℕ) (cost : ℕ) → marks′ ≡ marks → Planned l marks m cost → Planned l marks′ m cost
 planned-after l m marks marks′ cost same p = subst (λ (q : List ℕ). Planned l q m cost) (sym same) p
@@ -53,6 +53,39 @@ only (List·Memᴰ·tail k) = absurd (List·Memᴰ·not-nil k)
 
 -- ---- the ways one by one
 
+-- whatever a dead price says of a choice
+module _ (D : Choice → Type 0) (ds : List ℕ) (conflict : Conflict) (w : ℕ) (prices : List ℕ) (h : DeadBelow D conflict w prices)
+    (way : Way) (tells : TellsWay ds (wayOf conflict w) way) (steps : Steps conflict w way) where
+  -- there is no way of this number, nor of any before the next
+  pub dead-skip : way .some ≡ false → DeadBelow D conflict (w + way .step) prices
+  dead-skip none k b dead c there = elim (decLt k w) [
+    | yes o ↦ h k o dead c there
+    | no o ↦ absurd (List·Memᴰ·not-nil (subst (List·Memᴰ c) (nothing-at k (omega arith) b) there))
+  ]
+    where
+      nothing-at : (k : ℕ) → w ≤ k → k < w + way .step → wayOf conflict k ≡ []
+      nothing-at k a b = elim (decLt w k) [
+        | yes o ↦ steps .none-between k o b
+        | no o ↦ (let e : k ≡ w = omega arith in ap (wayOf conflict) e ∙ way-absent ds way (wayOf conflict w) tells none)
+      ]
+
+  -- there is one, and v is its price
+  pub dead-more : way .some ≡ true → (v : ℕ) → w < length prices →
+      ((d : Choice) → wayOf conflict w ≡ d ∷ [] → Tells ds d way → v ≡ 4294967295 → D d) → DeadBelow D conflict (w + way .step) (set prices w v)
+  dead-more some v room here k b dead c there = elim (decLt k w) [
+    | yes o ↦ h k o (sym (getD-set-other prices w k v 0 (omega arith)) ∙ dead) c there
+    | no o ↦ elim (decLt w k) [
+      | yes u ↦ absurd (List·Memᴰ·not-nil (subst (List·Memᴰ c) (steps .none-between k u b) there))
+      | no u ↦
+          (let at : k ≡ w = omega arith in
+          let (d, one, tells-d) = way-there ds way (wayOf conflict w) tells some in
+          let same : c ≡ d = only (subst (List·Memᴰ c) one (subst (λ (j : ℕ). List·Memᴰ c (wayOf conflict j)) at there)) in
+          subst D (sym same)
+          (here d one tells-d
+          (sym (getD-set-same prices w v 0 room) ∙ ap (λ (j : ℕ). getD (set prices w v) j 0) (sym at) ∙ dead)))
+    ]
+  ]
+
 pub prices-none : (m marks t ds : List ℕ) (cost cut : ℕ) (conflict : Conflict) (prices : List ℕ) → PricesWays m marks t ds cost cut conflict 0 marks prices
 prices-none m marks t ds cost cut conflict prices = record { marks-same = refl; dead = λ l _ _ _ k b. absurd (omega arith) }
 
@@ -63,44 +96,21 @@ module _ (m marks t ds : List ℕ) (cost cut : ℕ) (conflict : Conflict) (n : �
   prices-skip none =
       record {
         marks-same = h .marks-same;
-        dead = λ l tabled planned real k b dead c there. elim (decLt k w) [
-          | yes o ↦ h .dead l tabled planned real k o dead c there
-          | no o ↦ absurd (List·Memᴰ·not-nil (subst (List·Memᴰ c) (nothing-at k (omega arith) b) there))
-        ];
+        dead = λ l tabled planned real. dead-skip _ ds conflict w prices (h .dead l tabled planned real) way tells steps none;
       }
-    where
-      nothing-at : (k : ℕ) → w ≤ k → k < w + way .step → wayOf conflict k ≡ []
-      nothing-at k a b = elim (decLt w k) [
-        | yes o ↦ steps .none-between k o b
-        | no o ↦ (let e : k ≡ w = omega arith in ap (wayOf conflict) e ∙ way-absent ds way (wayOf conflict w) tells none)
-      ]
 
   pub prices-more : way .some ≡ true → (marks₂ : List ℕ) (v : ℕ) → Prices m marks₁ t ds way cost cut marks₂ v → w < length prices →
       PricesWays m marks t ds cost cut conflict (w + way .step) marks₂ (set prices w v)
   prices-more some marks₂ v e room =
       record {
         marks-same = e .marks-same ∙ h .marks-same;
-        dead = λ l tabled planned real k b dead c there. elim (decLt k w) [
-          | yes o ↦ h .dead l tabled planned real k o (sym (getD-set-other prices w k v 0 (omega arith)) ∙ dead) c there
-          | no o ↦ elim (decLt w k) [
-            | yes u ↦ absurd (List·Memᴰ·not-nil (subst (List·Memᴰ c) (steps .none-between k u b) there))
-            | no u ↦
-                (let at : k ≡ w = omega arith in
-                here l tabled planned real c (subst (λ (j : ℕ). List·Memᴰ c (wayOf conflict j)) at there)
-                (sym (getD-set-same prices w v 0 room) ∙ ap (λ (j : ℕ). getD (set prices w v) j 0) (sym at) ∙ dead))
-          ]
-        ];
+        dead = λ l tabled planned real.
+            dead-more (λ c. NoRaise l c marks m cut) ds conflict w prices (h .dead l tabled planned real) way tells steps some v room
+            (λ d one tells-d dead.
+            let is-way = way-of-real l (tabled .within) (tabled .arrays) m conflict real ds way n w n-is low d one tells-d in
+            subst (λ (q : List ℕ). NoRaise l d q m cut) (h .marks-same)
+            (e .dead l d tabled (subst (λ (q : List ℕ). Planned l q m cost) (sym (h .marks-same)) planned) is-way dead));
       }
-    where
-      here : (l : Line) → Tabled l t ds → Planned l marks m cost → Real l m conflict → (c : Choice) → List·Memᴰ c (wayOf conflict w) → v ≡ 4294967295 →
-          NoRaise l c marks m cut
-      here l tabled planned real c there dead =
-          let (d, one, tells-d) = way-there ds way (wayOf conflict w) tells some in
-          let same : c ≡ d = only (subst (List·Memᴰ c) one there) in
-          let is-way = way-of-real l (tabled .within) (tabled .arrays) m conflict real ds way n w n-is low d one tells-d in
-          subst (λ (x : Choice). NoRaise l x marks m cut) (sym same)
-          (subst (λ (q : List ℕ). NoRaise l d q m cut) (h .marks-same)
-          (e .dead l d tabled (subst (λ (q : List ℕ). Planned l q m cost) (sym (h .marks-same)) planned) is-way dead))
 
 -- ---- with a way marked dead fewer are left to try
 
@@ -141,20 +151,24 @@ PickedBefore prices n least r w =
     ((r ≡ n) × (least ≡ 4294967295) × EachBelow w (λ k. getD prices k 0 ≡ 4294967295)) ⊎ ((r < n) × (getD prices r 0 < 4294967295))
 
 module _ (prices : List ℕ) (n least r w : ℕ) (h : PickedBefore prices n least r w) where
-  pub picked-keep : (x : ℕ) → x ≡ getD prices w 0 → x ≤ 4294967295 → least ≤ x → (least′ r′ : ℕ) → least′ ≡ least → r′ ≡ r →
-      PickedBefore prices n least′ r′ (w + 1)
-  picked-keep x is high not-less least′ r′ e f =
+  -- the price x there has a key y that is not less
+  pub picked-keep : (x y : ℕ) → x ≡ getD prices w 0 → x ≤ 4294967295 → (x < 4294967295 → y < 4294967295) → least ≤ y → (least′ r′ : ℕ) →
+      least′ ≡ least → r′ ≡ r → PickedBefore prices n least′ r′ (w + 1)
+  picked-keep x y is high key-low not-less least′ r′ e f =
       ⊎-elim
       (λ p. inl (
         f ∙ p .0,
         e ∙ p .1,
         λ k b. elim (decLt k w) [
           | yes o ↦ p .2 k o
-          | no o ↦ (let e : k ≡ w = omega arith in ap (λ (j : ℕ). getD prices j 0) e ∙ (omega (arith, p .1)))
+          | no o ↦ (let e : k ≡ w = omega arith in ap (λ (j : ℕ). getD prices j 0) e ∙ sym is ∙ dead (p .1))
         ],
       ))
       (λ p. inr (rw f p))
       h
+    where
+      dead : least ≡ 4294967295 → x ≡ 4294967295
+      dead none = elim (decLt x 4294967295) [ yes o ↦ absurd (omega (arith, key-low o)) | no o ↦ omega arith ]
 
   pub picked-cheapest : n ≤ w → Cheapest prices n r
   picked-cheapest last =
@@ -163,6 +177,8 @@ module _ (prices : List ℕ) (n least r w : ℕ) (h : PickedBefore prices n leas
       (λ p. record { alive = λ b e. omega (arith, p .1); none-left = λ b. absurd (omega (arith, p .0)) })
       h
 
-pub picked-more : (prices : List ℕ) (n w x : ℕ) → w < n → x ≡ getD prices w 0 → x < 4294967295 → (least′ r′ : ℕ) → r′ ≡ w →
-    PickedBefore prices n least′ r′ (w + 1)
-picked-more prices n w x low is less least′ r′ f = inr (rw f (low, omega arith))
+-- the price x there has a key y that no dead way has
+pub picked-more : (prices : List ℕ) (n w x y : ℕ) → w < n → x ≡ getD prices w 0 → x ≤ 4294967295 → (x ≡ 4294967295 → y ≡ 4294967295) →
+    y < 4294967295 → (least′ r′ : ℕ) → r′ ≡ w → PickedBefore prices n least′ r′ (w + 1)
+picked-more prices n w x y low is high key-dead less least′ r′ f =
+    inr (rw f (low, elim (decLt x 4294967295) [ yes o ↦ omega arith | no o ↦ absurd (omega (arith, key-dead (omega arith))) ]))

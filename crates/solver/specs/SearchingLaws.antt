@@ -32,10 +32,11 @@ use Rattle.plans.specs.NextPlansLaws.{cut-low, recounted, recounted-best, delay
 use Rattle.plans.specs.GivenLaws.{told}
 use Rattle.plans.specs.declared.tally.Tally.{Tally}
 use Rattle.plans.specs.declared.ways.Way.{Way}
-use Rattle.solver.specs.Pricing.{PricesWays, Cheapest}
+use Rattle.solver.specs.Pricing.{Cheapest}
 use Rattle.solver.specs.PricingLaws.{set-cases, only}
 use Rattle.solver.specs.Selecting.{Chosen}
 use Rattle.solver.specs.Searching.{Held, Whole, Sought, WaysSought}
+use Rattle.solver.specs.Ahead.{PricesBetter}
 
 -- ---- the plans that are counted
 
@@ -185,19 +186,17 @@ module _ (l : Line) (m marks best t ds key : List ℕ) (layout : Layout) (cost l
 
   module _ (conflict : Conflict) (real : Real l m conflict) (n : ℕ) where
     -- before the first: the marks are those after pricing, which are those of before
-    pub ways-priced : (cut : ℕ) → cut ≡ cutOf y → (marks₀ prices : List ℕ) → PricesWays m marks₀ t ds cost cut conflict n marks prices →
+    pub ways-priced : (marks₀ prices : List ℕ) → PricesBetter m marks₀ best t ds key layout cost y conflict n marks prices →
         WaysSought l marks best limit y conflict n prices marks best y
-    ways-priced cut cut-is marks₀ prices e =
+    ways-priced marks₀ prices e =
         record {
           marks-same = refl;
           tallied = g .tallied;
           steps-rise = omega arith;
           onward = inl refl;
           done = λ _ k b dead c there.
-              none-raised l (g .tabled .within) (g .tabled .arrays) c marks m best y (h .under) (g .tallied)
-              (subst (NoRaise l c marks m) cut-is
-              (subst (λ (q : List ℕ). NoRaise l c q m cut) (sym (e .marks-same))
-              (e .dead l (g .tabled) (subst (λ (q : List ℕ). Planned l q m cost) (e .marks-same) (g .planned)) real k b dead c there)));
+              subst (λ (q : List ℕ). NoneBetter (planning l) (also c q) (bestOf y best)) (sym (e .marks-same))
+              (e .dead l (held-by marks₀ (sym (e .marks-same))) real k b dead c there);
         }
 
     -- with none left the plan is searched

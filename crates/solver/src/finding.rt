@@ -1,12 +1,15 @@
 // The best timetable of a line. A good one is looked for first, by searches that end at a limit of plans and by searches around the best so far: the better
-// it is, the more ways are dead in the search that then goes on to its end.
+// it is, the more ways are dead in the search that then goes on to its end. Where none is found soon, short searches that choose otherwise each time look for
+// one.
 ghost use mathlib.Core.Path.{_≡_};
 ghost use Rattle.line.specs.Within.{Within, Arrays};
 ghost use Rattle.solver.specs.Finding.{CanFind, Improves, Searches, Finds};
+use crate::drawing::drawn;
 use crate::neighbourhood::keep_orders;
 use crate::search::NO_LIMIT;
 use crate::search::take_up;
-use crate::selecting::no_hint;
+use crate::selecting::Hint;
+use crate::selecting::first_hint;
 use line::Line;
 use orders::first::first_minutes;
 use orders::raising::DEAD;
@@ -21,15 +24,19 @@ use rules::conflicts::layout_of;
 use rules::directions::directions_of;
 
 // The limits of plans and the numbers of neighbourhoods are tuned on busy days (docs/DECISIONS.md); what is found depends on none of them.
-const FIRST_LIMIT: u32 = 3000;
+const FIRST_LIMIT: u32 = 1000;
 
-const SECOND_LIMIT: u32 = 24000;
+const SECOND_LIMIT: u32 = 4000;
+
+const ANEW_LIMIT: u32 = 200;
+
+const ANEW_MOST: usize = 200;
 
 const NEAR_LIMIT: u32 = 100;
 
 const FIRST_NEAR: usize = 40;
 
-const LAST_NEAR: usize = 120;
+const LAST_NEAR: usize = 80;
 
 // The best timetable of a line, if there is one.
 pub struct Found {
@@ -56,6 +63,7 @@ fn search_within(
     ds: &[u16; 176],
     key: &[u16; 132],
     layout: Layout,
+    hint: Hint,
     limit: u32,
     tally: Tally,
 ) -> Tally
@@ -75,7 +83,7 @@ fn search_within(
         key,
         layout,
         0,
-        no_hint(),
+        hint,
         limit,
         b,
     )
@@ -114,15 +122,10 @@ fn search_around(
         key,
         layout,
         cost,
-        no_hint(),
+        first_hint(false, 0),
         NEAR_LIMIT,
         b,
     )
-}
-
-// The next of a row of numbers below 65,536 that look drawn by chance.
-fn drawn(x: usize) -> usize {
-    (x % 65536 * 1103 + 12345) % 65536
 }
 
 // Up to six trains of twelve, as bits of a mask; other numbers give others.
@@ -166,6 +169,33 @@ fn search_near(
     b
 }
 
+// Until there is a timetable: short searches whose scores and prices are varied by drawn numbers, others each time.
+fn search_anew(
+    m: &[u16; 352],
+    best: &mut [u16; 352],
+    t: &[u16; 1456],
+    ds: &[u16; 176],
+    key: &[u16; 132],
+    layout: Layout,
+    tally: Tally,
+) -> Tally
+    requires { ⌜ CanFind (now m) (now best) (now t) (now ds) (now key) layout tally ⌝ }
+    ensures { λ r. ⌜ Improves (now (m .entry)) (now (best .entry)) (now (t .entry)) (now (ds .entry)) (now (key .entry)) layout tally
+        (now (best .exit)) r ⌝ }
+{
+    let mut b = tally;
+    let mut k: usize = 0;
+    while k < ANEW_MOST {
+        if b.found {
+            return b;
+        }
+        k = k + 1;
+        let hint = first_hint(false, drawn(k) + 1);
+        b = search_within(m, best, t, ds, key, layout, hint, ANEW_LIMIT, b);
+    }
+    b
+}
+
 // Searches the plan without choices to its end. Where a search comes to its end below its limit, that is it.
 fn search_whole(
     m: &[u16; 352],
@@ -180,17 +210,29 @@ fn search_whole(
     ensures { λ r. ⌜ Searches (now (m .entry)) (now (best .entry)) (now (t .entry)) (now (ds .entry)) (now (key .entry)) layout 4294967295 tally
         (now (best .exit)) r ⌝ }
 {
-    let first = search_within(m, best, t, ds, key, layout, FIRST_LIMIT, tally);
+    let short = first_hint(false, 0);
+    let first = search_within(m, best, t, ds, key, layout, short, FIRST_LIMIT, tally);
     if first.steps < FIRST_LIMIT {
         return first;
     }
-    let near = search_near(m, best, t, ds, key, layout, 0, FIRST_NEAR, first);
-    let second = search_within(m, best, t, ds, key, layout, SECOND_LIMIT, near);
+    let some = search_anew(m, best, t, ds, key, layout, first);
+    let near = search_near(m, best, t, ds, key, layout, 0, FIRST_NEAR, some);
+    let second = search_within(m, best, t, ds, key, layout, short, SECOND_LIMIT, near);
     if second.steps < SECOND_LIMIT {
         return second;
     }
     let last = search_near(m, best, t, ds, key, layout, FIRST_NEAR, LAST_NEAR, second);
-    search_within(m, best, t, ds, key, layout, NO_LIMIT, last)
+    search_within(
+        m,
+        best,
+        t,
+        ds,
+        key,
+        layout,
+        first_hint(true, 0),
+        NO_LIMIT,
+        last,
+    )
 }
 
 // Finds the best timetable of a line within the limits.

@@ -1,8 +1,9 @@
 // What the ways out of a conflict cost.
 ghost use mathlib.Core.Path.{_≡_};
-ghost use Prim.Native.Nat.{_≤_};
+ghost use Prim.Native.Nat.{_≤_, _<_};
 ghost use lib.ListN.{length};
 ghost use Rattle.solver.specs.Pricing.{CanPrice, Prices, CanPriceWays, PricesWays, Cheapest};
+use crate::drawing::varied;
 use orders::raising::DEAD;
 use plans::choosing::copy_minutes;
 use plans::choosing::raised;
@@ -67,8 +68,28 @@ pub fn price(x: u32) -> u32
     x
 }
 
-// The number of the cheapest way, or n where all are dead.
-pub fn cheapest(prices: &[u32; 144], n: usize) -> usize
+// By what the ways are put in order: a way's price, or by a row of drawn numbers what it is above the cost, varied. A dead way's stays that of a dead one.
+fn order_key(x: u32, cost: u32, row: usize, k: usize) -> u32
+    ensures { λ r. ⌜ (x < 4294967295 → r < 4294967295) × (x ≡ 4294967295 → r ≡ 4294967295) ⌝ }
+{
+    if row == 0 {
+        return x;
+    }
+    if x == DEAD {
+        return x;
+    }
+    if x < cost {
+        return x;
+    }
+    let rise = x - cost;
+    if rise > 100000000 {
+        return x;
+    }
+    varied(rise + 40, row, 997 * (k % 144))
+}
+
+// The number of the next way to try, the cheapest where no row of drawn numbers varies the prices, or n where all are dead.
+pub fn cheapest(prices: &[u32; 144], n: usize, cost: u32, row: usize) -> usize
     requires { ⌜ (length (now prices) ≡ 144) × (n ≤ 144) ⌝ }
     ensures { λ r. ⌜ Cheapest (now (prices .entry)) n r ⌝ }
 {
@@ -77,8 +98,9 @@ pub fn cheapest(prices: &[u32; 144], n: usize) -> usize
     let mut k: usize = 0;
     while k < n {
         let x = price(prices[k]);
-        if x < least {
-            least = x;
+        let y = order_key(x, cost, row, k);
+        if y < least {
+            least = y;
             r = k;
         }
         k = k + 1;

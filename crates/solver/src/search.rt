@@ -4,10 +4,10 @@
 ghost use mathlib.Core.Path.{_≡_};
 ghost use mathlib.Core.Bool.{true};
 ghost use Rattle.solver.specs.Searching.{Whole, CanTakeUp, TakesUp, CanTry, Tries, CanTryAll, TriesAll};
+use crate::ahead::choose_conflict;
+use crate::ahead::chosen_prices;
 use crate::pricing::cheapest;
-use crate::pricing::way_prices;
 use crate::selecting::Hint;
-use crate::selecting::select_conflict;
 use orders::raising::DEAD;
 use plans::choosing::copy_minutes;
 use plans::choosing::raised;
@@ -61,7 +61,19 @@ pub fn take_up(
     if !improves(m, best, key, cost, tally) {
         return tally;
     }
-    let selected = select_conflict(m, former, marks, t, ds, layout, cost, cut_of(tally), hint);
+    let selected = choose_conflict(
+        m,
+        former,
+        marks,
+        best,
+        t,
+        ds,
+        key,
+        layout,
+        cost,
+        hint,
+        tally,
+    );
     let conflict = selected.conflict;
     let n = way_count(conflict);
     if n == 0 {
@@ -110,10 +122,22 @@ fn try_ways(
     ensures { λ r. ⌜ TriesAll (now (m .entry)) (now (marks .entry)) (now (best .entry)) (now (t .entry)) (now (ds .entry)) (now (key .entry))
         layout cost limit tally conflict (now (marks .exit)) (now (best .exit)) r ⌝ }
 {
-    let cut = cut_of(tally);
-    let mut prices = way_prices(m, marks, t, ds, cost, cut, conflict, n);
+    let mut prices = chosen_prices(
+        m,
+        marks,
+        best,
+        t,
+        ds,
+        key,
+        layout,
+        cost,
+        hint,
+        tally,
+        conflict,
+        n,
+    );
     let mut b = tally;
-    let mut w = cheapest(&prices, n);
+    let mut w = cheapest(&prices, n, cost, hint.row);
     while w < n {
         let way = way_of(conflict, ds, w);
         if way.some {
@@ -133,7 +157,7 @@ fn try_ways(
             );
         }
         prices[w] = DEAD;
-        w = cheapest(&prices, n);
+        w = cheapest(&prices, n, cost, hint.row);
     }
     b
 }

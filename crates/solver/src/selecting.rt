@@ -6,6 +6,8 @@ ghost use Prim.Native.Nat.{_+_, _≤_, _<_};
 ghost use lib.ListN.{length};
 ghost use Rattle.rules.specs.Conflicts.{clash};
 ghost use Rattle.solver.specs.Selecting.{KnownReal, CanScore, HigherScored, CanScoreOn, ScoresOn, CanSelect, FindsReal, ChoosesOne};
+use crate::drawing::drawn;
+use crate::drawing::varied;
 use crate::pricing::way_prices;
 use crate::scoring::AT_ONCE;
 use crate::scoring::score_of;
@@ -21,11 +23,15 @@ use rules::conflicts::lowest_conflict;
 use rules::conflicts::neither;
 use rules::conflicts::passage_of;
 
-// What a scan may leave out, a hint of which nothing is promised: it begins at place `start`, and at the places that are `clear` there was no conflict at
-// the former minutes.
+// Hints of which nothing is promised. What a scan may leave out: it begins at place `start`, and at the places that are `clear` there was no conflict at
+// the former minutes. How a search goes: it may look ahead (`long`), it has done so for the conflict to settle (`ahead`), and its scores and prices are
+// varied by a row of drawn numbers, unless that is 0.
 pub struct Hint {
     pub start: usize,
     pub clear: [bool; 24],
+    pub long: bool,
+    pub ahead: bool,
+    pub row: usize,
 }
 
 // A conflict and its score.
@@ -42,11 +48,33 @@ pub struct Selected {
 }
 
 // The hint of a search that begins.
-pub fn no_hint() -> Hint {
+pub fn first_hint(long: bool, row: usize) -> Hint {
     Hint {
         start: 0,
         clear: [false; 24],
+        long,
+        ahead: false,
+        row,
     }
+}
+
+// The hint with another start and other places that are clear.
+fn hint_from(hint: Hint, start: usize, clear: [bool; 24]) -> Hint {
+    Hint {
+        start,
+        clear,
+        long: hint.long,
+        ahead: false,
+        row: hint.row,
+    }
+}
+
+// The row of drawn numbers of the next plan; none stays none.
+fn next_row(row: usize) -> usize {
+    if row == 0 {
+        return 0;
+    }
+    drawn(row) + 1
 }
 
 // The higher scored of conflict x and the old one. The marks are as before.
@@ -249,7 +277,7 @@ fn with_station(
 
 // The higher scored of the old conflict and those at a place. With `count` segments the places below `count` are the segments, and place `count` + s is
 // the middle station s, from 1 on and below `count`.
-fn with_place(
+pub fn with_place(
     m: &[u16; 352],
     marks: &mut [u16; 368],
     t: &[u16; 1456],
@@ -322,6 +350,14 @@ fn still_clear(m: &[u16; 352], former: &[u16; 352], count: usize, clear: [bool; 
     still
 }
 
+// The score of a conflict at a place, varied by a row of drawn numbers; the highest score stays.
+fn found_score(score: u32, row: usize, place: usize) -> u32 {
+    if score == AT_ONCE {
+        return score;
+    }
+    varied(score, row, 64 * (place % 24))
+}
+
 // The scan goes on at a place: the higher scored of what it has and the conflicts there, or the place is clear.
 fn select_at(
     m: &[u16; 352],
@@ -354,19 +390,17 @@ fn select_at(
         return Selected {
             conflict: held,
             score: old.score,
-            hint: Hint { start: 0, clear },
+            hint: hint_from(hint, 0, clear),
         };
     }
-    if found.score <= old.score {
+    let score = found_score(found.score, hint.row, place);
+    if score <= old.score {
         return old;
     }
     Selected {
         conflict,
-        score: found.score,
-        hint: Hint {
-            start: place,
-            clear,
-        },
+        score,
+        hint: hint_from(hint, place, clear),
     }
 }
 
@@ -421,8 +455,14 @@ pub fn select_conflict(
 {
     let before = hint.clear;
     let clear = still_clear(m, former, layout.stations - 1, before);
-    let start = hint.start;
-    let b = highest_scored(m, marks, t, ds, layout, cost, cut, Hint { start, clear });
+    let next = Hint {
+        start: hint.start,
+        clear,
+        long: hint.long,
+        ahead: false,
+        row: next_row(hint.row),
+    };
+    let b = highest_scored(m, marks, t, ds, layout, cost, cut, next);
     let conflict = b.conflict;
     let n = way_count(conflict);
     if n > 0 {
@@ -432,6 +472,6 @@ pub fn select_conflict(
     Selected {
         conflict: lowest,
         score: 0,
-        hint: no_hint(),
+        hint: first_hint(hint.long, hint.row),
     }
 }

@@ -38,8 +38,8 @@ returns c l h =
     let a = c .before .before .before .before .before .before .before .before in
     improved-none l _ _ _ (a .afresh .ensures) (h .given .tallied)
 
-no-hint-requires : tie.Need-no-hint-requires
-no-hint-requires c κs = search needs
+first-hint-requires : tie.Need-first-hint-requires
+first-hint-requires c κs = search needs
 
 take-up-requires : tie.Need-take-up-requires
 unfolding free
@@ -79,6 +79,6 @@ search-around-spec =
     cut-of-requires
     keep-orders-requires
     returns
-    no-hint-requires
+    first-hint-requires
     take-up-requires
     returns-2)

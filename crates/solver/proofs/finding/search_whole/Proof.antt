@@ -1,9 +1,55 @@
 -- `solver::finding::search_whole` meets its contract: each part improves what the one before left, and the last, or one that ended below its limit, went to
 -- its end. Assumes nothing.
+use Prim.Native.Nat.{ℕ}
+use mathlib.Core.List.{List}
+use denote.Ref.{now}
 use borrow.Author.Needs.{needs}
+use Rattle.plans.specs.declared.tally.Tally.{Tally}
+use Rattle.solver.specs.Finding.{Improves}
 use Rattle.solver.specs.FindingLaws.{searches-improves, searches-below, find-after, improves-then, searches-then}
 use Rattle.solver.proofs.finding.search_whole.Statement.{statement}
 use Rattle.solver.proofs.finding.search_whole.Tie as tie
+
+-- ---- the start and each part from the one after it, and that what it left is what was held at the start, improved
+
+abbrev begun : tie.After-search-within → tie.Start
+begun c = c .before .before .before
+
+abbrev first : tie.After-search-anew → tie.After-search-within
+first c = c .before .before .before .before
+
+abbrev anew : tie.After-search-near → tie.After-search-anew
+anew c = c .before .before
+
+abbrev near : tie.After-search-within2 → tie.After-search-near
+near c = c .before .before
+
+abbrev second : tie.After-search-near2 → tie.After-search-within2
+second c = c .before .before .before .before
+
+abbrev Held : tie.Start → List ℕ → Tally → Type 0
+Held a best r =
+    Improves (now (a .args .m)) (now (a .args .best)) (now (a .args .t)) (now (a .args .ds)) (now (a .args .key)) (a .args .layout) (a .args .tally) best r
+
+first-held : (c : tie.After-search-within) → Held (begun c) (c .search-within .last .1 .0) (c .search-within .result)
+first-held c = searches-improves _ _ _ _ _ _ _ _ _ _ (c .search-within .ensures)
+
+anew-held : (c : tie.After-search-anew) → Held (begun (first c)) (c .search-anew .last .1 .0) (c .search-anew .result)
+anew-held c = improves-then _ _ _ _ _ _ _ _ _ (first-held (first c)) _ _ (c .search-anew .ensures)
+
+near-held : (c : tie.After-search-near) → Held (begun (first (anew c))) (c .search-near .last .1 .0) (c .search-near .result)
+near-held c = improves-then _ _ _ _ _ _ _ _ _ (anew-held (anew c)) _ _ (c .search-near .ensures)
+
+second-held : (c : tie.After-search-within2) → Held (begun (first (anew (near c)))) (c .search-within2 .last .1 .0) (c .search-within2 .result)
+second-held c = improves-then _ _ _ _ _ _ _ _ _ (near-held (near c)) _ _ (searches-improves _ _ _ _ _ _ _ _ _ _ (c .search-within2 .ensures))
+
+last-held : (c : tie.After-search-near2) → Held (begun (first (anew (near (second c))))) (c .search-near2 .last .1 .0) (c .search-near2 .result)
+last-held c = improves-then _ _ _ _ _ _ _ _ _ (second-held (second c)) _ _ (c .search-near2 .ensures)
+
+-- ---- the needs
+
+first-hint-requires : tie.Need-first-hint-requires
+first-hint-requires c κs = search needs
 
 search-within-requires : tie.Need-search-within-requires
 search-within-requires c κs = search needs
@@ -11,72 +57,46 @@ search-within-requires c κs = search needs
 returns : tie.Need-returns
 returns c = searches-below _ _ _ _ _ _ _ _ _ _ (c .if1 .taken) (c .before .before .search-within .ensures)
 
+search-anew-requires : tie.Need-search-anew-requires
+search-anew-requires c κs = let p = c .before .before .before in find-after _ _ _ _ _ _ _ _ _ (first-held p) (begun p .pre)
+
 search-near-requires : tie.Need-search-near-requires
-search-near-requires c κs =
-    let s = c .before .before .before in
-    let first = searches-improves _ _ _ _ _ _ _ _ _ _ (s .search-within .ensures) in
-    find-after _ _ _ _ _ _ _ _ _ first (s .before .before .pre)
+search-near-requires c κs = let p = c .before in find-after _ _ _ _ _ _ _ _ _ (anew-held p) (begun (first p) .pre)
 
 search-within-requires-2 : tie.Need-search-within-requires-2
-search-within-requires-2 c κs =
-    let n = c .before in
-    let s = n .before .before .before .before in
-    let first = searches-improves _ _ _ _ _ _ _ _ _ _ (s .search-within .ensures) in
-    let near = improves-then _ _ _ _ _ _ _ _ _ first _ _ (n .search-near .ensures) in
-    find-after _ _ _ _ _ _ _ _ _ near (s .before .before .pre)
+search-within-requires-2 c κs = let p = c .before in find-after _ _ _ _ _ _ _ _ _ (near-held p) (begun (first (anew p)) .pre)
 
 returns-2 : tie.Need-returns-2
 returns-2 c =
-    let w = c .before .before in
-    let n = w .before .before in
-    let s = n .before .before .before .before in
-    let first = searches-improves _ _ _ _ _ _ _ _ _ _ (s .search-within .ensures) in
-    let near = improves-then _ _ _ _ _ _ _ _ _ first _ _ (n .search-near .ensures) in
-    searches-below _ _ _ _ _ _ _ _ _ _ (c .if2 .taken) (searches-then _ _ _ _ _ _ _ _ _ near _ _ _ (w .search-within2 .ensures))
+    let p = c .before .before in
+    searches-below _ _ _ _ _ _ _ _ _ _ (c .if2 .taken) (searches-then _ _ _ _ _ _ _ _ _ (near-held (near p)) _ _ _ (p .search-within2 .ensures))
 
 search-near-requires-2 : tie.Need-search-near-requires-2
 search-near-requires-2 c κs =
-    let w = c .before .before .before in
-    let n = w .before .before in
-    let s = n .before .before .before .before in
-    let first = searches-improves _ _ _ _ _ _ _ _ _ _ (s .search-within .ensures) in
-    let near = improves-then _ _ _ _ _ _ _ _ _ first _ _ (n .search-near .ensures) in
-    let second = improves-then _ _ _ _ _ _ _ _ _ near _ _ (searches-improves _ _ _ _ _ _ _ _ _ _ (w .search-within2 .ensures)) in
-    find-after _ _ _ _ _ _ _ _ _ second (s .before .before .pre)
+    let p = c .before .before .before in find-after _ _ _ _ _ _ _ _ _ (second-held p) (begun (first (anew (near p))) .pre)
+
+first-hint-requires-2 : tie.Need-first-hint-requires-2
+first-hint-requires-2 c κs = search needs
 
 search-within-requires-3 : tie.Need-search-within-requires-3
 search-within-requires-3 c κs =
-    let o = c .before in
-    let w = o .before .before .before .before in
-    let n = w .before .before in
-    let s = n .before .before .before .before in
-    let first = searches-improves _ _ _ _ _ _ _ _ _ _ (s .search-within .ensures) in
-    let near = improves-then _ _ _ _ _ _ _ _ _ first _ _ (n .search-near .ensures) in
-    let second = improves-then _ _ _ _ _ _ _ _ _ near _ _ (searches-improves _ _ _ _ _ _ _ _ _ _ (w .search-within2 .ensures)) in
-    let last = improves-then _ _ _ _ _ _ _ _ _ second _ _ (o .search-near2 .ensures) in
-    find-after _ _ _ _ _ _ _ _ _ last (s .before .before .pre)
+    let p = c .before .before in find-after _ _ _ _ _ _ _ _ _ (last-held p) (begun (first (anew (near (second p)))) .pre)
 
 returns-3 : tie.Need-returns-3
-returns-3 c =
-    let o = c .before .before in
-    let w = o .before .before .before .before in
-    let n = w .before .before in
-    let s = n .before .before .before .before in
-    let first = searches-improves _ _ _ _ _ _ _ _ _ _ (s .search-within .ensures) in
-    let near = improves-then _ _ _ _ _ _ _ _ _ first _ _ (n .search-near .ensures) in
-    let second = improves-then _ _ _ _ _ _ _ _ _ near _ _ (searches-improves _ _ _ _ _ _ _ _ _ _ (w .search-within2 .ensures)) in
-    let last = improves-then _ _ _ _ _ _ _ _ _ second _ _ (o .search-near2 .ensures) in
-    searches-then _ _ _ _ _ _ _ _ _ last _ _ _ (c .search-within3 .ensures)
+returns-3 c = searches-then _ _ _ _ _ _ _ _ _ (last-held (c .before .before .before)) _ _ _ (c .search-within3 .ensures)
 
 pub search-whole-spec : {M : Type 1} → statement M
 search-whole-spec =
     tie.close
     (tie.spec
+    first-hint-requires
     search-within-requires
     returns
+    search-anew-requires
     search-near-requires
     search-within-requires-2
     returns-2
     search-near-requires-2
+    first-hint-requires-2
     search-within-requires-3
     returns-3)

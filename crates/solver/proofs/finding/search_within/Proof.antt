@@ -8,13 +8,10 @@ use Rattle.solver.proofs.finding.search_within.Tie as tie
 afresh-requires : tie.Need-afresh-requires
 afresh-requires c κs = search needs
 
-no-hint-requires : tie.Need-no-hint-requires
-no-hint-requires c κs = search needs
-
 take-up-requires : tie.Need-take-up-requires
 unfolding free
 take-up-requires c κs =
-    let a = c .before .before .before in
+    let a = c .before .before in
     let p = a .before .pre in
     record {
       line = p .line;
@@ -25,8 +22,8 @@ take-up-requires c κs =
 returns : tie.Need-returns
 unfolding free
 returns c l h =
-    let afresh = c .before .before .before .before .afresh .ensures in
+    let afresh = c .before .before .before .afresh .ensures in
     searched-sought l _ _ _ afresh _ _ _ _ (c .take-up .ensures l (afresh-held l _ _ _ afresh _ _ _ _ _ _ _ h))
 
 pub search-within-spec : {M : Type 1} → statement M
-search-within-spec = tie.close (tie.spec afresh-requires no-hint-requires take-up-requires returns)
+search-within-spec = tie.close (tie.spec afresh-requires take-up-requires returns)

@@ -1,5 +1,5 @@
--- `solver::pricing::cheapest` meets its contract: the least price is kept with its number. The invariant: all before k are dead, or r is one of them that
--- is not. Assumes nothing.
+-- `solver::pricing::cheapest` meets its contract: the least key is kept with its number, and dead ways are those with the greatest key. The invariant: all
+-- before k are dead, or r is one of them that is not. Assumes nothing.
 use Prim.Native.Nat.{_-_, _≤_}
 use mathlib.Core.Path.{refl}
 use mathlib.Core.Logic.{inl, ⊎-elim}
@@ -11,10 +11,10 @@ use Rattle.solver.proofs.pricing.cheapest.Statement.{statement}
 use Rattle.solver.proofs.pricing.cheapest.Tie as tie
 
 abbrev Inv-loop : tie.InvT-loop
-Inv-loop prices n least₀ r₀ k₀ least r k = (k ≤ n) × (least ≤ 4294967295) × PickedBefore prices n least r k
+Inv-loop prices n cost row least₀ r₀ k₀ least r k = (k ≤ n) × (least ≤ 4294967295) × PickedBefore prices n least r k
 
 abbrev μ-loop : tie.MeasureT-loop
-μ-loop prices n least₀ r₀ k₀ least r k = n - k
+μ-loop prices n cost row least₀ r₀ k₀ least r k = n - k
 
 loop-holds : tie.Need-loop-holds Inv-loop μ-loop
 loop-holds c = (omega arith, omega arith, inl (refl, refl, λ k h. absurd (omega arith)))
@@ -28,6 +28,9 @@ element-copy-out-price c = search needs
 price-requires : tie.Need-price-requires Inv-loop μ-loop
 price-requires c κs = search needs
 
+order-key-requires : tie.Need-order-key-requires Inv-loop μ-loop
+order-key-requires c κs = search needs
+
 add-k : tie.Need-add-k Inv-loop μ-loop
 add-k c = search needs
 
@@ -36,20 +39,21 @@ loop-less c = search needs
 
 loop-again : tie.Need-loop-again Inv-loop μ-loop
 loop-again c =
-    let x = c .before .price .ensures in
-    let low = c .before .before .before .loop-test .taken in
-    let i = c .before .before .before .before .loop in
-    let prices = now (c .before .before .before .before .before .args .prices) in
+    let y = c .before .order-key .ensures in
+    let x = c .before .before .price .ensures in
+    let l = c .before .before .before .before in
+    let i = l .before in
+    let prices = now (i .before .args .prices) in
     ⊎-elim
     (λ w. (
       omega arith,
-      omega (arith, w .1, w .0 .taken, i .inv .1),
-      picked-more prices _ (i .k) _ low (x .0) (omega (arith, w .0 .taken, i .inv .1)) _ _ (w .2),
+      omega (arith, w .1, w .0 .taken, i .loop .inv .1),
+      picked-more prices _ (i .loop .k) _ _ (l .loop-test .taken) (x .0) (x .1) (y .1) (omega (arith, w .0 .taken, i .loop .inv .1)) _ _ (w .2),
     ))
     (λ w. (
       omega arith,
-      omega (arith, w .1, i .inv .1),
-      picked-keep prices _ _ _ (i .k) (i .inv .2) _ (x .0) (x .1) (omega (arith, w .0 .left)) _ _ (w .1) (w .2),
+      omega (arith, w .1, i .loop .inv .1),
+      picked-keep prices _ _ _ (i .loop .k) (i .loop .inv .2) _ _ (x .0) (x .1) (y .0) (omega (arith, w .0 .left)) _ _ (w .1) (w .2),
     ))
     (c .if1 .came)
 
@@ -66,6 +70,7 @@ cheapest-spec =
     mul-price
     element-copy-out-price
     price-requires
+    order-key-requires
     add-k
     loop-less
     loop-again

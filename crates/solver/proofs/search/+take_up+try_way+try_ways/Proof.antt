@@ -38,10 +38,10 @@ use Rattle.plans.proofs.tally.cut_of.Reads as cut-of-reads
 use Rattle.plans.proofs.ways.way_count.Reads as way-count-reads
 use Rattle.plans.proofs.ways.way_of.Reads as way-of-reads
 use Rattle.plans.proofs.ways.with_bit.Reads as with-bit-reads
+use Rattle.solver.proofs.ahead.choose_conflict.Reads as choose-conflict-reads
+use Rattle.solver.proofs.ahead.chosen_prices.Reads as chosen-prices-reads
 use Rattle.solver.proofs.pricing.cheapest.Reads as cheapest-reads
-use Rattle.solver.proofs.pricing.way_prices.Reads as way-prices-reads
 use Rattle.solver.proofs.search.spent.Reads as spent-reads
-use Rattle.solver.proofs.selecting.select_conflict.Reads as select-conflict-reads
 use Rattle.solver.proofs.search.+take_up+try_way+try_ways.{statement}
 use Rattle.solver.proofs.search.+take_up+try_way+try_ways.Tie.{close}
 
@@ -78,10 +78,8 @@ take-up-spent-requires : (t : ℕ) → take-up-lts.Need-spent-requires (
   spent-reads.Learnt,
   improves-reads.Asked,
   improves-reads.Learnt,
-  cut-of-reads.Asked,
-  cut-of-reads.Learnt,
-  select-conflict-reads.Asked,
-  select-conflict-reads.Learnt,
+  choose-conflict-reads.Asked,
+  choose-conflict-reads.Learnt,
   way-count-reads.Asked,
   way-count-reads.Learnt,
   copy-minutes-reads.Asked,
@@ -96,10 +94,8 @@ take-up-returns : (t : ℕ) → take-up-lts.Need-returns (
   spent-reads.Learnt,
   improves-reads.Asked,
   improves-reads.Learnt,
-  cut-of-reads.Asked,
-  cut-of-reads.Learnt,
-  select-conflict-reads.Asked,
-  select-conflict-reads.Learnt,
+  choose-conflict-reads.Asked,
+  choose-conflict-reads.Learnt,
   way-count-reads.Asked,
   way-count-reads.Learnt,
   copy-minutes-reads.Asked,
@@ -115,10 +111,8 @@ take-up-improves-requires : (t : ℕ) → take-up-lts.Need-improves-requires (
   spent-reads.Learnt,
   improves-reads.Asked,
   improves-reads.Learnt,
-  cut-of-reads.Asked,
-  cut-of-reads.Learnt,
-  select-conflict-reads.Asked,
-  select-conflict-reads.Learnt,
+  choose-conflict-reads.Asked,
+  choose-conflict-reads.Learnt,
   way-count-reads.Asked,
   way-count-reads.Learnt,
   copy-minutes-reads.Asked,
@@ -136,10 +130,8 @@ take-up-returns-2 : (t : ℕ) → take-up-lts.Need-returns-2 (
   spent-reads.Learnt,
   improves-reads.Asked,
   improves-reads.Learnt,
-  cut-of-reads.Asked,
-  cut-of-reads.Learnt,
-  select-conflict-reads.Asked,
-  select-conflict-reads.Learnt,
+  choose-conflict-reads.Asked,
+  choose-conflict-reads.Learnt,
   way-count-reads.Asked,
   way-count-reads.Learnt,
   copy-minutes-reads.Asked,
@@ -149,15 +141,13 @@ take-up-returns-2 : (t : ℕ) → take-up-lts.Need-returns-2 (
 ) (take-up-at t) take-up.Post
 take-up-returns-2 t c l h = sought-cut l _ _ _ _ _ _ _ _ _ _ h _ (c .before .improves .ensures) (c .if2 .taken)
 
-take-up-cut-of-requires : (t : ℕ) → take-up-lts.Need-cut-of-requires (
+take-up-choose-conflict-requires : (t : ℕ) → take-up-lts.Need-choose-conflict-requires (
   spent-reads.Asked,
   spent-reads.Learnt,
   improves-reads.Asked,
   improves-reads.Learnt,
-  cut-of-reads.Asked,
-  cut-of-reads.Learnt,
-  select-conflict-reads.Asked,
-  select-conflict-reads.Learnt,
+  choose-conflict-reads.Asked,
+  choose-conflict-reads.Learnt,
   way-count-reads.Asked,
   way-count-reads.Learnt,
   copy-minutes-reads.Asked,
@@ -165,46 +155,15 @@ take-up-cut-of-requires : (t : ℕ) → take-up-lts.Need-cut-of-requires (
   try-ways-below t,
   try-ways.Post,
 ) (take-up-at t) take-up.Post
-take-up-cut-of-requires t c κs = search needs
-
-take-up-select-conflict-requires : (t : ℕ) → take-up-lts.Need-select-conflict-requires (
-  spent-reads.Asked,
-  spent-reads.Learnt,
-  improves-reads.Asked,
-  improves-reads.Learnt,
-  cut-of-reads.Asked,
-  cut-of-reads.Learnt,
-  select-conflict-reads.Asked,
-  select-conflict-reads.Learnt,
-  way-count-reads.Asked,
-  way-count-reads.Learnt,
-  copy-minutes-reads.Asked,
-  copy-minutes-reads.Learnt,
-  try-ways-below t,
-  try-ways.Post,
-) (take-up-at t) take-up.Post
-take-up-select-conflict-requires t c κs =
-    let p = c .before .before .before .before .before .before .before .pre .1 in
-    let g = p .held .given in (
-      record {
-        line = p .line;
-        tabled = g .tabled;
-        planned = g .planned;
-        layout-is = g .layout-is;
-        cut-low = cut-few (p .line) _ _ _ _ _ _ _ _ 0 _ (p .held) _ (c .cut-of .ensures);
-      },
-      p .former-size,
-    )
+take-up-choose-conflict-requires t c κs = c .before .before .before .before .before .before .before .pre .1
 
 take-up-way-count-requires : (t : ℕ) → take-up-lts.Need-way-count-requires (
   spent-reads.Asked,
   spent-reads.Learnt,
   improves-reads.Asked,
   improves-reads.Learnt,
-  cut-of-reads.Asked,
-  cut-of-reads.Learnt,
-  select-conflict-reads.Asked,
-  select-conflict-reads.Learnt,
+  choose-conflict-reads.Asked,
+  choose-conflict-reads.Learnt,
   way-count-reads.Asked,
   way-count-reads.Learnt,
   copy-minutes-reads.Asked,
@@ -219,10 +178,8 @@ take-up-copy-minutes-requires : (t : ℕ) → take-up-lts.Need-copy-minutes-requ
   spent-reads.Learnt,
   improves-reads.Asked,
   improves-reads.Learnt,
-  cut-of-reads.Asked,
-  cut-of-reads.Learnt,
-  select-conflict-reads.Asked,
-  select-conflict-reads.Learnt,
+  choose-conflict-reads.Asked,
+  choose-conflict-reads.Learnt,
   way-count-reads.Asked,
   way-count-reads.Learnt,
   copy-minutes-reads.Asked,
@@ -239,10 +196,8 @@ take-up-returns-3 : (t : ℕ) → take-up-lts.Need-returns-3 (
   spent-reads.Learnt,
   improves-reads.Asked,
   improves-reads.Learnt,
-  cut-of-reads.Asked,
-  cut-of-reads.Learnt,
-  select-conflict-reads.Asked,
-  select-conflict-reads.Learnt,
+  choose-conflict-reads.Asked,
+  choose-conflict-reads.Learnt,
   way-count-reads.Asked,
   way-count-reads.Learnt,
   copy-minutes-reads.Asked,
@@ -252,7 +207,7 @@ take-up-returns-3 : (t : ℕ) → take-up-lts.Need-returns-3 (
 ) (take-up-at t) take-up.Post
 take-up-returns-3 t c l h =
     let n = c .before .before .before in
-    let o = n .before .select-conflict .ensures in
+    let o = n .before .choose-conflict .ensures in
     let x = c .before .before .before .before .before .before .before in
     sought-marks l _ _ _ _ _ _ _ _ (o .marks-same)
     (sought-clear l _ _ _ _ _ _ _ _ _ _ h _ (x .before .improves .ensures) (x .if2 .left) _ (o .chosen) _ (n .way-count .ensures)
@@ -263,10 +218,8 @@ take-up-try-ways-requires : (t : ℕ) → take-up-lts.Need-try-ways-requires (
   spent-reads.Learnt,
   improves-reads.Asked,
   improves-reads.Learnt,
-  cut-of-reads.Asked,
-  cut-of-reads.Learnt,
-  select-conflict-reads.Asked,
-  select-conflict-reads.Learnt,
+  choose-conflict-reads.Asked,
+  choose-conflict-reads.Learnt,
   way-count-reads.Asked,
   way-count-reads.Learnt,
   copy-minutes-reads.Asked,
@@ -279,7 +232,7 @@ take-up-try-ways-requires t c κs =
     let a = c .before .before .before .before .before .before .before .before .before .before .before .before .before .pre in
     let p = a .1 in
     let g = p .held .given in
-    let o = n .before .select-conflict .ensures in (
+    let o = n .before .choose-conflict .ensures in (
       omega (arith, a .0),
       record {
         line = p .line;
@@ -295,10 +248,8 @@ take-up-returns-4 : (t : ℕ) → take-up-lts.Need-returns-4 (
   spent-reads.Learnt,
   improves-reads.Asked,
   improves-reads.Learnt,
-  cut-of-reads.Asked,
-  cut-of-reads.Learnt,
-  select-conflict-reads.Asked,
-  select-conflict-reads.Learnt,
+  choose-conflict-reads.Asked,
+  choose-conflict-reads.Learnt,
   way-count-reads.Asked,
   way-count-reads.Learnt,
   copy-minutes-reads.Asked,
@@ -308,7 +259,7 @@ take-up-returns-4 : (t : ℕ) → take-up-lts.Need-returns-4 (
 ) (take-up-at t) take-up.Post
 take-up-returns-4 t c l h =
     let g = h .given in
-    let o = c .before .before .before .before .before .before .select-conflict .ensures in
+    let o = c .before .before .before .before .before .before .choose-conflict .ensures in
     sought-by l _ _ _ _ _ _ _ _ (o .marks-same)
     (c .try-ways .ensures l (held-by l _ _ _ _ _ _ _ _ 0 _ h _ (o .marks-same))
     (o .chosen l (g .tabled .within) (g .tabled .arrays) (g .layout-is) (g .tabled .directions) .real))
@@ -630,18 +581,16 @@ try-way-returns-2 t c l x h i =
     (k .cut-of .ensures) _ _ (r .raised .ensures) _ _ _ (c .take-up .ensures l held)
 
 abbrev try-ways-Inv-loop : try-ways-lts.InvT-loop
-try-ways-Inv-loop m marks₀ best₀ t ds key layout cost hint limit conflict n cut prices₀ b₀ w₀ marks best prices b w =
+try-ways-Inv-loop m marks₀ best₀ t ds key layout cost hint limit conflict n prices₀ b₀ w₀ marks best prices b w =
     TriesSome m marks₀ best₀ t ds key layout cost limit b₀ conflict n prices marks best b × Cheapest prices n w × (length prices ≡ 144)
 
 abbrev try-ways-μ-loop : try-ways-lts.MeasureT-loop
-try-ways-μ-loop m marks₀ best₀ t ds key layout cost hint limit conflict n cut prices₀ b₀ w₀ marks best prices b w =
+try-ways-μ-loop m marks₀ best₀ t ds key layout cost hint limit conflict n prices₀ b₀ w₀ marks best prices b w =
     count (untried prices) n
 
-try-ways-cut-of-requires : (t : ℕ) → try-ways-lts.Need-cut-of-requires (
-  cut-of-reads.Asked,
-  cut-of-reads.Learnt,
-  way-prices-reads.Asked,
-  way-prices-reads.Learnt,
+try-ways-chosen-prices-requires : (t : ℕ) → try-ways-lts.Need-chosen-prices-requires (
+  chosen-prices-reads.Asked,
+  chosen-prices-reads.Learnt,
   cheapest-reads.Asked,
   cheapest-reads.Learnt,
   way-of-reads.Asked,
@@ -649,37 +598,11 @@ try-ways-cut-of-requires : (t : ℕ) → try-ways-lts.Need-cut-of-requires (
   try-way-below t,
   try-way.Post,
 ) (try-ways-at t) try-ways.Post try-ways-Inv-loop try-ways-μ-loop
-try-ways-cut-of-requires t c κs = search needs
-
-try-ways-way-prices-requires : (t : ℕ) → try-ways-lts.Need-way-prices-requires (
-  cut-of-reads.Asked,
-  cut-of-reads.Learnt,
-  way-prices-reads.Asked,
-  way-prices-reads.Learnt,
-  cheapest-reads.Asked,
-  cheapest-reads.Learnt,
-  way-of-reads.Asked,
-  way-of-reads.Learnt,
-  try-way-below t,
-  try-way.Post,
-) (try-ways-at t) try-ways.Post try-ways-Inv-loop try-ways-μ-loop
-try-ways-way-prices-requires t c κs =
-    let p = c .before .before .pre .1 in
-    let g = p .held .given in
-    record {
-      line = p .line;
-      tabled = g .tabled;
-      planned = g .planned;
-      real = p .real;
-      count-is = p .count-is;
-      cut-low = cut-few (p .line) _ _ _ _ _ _ _ _ 0 _ (p .held) _ (c .before .cut-of .ensures);
-    }
+try-ways-chosen-prices-requires t c κs = c .before .before .pre .1
 
 try-ways-cheapest-requires : (t : ℕ) → try-ways-lts.Need-cheapest-requires (
-  cut-of-reads.Asked,
-  cut-of-reads.Learnt,
-  way-prices-reads.Asked,
-  way-prices-reads.Learnt,
+  chosen-prices-reads.Asked,
+  chosen-prices-reads.Learnt,
   cheapest-reads.Asked,
   cheapest-reads.Learnt,
   way-of-reads.Asked,
@@ -692,10 +615,8 @@ try-ways-cheapest-requires t c κs =
     (search needs, omega (arith, s .pre .1 .count-is, count-most (s .args .conflict)))
 
 try-ways-loop-holds : (t : ℕ) → try-ways-lts.Need-loop-holds (
-  cut-of-reads.Asked,
-  cut-of-reads.Learnt,
-  way-prices-reads.Asked,
-  way-prices-reads.Learnt,
+  chosen-prices-reads.Asked,
+  chosen-prices-reads.Learnt,
   cheapest-reads.Asked,
   cheapest-reads.Learnt,
   way-of-reads.Asked,
@@ -704,18 +625,15 @@ try-ways-loop-holds : (t : ℕ) → try-ways-lts.Need-loop-holds (
   try-way.Post,
 ) (try-ways-at t) try-ways.Post try-ways-Inv-loop try-ways-μ-loop
 try-ways-loop-holds t c =
-    let e = c .before .before in
-    let k = e .before .before in (
-      (λ l h real. ways-priced l _ _ _ _ _ _ _ _ _ _ h _ real _ _ (k .cut-of .ensures) _ _ (e .way-prices .ensures)),
+    let e = c .before .before in (
+      (λ l h real. ways-priced l _ _ _ _ _ _ _ _ _ _ h _ real _ _ _ (e .chosen-prices .ensures)),
       c .cheapest .ensures,
       search needs,
     )
 
 try-ways-way-of-requires : (t : ℕ) → try-ways-lts.Need-way-of-requires (
-  cut-of-reads.Asked,
-  cut-of-reads.Learnt,
-  way-prices-reads.Asked,
-  way-prices-reads.Learnt,
+  chosen-prices-reads.Asked,
+  chosen-prices-reads.Learnt,
   cheapest-reads.Asked,
   cheapest-reads.Learnt,
   way-of-reads.Asked,
@@ -733,10 +651,8 @@ try-ways-way-of-requires t c κs =
     )
 
 try-ways-try-way-requires : (t : ℕ) → try-ways-lts.Need-try-way-requires (
-  cut-of-reads.Asked,
-  cut-of-reads.Learnt,
-  way-prices-reads.Asked,
-  way-prices-reads.Learnt,
+  chosen-prices-reads.Asked,
+  chosen-prices-reads.Learnt,
   cheapest-reads.Asked,
   cheapest-reads.Learnt,
   way-of-reads.Asked,
@@ -752,7 +668,7 @@ try-ways-try-way-requires t c κs =
     let s = c .before .before .before .before .before .before .before .before .before .before .before in
     let p = s .pre .1 in
     let g = p .held .given in
-    let held = held-by (p .line) _ _ _ _ _ _ _ _ 0 _ (p .held) _ (e .way-prices .ensures .marks-same) in
+    let held = held-by (p .line) _ _ _ _ _ _ _ _ 0 _ (p .held) _ (e .chosen-prices .ensures .marks-same) in
     let done = i .inv .0 (p .line) held (p .real) in
     let there = way-there _ _ (wayOf (s .args .conflict) (i .w)) (o .way-of .ensures .0) (c .before .before .if1 .taken) in (
       omega (arith, s .pre .0),
@@ -767,10 +683,8 @@ try-ways-try-way-requires t c κs =
     )
 
 try-ways-mul-prices : (t : ℕ) → try-ways-lts.Need-mul-prices (
-  cut-of-reads.Asked,
-  cut-of-reads.Learnt,
-  way-prices-reads.Asked,
-  way-prices-reads.Learnt,
+  chosen-prices-reads.Asked,
+  chosen-prices-reads.Learnt,
   cheapest-reads.Asked,
   cheapest-reads.Learnt,
   way-of-reads.Asked,
@@ -781,10 +695,8 @@ try-ways-mul-prices : (t : ℕ) → try-ways-lts.Need-mul-prices (
 try-ways-mul-prices t c = search needs
 
 try-ways-array-write-prices : (t : ℕ) → try-ways-lts.Need-array-write-prices (
-  cut-of-reads.Asked,
-  cut-of-reads.Learnt,
-  way-prices-reads.Asked,
-  way-prices-reads.Learnt,
+  chosen-prices-reads.Asked,
+  chosen-prices-reads.Learnt,
   cheapest-reads.Asked,
   cheapest-reads.Learnt,
   way-of-reads.Asked,
@@ -795,10 +707,8 @@ try-ways-array-write-prices : (t : ℕ) → try-ways-lts.Need-array-write-prices
 try-ways-array-write-prices t c = search needs
 
 try-ways-cheapest-requires-2 : (t : ℕ) → try-ways-lts.Need-cheapest-requires-2 (
-  cut-of-reads.Asked,
-  cut-of-reads.Learnt,
-  way-prices-reads.Asked,
-  way-prices-reads.Learnt,
+  chosen-prices-reads.Asked,
+  chosen-prices-reads.Learnt,
   cheapest-reads.Asked,
   cheapest-reads.Learnt,
   way-of-reads.Asked,
@@ -812,10 +722,8 @@ try-ways-cheapest-requires-2 t c κs =
     (simp length-set (i .inv .2), omega (arith, s .pre .1 .count-is, count-most (s .args .conflict)))
 
 try-ways-loop-less : (t : ℕ) → try-ways-lts.Need-loop-less (
-  cut-of-reads.Asked,
-  cut-of-reads.Learnt,
-  way-prices-reads.Asked,
-  way-prices-reads.Learnt,
+  chosen-prices-reads.Asked,
+  chosen-prices-reads.Learnt,
   cheapest-reads.Asked,
   cheapest-reads.Learnt,
   way-of-reads.Asked,
@@ -830,10 +738,8 @@ try-ways-loop-less t c =
     untried-falls _ _ (i .w) low (omega (arith, i .inv .2, low, s .pre .1 .count-is, count-most (s .args .conflict))) (i .inv .1)
 
 try-ways-loop-again : (t : ℕ) → try-ways-lts.Need-loop-again (
-  cut-of-reads.Asked,
-  cut-of-reads.Learnt,
-  way-prices-reads.Asked,
-  way-prices-reads.Learnt,
+  chosen-prices-reads.Asked,
+  chosen-prices-reads.Learnt,
   cheapest-reads.Asked,
   cheapest-reads.Learnt,
   way-of-reads.Asked,
@@ -861,10 +767,8 @@ try-ways-loop-again t c =
     )
 
 try-ways-returns : (t : ℕ) → try-ways-lts.Need-returns (
-  cut-of-reads.Asked,
-  cut-of-reads.Learnt,
-  way-prices-reads.Asked,
-  way-prices-reads.Learnt,
+  chosen-prices-reads.Asked,
+  chosen-prices-reads.Learnt,
   cheapest-reads.Asked,
   cheapest-reads.Learnt,
   way-of-reads.Asked,
@@ -876,7 +780,7 @@ try-ways-returns t c l h real =
     let i = c .before .loop in
     let e = c .before .before .before .before in
     let p = c .before .before .before .before .before .before .before .pre .1 in
-    let same = e .way-prices .ensures .marks-same in
+    let same = e .chosen-prices .ensures .marks-same in
     let held = held-by l _ _ _ _ _ _ _ _ 0 _ h _ same in
     sought-by l _ _ _ _ _ _ _ _ same
     (ways-done l _ _ _ _ _ _ _ _ _ _ held _ real _ (p .count-is) (p .some) _ _ _ _ (i .inv .0 l held real) _ (i .inv .1) (omega (arith, c .loop-test .left)))
@@ -887,10 +791,8 @@ pub +take-up+try-way+try-ways-spec : {M : Type 1} → statement M
   spent-reads.Learnt,
   improves-reads.Asked,
   improves-reads.Learnt,
-  cut-of-reads.Asked,
-  cut-of-reads.Learnt,
-  select-conflict-reads.Asked,
-  select-conflict-reads.Learnt,
+  choose-conflict-reads.Asked,
+  choose-conflict-reads.Learnt,
   way-count-reads.Asked,
   way-count-reads.Learnt,
   copy-minutes-reads.Asked,
@@ -904,8 +806,7 @@ pub +take-up+try-way+try-ways-spec : {M : Type 1} → statement M
     (take-up-returns t)
     (take-up-improves-requires t)
     (take-up-returns-2 t)
-    (take-up-cut-of-requires t)
-    (take-up-select-conflict-requires t)
+    (take-up-choose-conflict-requires t)
     (take-up-way-count-requires t)
     (take-up-copy-minutes-requires t)
     (take-up-returns-3 t)
@@ -944,10 +845,8 @@ pub +take-up+try-way+try-ways-spec : {M : Type 1} → statement M
     (try-way-element-write-marks-3 t)
     (try-way-returns-2 t))
     λ t. try-ways-lts.spec (
-      cut-of-reads.Asked,
-      cut-of-reads.Learnt,
-      way-prices-reads.Asked,
-      way-prices-reads.Learnt,
+      chosen-prices-reads.Asked,
+      chosen-prices-reads.Learnt,
       cheapest-reads.Asked,
       cheapest-reads.Learnt,
       way-of-reads.Asked,
@@ -959,8 +858,7 @@ pub +take-up+try-way+try-ways-spec : {M : Type 1} → statement M
     try-ways.Post
     try-ways-Inv-loop
     try-ways-μ-loop
-    (try-ways-cut-of-requires t)
-    (try-ways-way-prices-requires t)
+    (try-ways-chosen-prices-requires t)
     (try-ways-cheapest-requires t)
     (try-ways-loop-holds t)
     (try-ways-way-of-requires t)

@@ -17,8 +17,11 @@ still-clear-requires c κs =
     let s = select-scans _ _ _ _ _ _ _ (a .0) in
     (s .size, a .1, omega (arith, s .laid-out .1))
 
+next-row-requires : tie.Need-next-row-requires
+next-row-requires c κs = search needs
+
 highest-scored-requires : tie.Need-highest-scored-requires
-highest-scored-requires c κs = c .before .before .before .before .pre .0
+highest-scored-requires c κs = c .before .before .before .before .before .pre .0
 
 way-count-requires : tie.Need-way-count-requires
 way-count-requires c κs = search needs
@@ -34,10 +37,10 @@ returns c =
 lowest-conflict-requires : tie.Need-lowest-conflict-requires
 lowest-conflict-requires c κs =
     let h = c .before .before .before .before .before in
-    select-scans _ _ _ _ _ _ _ (h .before .before .before .before .before .pre .0)
+    select-scans _ _ _ _ _ _ _ (h .before .before .before .before .before .before .pre .0)
 
-no-hint-requires : tie.Need-no-hint-requires
-no-hint-requires c κs = search needs
+first-hint-requires : tie.Need-first-hint-requires
+first-hint-requires c κs = search needs
 
 returns-2 : tie.Need-returns-2
 returns-2 c =
@@ -52,9 +55,10 @@ select-conflict-spec =
     (tie.spec
     sub-still-clear
     still-clear-requires
+    next-row-requires
     highest-scored-requires
     way-count-requires
     returns
     lowest-conflict-requires
-    no-hint-requires
+    first-hint-requires
     returns-2)
