@@ -16,9 +16,8 @@ use Rattle.rules.specs.declared.conflicts.Conflict.{Conflict}
 use Rattle.orders.specs.Bits.{withBit}
 use Rattle.orders.specs.Choices.{Choice}
 use Rattle.plans.specs.Ways.{wayOf, wayCount}
-use Rattle.plans.specs.ConflictFacts.{Real}
 use Rattle.plans.specs.WaysTold.{Tells, TellsWay, Steps}
-use Rattle.plans.specs.Choosing.{Tabled, Planned, NoRaise, Raised}
+use Rattle.plans.specs.Choosing.{Planned, NoRaise, Raised}
 use Rattle.plans.specs.TryingLaws.{way-there, way-absent, way-of-real, put-back}
 use Rattle.plans.specs.NextPlansLaws.{way-raises}
 use Rattle.plans.specs.declared.ways.Way.{Way}

@@ -27,7 +27,7 @@ use rules::conflicts::Layout;
 const PLACES_MOST: usize = 16;
 
 // After so many plans a search looks ahead nearer to the best so far.
-const LONG: u32 = 100000;
+const LONG: u32 = 30000;
 
 // After so many it looks ahead at every plan.
 const VERY_LONG: u32 = 500000;

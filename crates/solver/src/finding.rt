@@ -28,6 +28,8 @@ const FIRST_LIMIT: u32 = 1000;
 
 const SECOND_LIMIT: u32 = 4000;
 
+const THIRD_LIMIT: u32 = 200000;
+
 const ANEW_LIMIT: u32 = 200;
 
 const ANEW_MOST: usize = 200;
@@ -36,7 +38,9 @@ const NEAR_LIMIT: u32 = 100;
 
 const FIRST_NEAR: usize = 40;
 
-const LAST_NEAR: usize = 80;
+const SECOND_NEAR: usize = 80;
+
+const LAST_NEAR: usize = 400;
 
 // The best timetable of a line, if there is one.
 pub struct Found {
@@ -221,18 +225,14 @@ fn search_whole(
     if second.steps < SECOND_LIMIT {
         return second;
     }
-    let last = search_near(m, best, t, ds, key, layout, FIRST_NEAR, LAST_NEAR, second);
-    search_within(
-        m,
-        best,
-        t,
-        ds,
-        key,
-        layout,
-        first_hint(true, 0),
-        NO_LIMIT,
-        last,
-    )
+    let nearer = search_near(m, best, t, ds, key, layout, FIRST_NEAR, SECOND_NEAR, second);
+    let long = first_hint(true, 0);
+    let third = search_within(m, best, t, ds, key, layout, long, THIRD_LIMIT, nearer);
+    if third.steps < THIRD_LIMIT {
+        return third;
+    }
+    let last = search_near(m, best, t, ds, key, layout, SECOND_NEAR, LAST_NEAR, third);
+    search_within(m, best, t, ds, key, layout, long, NO_LIMIT, last)
 }
 
 // Finds the best timetable of a line within the limits.

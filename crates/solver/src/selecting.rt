@@ -390,7 +390,7 @@ fn select_at(
         return Selected {
             conflict: held,
             score: old.score,
-            hint: hint_from(hint, 0, clear),
+            hint: hint_from(hint, hint.start, clear),
         };
     }
     let score = found_score(found.score, hint.row, place);

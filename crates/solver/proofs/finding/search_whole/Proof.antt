@@ -27,6 +27,12 @@ near c = c .before .before
 abbrev second : tie.After-search-near2 → tie.After-search-within2
 second c = c .before .before .before .before
 
+abbrev nearer : tie.After-search-within3 → tie.After-search-near2
+nearer c = c .before .before .before
+
+abbrev third : tie.After-search-near3 → tie.After-search-within3
+third c = c .before .before .before .before
+
 abbrev Held : tie.Start → List ℕ → Tally → Type 0
 Held a best r =
     Improves (now (a .args .m)) (now (a .args .best)) (now (a .args .t)) (now (a .args .ds)) (now (a .args .key)) (a .args .layout) (a .args .tally) best r
@@ -43,8 +49,14 @@ near-held c = improves-then _ _ _ _ _ _ _ _ _ (anew-held (anew c)) _ _ (c .searc
 second-held : (c : tie.After-search-within2) → Held (begun (first (anew (near c)))) (c .search-within2 .last .1 .0) (c .search-within2 .result)
 second-held c = improves-then _ _ _ _ _ _ _ _ _ (near-held (near c)) _ _ (searches-improves _ _ _ _ _ _ _ _ _ _ (c .search-within2 .ensures))
 
-last-held : (c : tie.After-search-near2) → Held (begun (first (anew (near (second c))))) (c .search-near2 .last .1 .0) (c .search-near2 .result)
-last-held c = improves-then _ _ _ _ _ _ _ _ _ (second-held (second c)) _ _ (c .search-near2 .ensures)
+nearer-held : (c : tie.After-search-near2) → Held (begun (first (anew (near (second c))))) (c .search-near2 .last .1 .0) (c .search-near2 .result)
+nearer-held c = improves-then _ _ _ _ _ _ _ _ _ (second-held (second c)) _ _ (c .search-near2 .ensures)
+
+third-held : (c : tie.After-search-within3) → Held (begun (first (anew (near (second (nearer c)))))) (c .search-within3 .last .1 .0) (c .search-within3 .result)
+third-held c = improves-then _ _ _ _ _ _ _ _ _ (nearer-held (nearer c)) _ _ (searches-improves _ _ _ _ _ _ _ _ _ _ (c .search-within3 .ensures))
+
+last-held : (c : tie.After-search-near3) → Held (begun (first (anew (near (second (nearer (third c))))))) (c .search-near3 .last .1 .0) (c .search-near3 .result)
+last-held c = improves-then _ _ _ _ _ _ _ _ _ (third-held (third c)) _ _ (c .search-near3 .ensures)
 
 -- ---- the needs
 
@@ -80,10 +92,23 @@ first-hint-requires-2 c κs = search needs
 
 search-within-requires-3 : tie.Need-search-within-requires-3
 search-within-requires-3 c κs =
-    let p = c .before .before in find-after _ _ _ _ _ _ _ _ _ (last-held p) (begun (first (anew (near (second p)))) .pre)
+    let p = c .before .before in find-after _ _ _ _ _ _ _ _ _ (nearer-held p) (begun (first (anew (near (second p)))) .pre)
 
 returns-3 : tie.Need-returns-3
-returns-3 c = searches-then _ _ _ _ _ _ _ _ _ (last-held (c .before .before .before)) _ _ _ (c .search-within3 .ensures)
+returns-3 c =
+    let p = c .before .before in
+    searches-below _ _ _ _ _ _ _ _ _ _ (c .if3 .taken) (searches-then _ _ _ _ _ _ _ _ _ (nearer-held (nearer p)) _ _ _ (p .search-within3 .ensures))
+
+search-near-requires-3 : tie.Need-search-near-requires-3
+search-near-requires-3 c κs =
+    let p = c .before .before .before in find-after _ _ _ _ _ _ _ _ _ (third-held p) (begun (first (anew (near (second (nearer p))))) .pre)
+
+search-within-requires-4 : tie.Need-search-within-requires-4
+search-within-requires-4 c κs =
+    let p = c .before in find-after _ _ _ _ _ _ _ _ _ (last-held p) (begun (first (anew (near (second (nearer (third p)))))) .pre)
+
+returns-4 : tie.Need-returns-4
+returns-4 c = searches-then _ _ _ _ _ _ _ _ _ (last-held (c .before .before)) _ _ _ (c .search-within4 .ensures)
 
 pub search-whole-spec : {M : Type 1} → statement M
 search-whole-spec =
@@ -99,4 +124,7 @@ search-whole-spec =
     search-near-requires-2
     first-hint-requires-2
     search-within-requires-3
-    returns-3)
+    returns-3
+    search-near-requires-3
+    search-within-requires-4
+    returns-4)

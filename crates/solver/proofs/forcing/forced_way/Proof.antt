@@ -1,10 +1,10 @@
 -- `solver::forcing::forced_way` meets its contract: the ways that are priced as dead are, so one that alone is not is forced, and where all are nothing is
 -- left. Assumes nothing.
-use mathlib.Core.Path.{_≡_, sym, _∙_}
+use mathlib.Core.Path.{sym, _∙_}
 use mathlib.Core.Bool.{true, false, true≢false}
 use native.Mathlib.Omega.{arith}
 use borrow.Author.Needs.{needs}
-use lib.ListN.{length, length-set}
+use lib.ListN.{length-set}
 use Rattle.rules.specs.StationLaws.{directions-size}
 use Rattle.plans.specs.TryingLaws.{count-most, range-of}
 use Rattle.solver.specs.PricingLaws.{planned-after}

@@ -17,7 +17,7 @@ use Rattle.plans.specs.GivenLaws.{key-long}
 use Rattle.solver.specs.Pricing.{Cheapest, untried}
 use Rattle.solver.specs.PricingLaws.{untried-falls}
 use Rattle.solver.specs.Searching.{TriesSome}
-use Rattle.solver.specs.SearchingLaws.{counted-tallied, cut-few, held-after, held-by, sought-spent, sought-cut, sought-clear, sought-dead, next-held}
+use Rattle.solver.specs.SearchingLaws.{counted-tallied, held-after, held-by, sought-spent, sought-cut, sought-clear, sought-dead, next-held}
 use Rattle.solver.specs.SearchingLaws.{sought-alive, sought-marks, sought-by, ways-priced, ways-done, ways-skip, ways-more}
 use borrow.Fn.Kinds.{In}
 use borrow.Fn.PlainCycle.{Measures, is, falls, and}
