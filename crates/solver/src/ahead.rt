@@ -30,7 +30,7 @@ const PLACES_MOST: usize = 16;
 const LONG: u32 = 30000;
 
 // After so many it looks ahead at every plan.
-const VERY_LONG: u32 = 500000;
+const VERY_LONG: u32 = 1000000;
 
 // How far below the best so far, in thousandths of its delay, a plan must be to look ahead from it.
 fn least_room(steps: u32) -> u32
