@@ -174,14 +174,19 @@ fn gap_before(x: u16, gap: u16) -> u16 {
     0
 }
 
-// The trains that are on segment p within the gap of train i, itself among them. Some may be missed: what the scan misses, the lowest conflict finds.
+// The trains above train i that are on segment p within its gap. Some may be missed: what the scan misses, the lowest conflict finds. A train arrives at
+// minute 0 only where it does not use the segment.
 fn near(m: &[u16; 352], p: usize, i: usize, gap: u16) -> u16
     requires { ⌜ (length (now m) ≡ 352) × (p < 11) × (i < 12) ⌝ }
 {
-    let after = gap_after(m[176 + (16 * p + i)], gap);
+    let arrival = m[176 + (16 * p + i)];
+    if arrival == 0 {
+        return 0;
+    }
+    let after = gap_after(arrival, gap);
     let before = gap_before(m[16 * p + i], gap);
     let mut mask: u16 = 0;
-    let mut j: usize = 0;
+    let mut j = i + 1;
     while j < 16 {
         if m[16 * p + j] < after {
             if m[176 + (16 * p + j)] > before {

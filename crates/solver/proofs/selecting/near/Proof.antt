@@ -5,25 +5,28 @@ use Rattle.solver.proofs.selecting.near.Statement.{statement}
 use Rattle.solver.proofs.selecting.near.Tie as tie
 
 abbrev Inv-loop : tie.InvT-loop
-Inv-loop m p i gap after before mask₀ j₀ mask j = j ≤ 16
+Inv-loop m p i gap arrival after before mask₀ j₀ mask j = j ≤ 16
 
 abbrev μ-loop : tie.MeasureT-loop
-μ-loop m p i gap after before mask₀ j₀ mask j = 16 - j
+μ-loop m p i gap arrival after before mask₀ j₀ mask j = 16 - j
 
-mul-gap-after : tie.Need-mul-gap-after Inv-loop μ-loop
-mul-gap-after c = search needs
+mul-arrival : tie.Need-mul-arrival Inv-loop μ-loop
+mul-arrival c = search needs
 
-add-gap-after : tie.Need-add-gap-after Inv-loop μ-loop
-add-gap-after c = search needs
+add-arrival : tie.Need-add-arrival Inv-loop μ-loop
+add-arrival c = search needs
 
-add-gap-after-2 : tie.Need-add-gap-after-2 Inv-loop μ-loop
-add-gap-after-2 c = search needs
+add-arrival-2 : tie.Need-add-arrival-2 Inv-loop μ-loop
+add-arrival-2 c = search needs
 
-mul-gap-after-2 : tie.Need-mul-gap-after-2 Inv-loop μ-loop
-mul-gap-after-2 c = search needs
+mul-arrival-2 : tie.Need-mul-arrival-2 Inv-loop μ-loop
+mul-arrival-2 c = search needs
 
-element-copy-out-gap-after : tie.Need-element-copy-out-gap-after Inv-loop μ-loop
-element-copy-out-gap-after c = search needs
+element-copy-out-arrival : tie.Need-element-copy-out-arrival Inv-loop μ-loop
+element-copy-out-arrival c = search needs
+
+returns : tie.Need-returns Inv-loop μ-loop
+returns c = search needs
 
 gap-after-requires : tie.Need-gap-after-requires Inv-loop μ-loop
 gap-after-requires c κs = search needs
@@ -43,20 +46,11 @@ element-copy-out-gap-before c = search needs
 gap-before-requires : tie.Need-gap-before-requires Inv-loop μ-loop
 gap-before-requires c κs = search needs
 
+add-j : tie.Need-add-j Inv-loop μ-loop
+add-j c = search needs
+
 loop-holds : tie.Need-loop-holds Inv-loop μ-loop
 loop-holds c = search needs
-
-mul-if1 : tie.Need-mul-if1 Inv-loop μ-loop
-mul-if1 c = search needs
-
-add-if1 : tie.Need-add-if1 Inv-loop μ-loop
-add-if1 c = search needs
-
-mul-if1-2 : tie.Need-mul-if1-2 Inv-loop μ-loop
-mul-if1-2 c = search needs
-
-element-copy-out-if1 : tie.Need-element-copy-out-if1 Inv-loop μ-loop
-element-copy-out-if1 c = search needs
 
 mul-if2 : tie.Need-mul-if2 Inv-loop μ-loop
 mul-if2 c = search needs
@@ -64,20 +58,32 @@ mul-if2 c = search needs
 add-if2 : tie.Need-add-if2 Inv-loop μ-loop
 add-if2 c = search needs
 
-add-if2-2 : tie.Need-add-if2-2 Inv-loop μ-loop
-add-if2-2 c = search needs
-
 mul-if2-2 : tie.Need-mul-if2-2 Inv-loop μ-loop
 mul-if2-2 c = search needs
 
 element-copy-out-if2 : tie.Need-element-copy-out-if2 Inv-loop μ-loop
 element-copy-out-if2 c = search needs
 
+mul-if3 : tie.Need-mul-if3 Inv-loop μ-loop
+mul-if3 c = search needs
+
+add-if3 : tie.Need-add-if3 Inv-loop μ-loop
+add-if3 c = search needs
+
+add-if3-2 : tie.Need-add-if3-2 Inv-loop μ-loop
+add-if3-2 c = search needs
+
+mul-if3-2 : tie.Need-mul-if3-2 Inv-loop μ-loop
+mul-if3-2 c = search needs
+
+element-copy-out-if3 : tie.Need-element-copy-out-if3 Inv-loop μ-loop
+element-copy-out-if3 c = search needs
+
 with-bit-requires : tie.Need-with-bit-requires Inv-loop μ-loop
 with-bit-requires c κs = search needs
 
-add-j : tie.Need-add-j Inv-loop μ-loop
-add-j c = search needs
+add-j-2 : tie.Need-add-j-2 Inv-loop μ-loop
+add-j-2 c = search needs
 
 loop-less : tie.Need-loop-less Inv-loop μ-loop
 loop-less c = search needs
@@ -85,8 +91,8 @@ loop-less c = search needs
 loop-again : tie.Need-loop-again Inv-loop μ-loop
 loop-again c = search needs
 
-returns : tie.Need-returns Inv-loop μ-loop
-returns c = search needs
+returns-2 : tie.Need-returns-2 Inv-loop μ-loop
+returns-2 c = search needs
 
 pub near-spec : {M : Type 1} → statement M
 near-spec =
@@ -94,29 +100,31 @@ near-spec =
     (tie.spec
     Inv-loop
     μ-loop
-    mul-gap-after
-    add-gap-after
-    add-gap-after-2
-    mul-gap-after-2
-    element-copy-out-gap-after
+    mul-arrival
+    add-arrival
+    add-arrival-2
+    mul-arrival-2
+    element-copy-out-arrival
+    returns
     gap-after-requires
     mul-gap-before
     add-gap-before
     mul-gap-before-2
     element-copy-out-gap-before
     gap-before-requires
+    add-j
     loop-holds
-    mul-if1
-    add-if1
-    mul-if1-2
-    element-copy-out-if1
     mul-if2
     add-if2
-    add-if2-2
     mul-if2-2
     element-copy-out-if2
+    mul-if3
+    add-if3
+    add-if3-2
+    mul-if3-2
+    element-copy-out-if3
     with-bit-requires
-    add-j
+    add-j-2
     loop-less
     loop-again
-    returns)
+    returns-2)
