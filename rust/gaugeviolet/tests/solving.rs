@@ -2,12 +2,17 @@
 //! small files, the walk on Saturdays where it ends, and the search on larger ones. Each timetable printed
 //! passes the check, and a refusal changes no lent byte.
 
+use std::cell::Cell;
+
 use gaugeviolet::{check, solve, TIMETABLE_BYTES};
 use independent::search::search_within;
 use independent::walk::solve_within;
 use independent::{Line, Refusal};
 use inputs::{beside_another, beside_walks, short_walks, small_walks};
 use inputs::{saturday, some_saturday, Answer, Random, Style};
+
+/// So many plans are more than the library's searches that do not look ahead take up.
+const LONG_SEARCH: u64 = 30_000;
 
 /// What the library answers: the text, or number and place with every lent byte as before.
 fn solved(file: &[u8]) -> Answer {
@@ -61,17 +66,25 @@ fn saturdays_beside_the_walk() {
     }
 }
 
-/// Saturdays of the greatest size, most of them with too long a walk.
+/// Saturdays of the greatest size, most of them with too long a walk. Some have a long search too: only
+/// there does the library look ahead.
 #[test]
 fn large_saturdays_beside_the_search() {
     let mut random = Random::new(9);
+    let long = Cell::new(0);
     for style in Style::ALL {
         let saturdays = (0..40).map(|_| saturday(&mut random, 12, 12, style));
-        let search = |line: &Line| search_within(line, 300_000).ok();
+        let search = |line: &Line| {
+            let found = search_within(line, 300_000).ok()?;
+            long.set(long.get() + usize::from(found.plans >= LONG_SEARCH));
+            Some(found)
+        };
         let outcomes = beside_another(saturdays, search, solved);
         println!("{style:?}: {outcomes:?}");
         assert!(outcomes.lines >= 30 && outcomes.delayed >= 15);
     }
+    println!("long searches: {}", long.get());
+    assert!(long.get() >= 5);
 }
 
 #[test]
