@@ -24,9 +24,9 @@ use rules::conflicts::layout_of;
 use rules::directions::directions_of;
 
 // The limits of plans and the numbers of neighbourhoods are tuned on busy days (docs/DECISIONS.md); what is found depends on none of them.
-const FIRST_LIMIT: u32 = 1000;
+const FIRST_LIMIT: u32 = 2500;
 
-const SECOND_LIMIT: u32 = 4000;
+const SECOND_LIMIT: u32 = 2500;
 
 const THIRD_LIMIT: u32 = 200000;
 
