@@ -24,7 +24,7 @@ use rules::conflicts::layout_of;
 use rules::directions::directions_of;
 
 // The limits of plans and the numbers of neighbourhoods are tuned on busy days (docs/DECISIONS.md); what is found depends on none of them.
-const FIRST_LIMIT: u32 = 2500;
+const FIRST_LIMIT: u32 = 4000;
 
 const SECOND_LIMIT: u32 = 2500;
 
