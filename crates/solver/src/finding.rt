@@ -24,9 +24,11 @@ use rules::conflicts::layout_of;
 use rules::directions::directions_of;
 
 // The limits of plans and the numbers of neighbourhoods are tuned on busy days (docs/DECISIONS.md); what is found depends on none of them.
-const FIRST_LIMIT: u32 = 4000;
+const FIRST_LIMIT: u32 = 1000;
 
-const SECOND_LIMIT: u32 = 2500;
+const AGAIN_LIMIT: u32 = 4000;
+
+const SECOND_LIMIT: u32 = 4000;
 
 const THIRD_LIMIT: u32 = 200000;
 
@@ -200,6 +202,14 @@ fn search_anew(
     b
 }
 
+// How many plans to take up once more in the same order: few where a timetable is found, as searches around it come next.
+fn again_limit(tally: Tally) -> u32 {
+    if tally.found {
+        return 1;
+    }
+    AGAIN_LIMIT
+}
+
 // Searches the plan without choices to its end. Where a search comes to its end below its limit, that is it.
 fn search_whole(
     m: &[u16; 352],
@@ -219,7 +229,12 @@ fn search_whole(
     if first.steps < FIRST_LIMIT {
         return first;
     }
-    let some = search_anew(m, best, t, ds, key, layout, first);
+    let limit = again_limit(first);
+    let again = search_within(m, best, t, ds, key, layout, short, limit, first);
+    if again.steps < limit {
+        return again;
+    }
+    let some = search_anew(m, best, t, ds, key, layout, again);
     let near = search_near(m, best, t, ds, key, layout, 0, FIRST_NEAR, some);
     let second = search_within(m, best, t, ds, key, layout, short, SECOND_LIMIT, near);
     if second.steps < SECOND_LIMIT {
