@@ -48,6 +48,12 @@ pub record PricesWays (m marks t ds : List ℕ) (cost cut : ℕ) (conflict : Con
   pub marks-same : marks′ ≡ marks
   pub dead : (l : Line) → Tabled l t ds → Planned l marks m cost → Real l m conflict → DeadBelow (λ c. NoRaise l c marks m cut) conflict n prices
 
+-- ---- the score by the prices, which is never 0
+
+pub record Scores (marks marks′ : List ℕ) (r : ℕ) : Type 0 where
+  pub marks-same : marks′ ≡ marks
+  pub some : 1 ≤ r
+
 -- ---- the next to try
 
 -- one that is not dead; n where all are

@@ -173,13 +173,12 @@ fn unscored(plain: Selected) -> Selected
 {
     let conflict = plain.conflict;
     let hint = plain.hint;
-    let clear = hint.clear;
     Selected {
         conflict,
         score: 0,
         hint: Hint {
             start: hint.start,
-            clear,
+            look: hint.look,
             long: hint.long,
             ahead: true,
             row: hint.row,

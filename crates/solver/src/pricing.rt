@@ -13,7 +13,7 @@ use plans::ways::with_bit;
 use rules::conflicts::Conflict;
 
 // What the plan with the way's choice costs, or DEAD where it has no minutes within the cut. The marks are as before.
-fn way_price(
+pub fn way_price(
     m: &[u16; 352],
     marks: &mut [u16; 368],
     t: &[u16; 1456],

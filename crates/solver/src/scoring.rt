@@ -2,8 +2,12 @@
 ghost use mathlib.Core.Path.{_≡_};
 ghost use Prim.Native.Nat.{_≤_};
 ghost use lib.ListN.{length};
+ghost use Rattle.solver.specs.Pricing.{CanPriceWays, Scores};
 use crate::pricing::price;
+use crate::pricing::way_price;
 use orders::raising::DEAD;
+use plans::ways::way_of;
+use rules::conflicts::Conflict;
 
 // The highest score: at most one way out is alive, so the conflict is settled at once.
 pub const AT_ONCE: u32 = 4294967295;
@@ -22,29 +26,66 @@ fn rise(cost: u32, x: u32) -> u32
     60000
 }
 
-// The score of a conflict of which `alive` ways are alive, the two cheapest at these prices. One is added, so that it is never 0.
-fn score(cost: u32, alive: u32, least: u32, second: u32) -> u32
+// Of the ways priced so far: how many are alive, and the two lowest prices.
+pub struct Alive {
+    pub ways: u32,
+    pub least: u32,
+    pub second: u32,
+}
+
+// The score of a conflict by its ways that are alive. One is added, so that it is never 0.
+fn score(cost: u32, alive: Alive) -> u32
     ensures { λ r. ⌜ 1 ≤ r ⌝ }
 {
-    if alive < 2 {
+    if alive.ways < 2 {
         return AT_ONCE;
     }
-    let a = rise(cost, least);
-    let b = rise(cost, second);
+    let a = rise(cost, alive.least);
+    let b = rise(cost, alive.second);
     let product = a * b;
-    let share = product / (alive - 1);
+    let share = product / (alive.ways - 1);
     share + 1
 }
 
-// How many ways are alive with one more, whose price is x. A conflict has at most 144.
-fn alive_after(alive: u32, x: u32) -> u32 {
+// No way is alive.
+fn none_alive() -> Alive {
+    Alive {
+        ways: 0,
+        least: DEAD,
+        second: DEAD,
+    }
+}
+
+// One way more is priced, at x. A conflict has at most 144.
+fn with_price(alive: Alive, x: u32) -> Alive {
     if x == DEAD {
         return alive;
     }
-    if alive >= 144 {
+    if alive.ways >= 144 {
         return alive;
     }
-    alive + 1
+    let ways = alive.ways + 1;
+    let least = alive.least;
+    if x < least {
+        return Alive {
+            ways,
+            least: x,
+            second: least,
+        };
+    }
+    let second = alive.second;
+    if x < second {
+        return Alive {
+            ways,
+            least,
+            second: x,
+        };
+    }
+    Alive {
+        ways,
+        least,
+        second,
+    }
 }
 
 // The score of a conflict by the prices of its first n ways.
@@ -52,21 +93,37 @@ pub fn score_of(prices: &[u32; 144], n: usize, cost: u32) -> u32
     requires { ⌜ (length (now prices) ≡ 144) × (n ≤ 144) ⌝ }
     ensures { λ r. ⌜ 1 ≤ r ⌝ }
 {
-    let mut least = DEAD;
-    let mut second = DEAD;
-    let mut alive: u32 = 0;
+    let mut alive = none_alive();
     let mut w: usize = 0;
     while w < n {
-        let x = price(prices[w]);
-        alive = alive_after(alive, x);
-        if x < second {
-            second = x;
-        }
-        if x < least {
-            second = least;
-            least = x;
-        }
+        alive = with_price(alive, price(prices[w]));
         w = w + 1;
     }
-    score(cost, alive, least, second)
+    score(cost, alive)
+}
+
+// The score of a conflict by the prices of its n ways, which are held no longer than for that. The marks are as before.
+pub fn way_score(
+    m: &[u16; 352],
+    marks: &mut [u16; 368],
+    t: &[u16; 1456],
+    ds: &[u16; 176],
+    cost: u32,
+    cut: u32,
+    conflict: Conflict,
+    n: usize,
+) -> u32
+    requires { ⌜ CanPriceWays (now m) (now marks) (now t) (now ds) cost cut conflict n ⌝ }
+    ensures { λ r. ⌜ Scores (now (marks .entry)) (now (marks .exit)) r ⌝ }
+{
+    let mut alive = none_alive();
+    let mut w: usize = 0;
+    while w < n {
+        let way = way_of(conflict, ds, w);
+        if way.some {
+            alive = with_price(alive, way_price(m, marks, t, ds, way, cost, cut));
+        }
+        w = w + way.step;
+    }
+    score(cost, alive)
 }

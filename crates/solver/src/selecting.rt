@@ -8,9 +8,8 @@ ghost use Rattle.rules.specs.Conflicts.{clash};
 ghost use Rattle.solver.specs.Selecting.{KnownReal, CanScore, HigherScored, CanScoreOn, ScoresOn, CanSelect, FindsReal, ChoosesOne};
 use crate::drawing::drawn;
 use crate::drawing::varied;
-use crate::pricing::way_prices;
 use crate::scoring::AT_ONCE;
-use crate::scoring::score_of;
+use crate::scoring::way_score;
 use line::Segment;
 use orders::bits::next_bit;
 use plans::ways::way_count;
@@ -23,12 +22,15 @@ use rules::conflicts::lowest_conflict;
 use rules::conflicts::neither;
 use rules::conflicts::passage_of;
 
-// Hints of which nothing is promised. What a scan may leave out: it begins at place `start`, and at the places that are `clear` there was no conflict at
+// A bit for every place, and more.
+const EVERYWHERE: u32 = 4294967295;
+
+// Hints of which nothing is promised. What a scan may leave out: it begins at place `start`, and at places without a bit in `look` there was no conflict at
 // the former minutes. How a search goes: it may look ahead (`long`), it has done so for the conflict to settle (`ahead`), and its scores and prices are
 // varied by a row of drawn numbers, unless that is 0.
 pub struct Hint {
     pub start: usize,
-    pub clear: [bool; 24],
+    pub look: u32,
     pub long: bool,
     pub ahead: bool,
     pub row: usize,
@@ -51,18 +53,18 @@ pub struct Selected {
 pub fn first_hint(long: bool, row: usize) -> Hint {
     Hint {
         start: 0,
-        clear: [false; 24],
+        look: EVERYWHERE,
         long,
         ahead: false,
         row,
     }
 }
 
-// The hint with another start and other places that are clear.
-fn hint_from(hint: Hint, start: usize, clear: [bool; 24]) -> Hint {
+// The hint with another start and other places to look at.
+fn hint_from(hint: Hint, start: usize, look: u32) -> Hint {
     Hint {
         start,
-        clear,
+        look,
         long: hint.long,
         ahead: false,
         row: hint.row,
@@ -92,8 +94,7 @@ fn higher_scored(
     ensures { λ r. ⌜ HigherScored (now (marks .entry)) x old (now (marks .exit)) r ⌝ }
 {
     let n = way_count(x);
-    let prices = way_prices(m, marks, t, ds, cost, cut, x, n);
-    let score = score_of(&prices, n, cost);
+    let score = way_score(m, marks, t, ds, cost, cut, x, n);
     if score <= old.score {
         return old;
     }
@@ -174,8 +175,8 @@ fn gap_before(x: u16, gap: u16) -> u16 {
     0
 }
 
-// The trains above train i that are on segment p within its gap. Some may be missed: what the scan misses, the lowest conflict finds. A train arrives at
-// minute 0 only where it does not use the segment.
+// The trains that are on segment p within train i's gap. Some may be missed: what the scan misses, the lowest conflict finds. A train arrives at minute 0
+// only where it does not use the segment. Both minutes are read before either is compared, so that all trains are compared at once.
 fn near(m: &[u16; 352], p: usize, i: usize, gap: u16) -> u16
     requires { ⌜ (length (now m) ≡ 352) × (p < 11) × (i < 12) ⌝ }
 {
@@ -186,10 +187,12 @@ fn near(m: &[u16; 352], p: usize, i: usize, gap: u16) -> u16
     let after = gap_after(arrival, gap);
     let before = gap_before(m[16 * p + i], gap);
     let mut mask: u16 = 0;
-    let mut j = i + 1;
-    while j < 16 {
-        if m[16 * p + j] < after {
-            if m[176 + (16 * p + j)] > before {
+    let mut j: usize = 0;
+    while j < 12 {
+        let departs = m[16 * p + j];
+        let arrives = m[176 + (16 * p + j)];
+        if departs < after {
+            if arrives > before {
                 mask = with_bit(mask, j);
             }
         }
@@ -338,21 +341,20 @@ fn row_changed(m: &[u16; 352], former: &[u16; 352], p: usize) -> bool
     changed
 }
 
-// The places that are clear still: a segment whose minutes changed is not, nor are the stations at its ends.
-fn still_clear(m: &[u16; 352], former: &[u16; 352], count: usize, clear: [bool; 24]) -> [bool; 24]
+// The places to look at: as before, and each segment whose minutes changed with the stations at its ends.
+fn places_to_look(m: &[u16; 352], former: &[u16; 352], count: usize, look: u32) -> u32
     requires { ⌜ (length (now m) ≡ 352) × (length (now former) ≡ 352) × (count ≤ 11) ⌝ }
 {
-    let mut still = clear;
+    let mut places = look;
     let mut p: usize = 0;
     while p < count {
         if row_changed(m, former, p) {
-            still[p] = false;
-            still[count + p] = false;
-            still[count + p + 1] = false;
+            places = places | (1 << p);
+            places = places | (3 << (count + p));
         }
         p = p + 1;
     }
-    still
+    places
 }
 
 // The score of a conflict at a place, varied by a row of drawn numbers; the highest score stays.
@@ -363,7 +365,7 @@ fn found_score(score: u32, row: usize, place: usize) -> u32 {
     varied(score, row, 64 * (place % 24))
 }
 
-// The scan goes on at a place: the higher scored of what it has and the conflicts there, or the place is clear.
+// The scan goes on at a place: the higher scored of what it has and the conflicts there, or the place has none.
 fn select_at(
     m: &[u16; 352],
     marks: &mut [u16; 368],
@@ -379,8 +381,7 @@ fn select_at(
     ensures { λ r. ⌜ FindsReal (now (m .entry)) (now (marks .entry)) (now (ds .entry)) layout (now (marks .exit)) (r .conflict) ⌝ }
 {
     let hint = old.hint;
-    let mut clear = hint.clear;
-    if clear[place] {
+    if (hint.look >> place) % 2 == 0 {
         return old;
     }
     let none = Scored {
@@ -390,12 +391,12 @@ fn select_at(
     let found = with_place(m, marks, t, ds, layout, cost, cut, place, none);
     let conflict = found.conflict;
     if way_count(conflict) == 0 {
-        clear[place] = true;
+        let look = hint.look & (EVERYWHERE - (1 << place));
         let held = old.conflict;
         return Selected {
             conflict: held,
             score: old.score,
-            hint: hint_from(hint, hint.start, clear),
+            hint: hint_from(hint, hint.start, look),
         };
     }
     let score = found_score(found.score, hint.row, place);
@@ -405,7 +406,7 @@ fn select_at(
     Selected {
         conflict,
         score,
-        hint: hint_from(hint, place, clear),
+        hint: hint_from(hint, place, hint.look),
     }
 }
 
@@ -458,11 +459,9 @@ pub fn select_conflict(
     requires { ⌜ CanSelect (now m) (now marks) (now t) (now ds) layout cost cut × (length (now former) ≡ 352) ⌝ }
     ensures { λ r. ⌜ ChoosesOne (now (m .entry)) (now (marks .entry)) (now (ds .entry)) layout (now (marks .exit)) (r .conflict) ⌝ }
 {
-    let before = hint.clear;
-    let clear = still_clear(m, former, layout.stations - 1, before);
     let next = Hint {
         start: hint.start,
-        clear,
+        look: places_to_look(m, former, layout.stations - 1, hint.look),
         long: hint.long,
         ahead: false,
         row: next_row(hint.row),

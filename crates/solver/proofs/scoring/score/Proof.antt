@@ -26,8 +26,10 @@ div-share c = search needs
 
 add-result : tie.Need-add-result
 add-result c =
-    let product = mul-le-mul {n₂ = 60000} {m₂ = 60000} (c .before .rise .ensures .1) (c .rise2 .ensures .1) in
-    omega (arith, product, div-le-self (c .before .rise .result * c .rise2 .result) (c .before .before .before .args .alive - 1))
+    let a = c .before .before .rise in
+    let b = c .before .rise2 in
+    let product = mul-le-mul {n₂ = 60000} {m₂ = 60000} (a .ensures .1) (b .ensures .1) in
+    omega (arith, product, div-le-self (a .result * b .result) (c .before .before .before .before .before .args .alive .ways - 1))
 
 returns-2 : tie.Need-returns-2
 returns-2 c = search needs

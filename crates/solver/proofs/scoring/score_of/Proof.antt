@@ -5,10 +5,13 @@ use Rattle.solver.proofs.scoring.score_of.Statement.{statement}
 use Rattle.solver.proofs.scoring.score_of.Tie as tie
 
 abbrev Inv-loop : tie.InvT-loop
-Inv-loop prices n cost least₀ second₀ alive₀ w₀ least second alive w = w ≤ n
+Inv-loop prices n cost alive₀ w₀ alive w = w ≤ n
 
 abbrev μ-loop : tie.MeasureT-loop
-μ-loop prices n cost least₀ second₀ alive₀ w₀ least second alive w = n - w
+μ-loop prices n cost alive₀ w₀ alive w = n - w
+
+none-alive-requires : tie.Need-none-alive-requires Inv-loop μ-loop
+none-alive-requires c κs = search needs
 
 loop-holds : tie.Need-loop-holds Inv-loop μ-loop
 loop-holds c = search needs
@@ -22,8 +25,8 @@ element-copy-out-price c = search needs
 price-requires : tie.Need-price-requires Inv-loop μ-loop
 price-requires c κs = search needs
 
-alive-after-requires : tie.Need-alive-after-requires Inv-loop μ-loop
-alive-after-requires c κs = search needs
+with-price-requires : tie.Need-with-price-requires Inv-loop μ-loop
+with-price-requires c κs = search needs
 
 add-w : tie.Need-add-w Inv-loop μ-loop
 add-w c = search needs
@@ -46,11 +49,12 @@ score-of-spec =
     (tie.spec
     Inv-loop
     μ-loop
+    none-alive-requires
     loop-holds
     mul-price
     element-copy-out-price
     price-requires
-    alive-after-requires
+    with-price-requires
     add-w
     loop-less
     loop-again

@@ -5,10 +5,10 @@ use Rattle.solver.proofs.selecting.near.Statement.{statement}
 use Rattle.solver.proofs.selecting.near.Tie as tie
 
 abbrev Inv-loop : tie.InvT-loop
-Inv-loop m p i gap arrival after before mask₀ j₀ mask j = j ≤ 16
+Inv-loop m p i gap arrival after before mask₀ j₀ mask j = j ≤ 12
 
 abbrev μ-loop : tie.MeasureT-loop
-μ-loop m p i gap arrival after before mask₀ j₀ mask j = 16 - j
+μ-loop m p i gap arrival after before mask₀ j₀ mask j = 12 - j
 
 mul-arrival : tie.Need-mul-arrival Inv-loop μ-loop
 mul-arrival c = search needs
@@ -46,44 +46,41 @@ element-copy-out-gap-before c = search needs
 gap-before-requires : tie.Need-gap-before-requires Inv-loop μ-loop
 gap-before-requires c κs = search needs
 
-add-j : tie.Need-add-j Inv-loop μ-loop
-add-j c = search needs
-
 loop-holds : tie.Need-loop-holds Inv-loop μ-loop
 loop-holds c = search needs
 
-mul-if2 : tie.Need-mul-if2 Inv-loop μ-loop
-mul-if2 c = search needs
+mul-departs : tie.Need-mul-departs Inv-loop μ-loop
+mul-departs c = search needs
 
-add-if2 : tie.Need-add-if2 Inv-loop μ-loop
-add-if2 c = search needs
+add-departs : tie.Need-add-departs Inv-loop μ-loop
+add-departs c = search needs
 
-mul-if2-2 : tie.Need-mul-if2-2 Inv-loop μ-loop
-mul-if2-2 c = search needs
+mul-departs-2 : tie.Need-mul-departs-2 Inv-loop μ-loop
+mul-departs-2 c = search needs
 
-element-copy-out-if2 : tie.Need-element-copy-out-if2 Inv-loop μ-loop
-element-copy-out-if2 c = search needs
+element-copy-out-departs : tie.Need-element-copy-out-departs Inv-loop μ-loop
+element-copy-out-departs c = search needs
 
-mul-if3 : tie.Need-mul-if3 Inv-loop μ-loop
-mul-if3 c = search needs
+mul-arrives : tie.Need-mul-arrives Inv-loop μ-loop
+mul-arrives c = search needs
 
-add-if3 : tie.Need-add-if3 Inv-loop μ-loop
-add-if3 c = search needs
+add-arrives : tie.Need-add-arrives Inv-loop μ-loop
+add-arrives c = search needs
 
-add-if3-2 : tie.Need-add-if3-2 Inv-loop μ-loop
-add-if3-2 c = search needs
+add-arrives-2 : tie.Need-add-arrives-2 Inv-loop μ-loop
+add-arrives-2 c = search needs
 
-mul-if3-2 : tie.Need-mul-if3-2 Inv-loop μ-loop
-mul-if3-2 c = search needs
+mul-arrives-2 : tie.Need-mul-arrives-2 Inv-loop μ-loop
+mul-arrives-2 c = search needs
 
-element-copy-out-if3 : tie.Need-element-copy-out-if3 Inv-loop μ-loop
-element-copy-out-if3 c = search needs
+element-copy-out-arrives : tie.Need-element-copy-out-arrives Inv-loop μ-loop
+element-copy-out-arrives c = search needs
 
 with-bit-requires : tie.Need-with-bit-requires Inv-loop μ-loop
 with-bit-requires c κs = search needs
 
-add-j-2 : tie.Need-add-j-2 Inv-loop μ-loop
-add-j-2 c = search needs
+add-j : tie.Need-add-j Inv-loop μ-loop
+add-j c = search needs
 
 loop-less : tie.Need-loop-less Inv-loop μ-loop
 loop-less c = search needs
@@ -112,19 +109,18 @@ near-spec =
     mul-gap-before-2
     element-copy-out-gap-before
     gap-before-requires
-    add-j
     loop-holds
-    mul-if2
-    add-if2
-    mul-if2-2
-    element-copy-out-if2
-    mul-if3
-    add-if3
-    add-if3-2
-    mul-if3-2
-    element-copy-out-if3
+    mul-departs
+    add-departs
+    mul-departs-2
+    element-copy-out-departs
+    mul-arrives
+    add-arrives
+    add-arrives-2
+    mul-arrives-2
+    element-copy-out-arrives
     with-bit-requires
-    add-j-2
+    add-j
     loop-less
     loop-again
     returns-2)

@@ -8,12 +8,12 @@ use borrow.Author.Needs.{needs}
 use Rattle.solver.proofs.selecting.select_conflict.Statement.{statement}
 use Rattle.solver.proofs.selecting.select_conflict.Tie as tie
 
-sub-still-clear : tie.Need-sub-still-clear
-sub-still-clear c = omega (arith, select-scans _ _ _ _ _ _ _ (c .before .before .pre .0) .laid-out .0)
+sub-places-to-look : tie.Need-sub-places-to-look
+sub-places-to-look c = omega (arith, select-scans _ _ _ _ _ _ _ (c .before .pre .0) .laid-out .0)
 
-still-clear-requires : tie.Need-still-clear-requires
-still-clear-requires c κs =
-    let a = c .before .before .pre in
+places-to-look-requires : tie.Need-places-to-look-requires
+places-to-look-requires c κs =
+    let a = c .before .pre in
     let s = select-scans _ _ _ _ _ _ _ (a .0) in
     (s .size, a .1, omega (arith, s .laid-out .1))
 
@@ -21,7 +21,7 @@ next-row-requires : tie.Need-next-row-requires
 next-row-requires c κs = search needs
 
 highest-scored-requires : tie.Need-highest-scored-requires
-highest-scored-requires c κs = c .before .before .before .before .before .pre .0
+highest-scored-requires c κs = c .before .before .before .before .pre .0
 
 way-count-requires : tie.Need-way-count-requires
 way-count-requires c κs = search needs
@@ -37,7 +37,7 @@ returns c =
 lowest-conflict-requires : tie.Need-lowest-conflict-requires
 lowest-conflict-requires c κs =
     let h = c .before .before .before .before .before in
-    select-scans _ _ _ _ _ _ _ (h .before .before .before .before .before .before .pre .0)
+    select-scans _ _ _ _ _ _ _ (h .before .before .before .before .before .pre .0)
 
 first-hint-requires : tie.Need-first-hint-requires
 first-hint-requires c κs = search needs
@@ -53,8 +53,8 @@ pub select-conflict-spec : {M : Type 1} → statement M
 select-conflict-spec =
     tie.close
     (tie.spec
-    sub-still-clear
-    still-clear-requires
+    sub-places-to-look
+    places-to-look-requires
     next-row-requires
     highest-scored-requires
     way-count-requires
