@@ -43,6 +43,9 @@ fn score(cost: u32, alive: Alive) -> u32
     let a = rise(cost, alive.least);
     let b = rise(cost, alive.second);
     let product = a * b;
+    if alive.ways == 2 {
+        return product + 1;
+    }
     let share = product / (alive.ways - 1);
     share + 1
 }
@@ -102,7 +105,8 @@ pub fn score_of(prices: &[u32; 144], n: usize, cost: u32) -> u32
     score(cost, alive)
 }
 
-// The score of a conflict by the prices of its n ways, which are held no longer than for that. The marks are as before.
+// The score of a conflict by the prices of its n ways, which are held no longer than for that. Of two ways the second is not priced where the first is
+// dead. The marks are as before.
 pub fn way_score(
     m: &[u16; 352],
     marks: &mut [u16; 368],
@@ -121,7 +125,13 @@ pub fn way_score(
     while w < n {
         let way = way_of(conflict, ds, w);
         if way.some {
-            alive = with_price(alive, way_price(m, marks, t, ds, way, cost, cut));
+            let x = way_price(m, marks, t, ds, way, cost, cut);
+            if x == DEAD {
+                if n == 2 {
+                    return AT_ONCE;
+                }
+            }
+            alive = with_price(alive, x);
         }
         w = w + way.step;
     }

@@ -18,21 +18,30 @@ rise-requires-2 c κs = search needs
 mul-product : tie.Need-mul-product
 mul-product c = omega (arith, mul-le-mul {n₂ = 60000} {m₂ = 60000} (c .before .rise .ensures .1) (c .rise2 .ensures .1))
 
+add-result : tie.Need-add-result
+add-result c =
+    let a = c .before .before .before .rise in
+    let b = c .before .before .rise2 in
+    omega (arith, mul-le-mul {n₂ = 60000} {m₂ = 60000} (a .ensures .1) (b .ensures .1))
+
+returns-2 : tie.Need-returns-2
+returns-2 c = search needs
+
 sub-share : tie.Need-sub-share
 sub-share c = search needs
 
 div-share : tie.Need-div-share
 div-share c = search needs
 
-add-result : tie.Need-add-result
-add-result c =
-    let a = c .before .before .rise in
-    let b = c .before .rise2 in
+add-result-2 : tie.Need-add-result-2
+add-result-2 c =
+    let a = c .before .before .before .before .rise in
+    let b = c .before .before .before .rise2 in
     let product = mul-le-mul {n₂ = 60000} {m₂ = 60000} (a .ensures .1) (b .ensures .1) in
-    omega (arith, product, div-le-self (a .result * b .result) (c .before .before .before .before .before .args .alive .ways - 1))
+    omega (arith, product, div-le-self (a .result * b .result) (c .before .before .before .before .before .before .before .args .alive .ways - 1))
 
-returns-2 : tie.Need-returns-2
-returns-2 c = search needs
+returns-3 : tie.Need-returns-3
+returns-3 c = search needs
 
 pub score-spec : {M : Type 1} → statement M
 score-spec =
@@ -42,7 +51,9 @@ score-spec =
     rise-requires
     rise-requires-2
     mul-product
+    add-result
+    returns-2
     sub-share
     div-share
-    add-result
-    returns-2)
+    add-result-2
+    returns-3)

@@ -67,14 +67,19 @@ loop-again c =
     let low = c .before .before .before .loop-test .taken in
     let way = c .before .before .way-of .ensures in (
       steps-within _ _ _ _ count low (way .1),
-      ⊎-elim (λ w. rw (w .4) (w .2 .ensures .marks-same ∙ i .inv .1)) (λ w. rw (w .1) (i .inv .1)) (c .before .if1 .came),
+      ⊎-elim (λ w. rw (w .5) (w .2 .ensures .marks-same ∙ i .inv .1)) (λ w. rw (w .1) (i .inv .1)) (c .before .if1 .came),
     )
 
 score-requires : tie.Need-score-requires Inv-loop μ-loop
 score-requires c κs = search needs
 
 returns : tie.Need-returns Inv-loop μ-loop
-returns c = record { marks-same = c .before .before .loop .inv .1; some = c .score .ensures }
+returns c =
+    let x = c .before .before in
+    record { marks-same = x .way-price .ensures .marks-same ∙ x .before .before .before .before .before .loop .inv .1; some = omega arith }
+
+returns-2 : tie.Need-returns-2 Inv-loop μ-loop
+returns-2 c = record { marks-same = c .before .before .loop .inv .1; some = c .score .ensures }
 
 pub way-score-spec : {M : Type 1} → statement M
 way-score-spec =
@@ -86,9 +91,10 @@ way-score-spec =
     loop-holds
     way-of-requires
     way-price-requires
+    returns
     with-price-requires
     add-w
     loop-less
     loop-again
     score-requires
-    returns)
+    returns-2)
