@@ -30,7 +30,7 @@ use Rattle.orders.specs.LegsLaws.{LegOf, over-leg}
 use Rattle.orders.specs.LegChoices.{segmentChoice, ByChoice, ArcOf, firstLeg}
 use Rattle.orders.specs.LegChoicesLaws.{by-choice, leaving-is, leaves-leg, leaves-by}
 use Rattle.orders.specs.ShapedLaws.{shaped}
-use Rattle.orders.specs.GraphLaws.{not-early-up, run-kept, arc-kept, arc-marked, keeps-graph, graph-keeps}
+use Rattle.orders.specs.GraphLaws.{run-kept, arc-kept, arc-marked, keeps-graph, graph-keeps}
 use Rattle.orders.specs.DelayLaws.{cost-is}
 use Rattle.orders.specs.LimitsLaws.{limits-late, late-limits}
 
@@ -73,7 +73,7 @@ module _ (l : Line) (w : Within l) (r : Arrays l) where
     -- all arcs but those of the choice are kept
     pub others : (a : LegArc) → Used (also c q) t ds a → Kept (legGraph (also c q) t ds) m a ⊎ ArcOf l c a
     others a u =
-        ⊎-elim inr (λ h. inl (arc-kept l w r m (k .rule11) (k .rule12) (also c q) a u h))
+        ⊎-elim inr (λ h. inl (arc-kept l w r m (k .trains) (also c q) a u h))
         (arc-or c _ (also c q) a u
         (by-choice ds _ _ (λ x h.
         ⊎-elim inl (λ old. inr (let g = d .fitting x (h .0) old in (g, k .choices x (g .0) (g .1) old)))
@@ -92,8 +92,8 @@ module _ (l : Line) (w : Within l) (r : Arrays l) where
         shaped = shaped l w r (also c q) tidy;
         size = z .size;
         within = z .within;
-        limits = late-limits l w r m (k .rule11) (k .rule12) late;
-        legs = λ e u. let run = run-kept l w r m (k .rule11) (k .rule12) e u in (omega (arith, run), omega (arith, run));
+        limits = late-limits l w r m (k .trains) late;
+        legs = λ e u. let run = run-kept l w r m (k .trains) e u in (omega (arith, run), omega (arith, run));
         leg = first-leg c (f .0) (f .1);
         cost-is = is ∙ sym (cost-is l w r m);
         cost-in = low;
@@ -107,7 +107,7 @@ module _ (l : Line) (w : Within l) (r : Arrays l) where
     chosen-least cut n x z h = (
       record {
         fit = record { size = h .size ∙ z .size; within = h .within };
-        keeps = graph-keeps l w r (also c q) n (h .keeps) (not-early-up l m n (h .above) (k .rule10));
+        keeps = graph-keeps l w r (also c q) n (h .keeps) m (h .above) (k .trains);
         above = h .above;
         first = λ y b g up. h .first y (b .within) (keeps-graph l w r (also c q) tidy y g) up;
       },
@@ -120,4 +120,4 @@ module _ (l : Line) (w : Within l) (r : Arrays l) where
         (y : List ℕ) → Fit 352 y → Keeps l (also c q) y → m ⊑ y → EachTrain l (NotLate l y) → weightedDelay l y ≤ cut → ⊥
     unfolding NoneChosen
     chosen-none cut h y z g up late cheap =
-        h y (z .within) (keeps-graph l w r (also c q) tidy y g) up (late-limits l w r y (g .rule11) (g .rule12) late) (omega (arith, cost-is l w r y))
+        h y (z .within) (keeps-graph l w r (also c q) tidy y g) up (late-limits l w r y (g .trains) late) (omega (arith, cost-is l w r y))

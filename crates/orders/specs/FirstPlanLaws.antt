@@ -17,7 +17,7 @@ use Rattle.line.specs.Record.{legsOf}
 use Rattle.line.specs.Within.{TrainWithin, Within}
 use Rattle.rules.specs.Paths.{train, legs, runOf, segmentOf}
 use Rattle.rules.specs.Minutes.{departs, arrives, departure, arrival}
-use Rattle.rules.specs.Rules.{NotEarly, Runs, Stops}
+use Rattle.rules.specs.Rules.{TrainRules}
 use Rattle.rules.specs.PathsLaws.{train-within, legs-few, uses-leg, segment-below}
 use Rattle.rules.specs.RulesLaws.{free-start, free-next, cost, cost-none, cost-end}
 use Rattle.rules.specs.Delay.{freeAfter, freeArrival, weightedDelay}
@@ -56,12 +56,12 @@ module _ (t : Train) where
 
 -- ---- no minutes are before them
 
-module _ (l : Line) (m : List ℕ) (i : ℕ) (early : NotEarly l m i) (runs : Runs l m i) (stops : Stops l m i) where
+module _ (l : Line) (m : List ℕ) (i : ℕ) (h : TrainRules l m i) where
   no-earlier : (k : ℕ) → k < legs l i → freeAfter (train l i) k ≤ arrival l m i k
-  no-earlier zero h = omega (arith, early, runs 0 h, free-start (train l i) refl refl)
-  no-earlier (suc k) h =
+  no-earlier zero b = omega (arith, h .rule10, h .rule11 0 b, free-start (train l i) refl refl)
+  no-earlier (suc k) b =
       rw (← add-one)
-      (omega (arith, no-earlier k (omega arith), stops k (omega arith), runs (k + 1) (omega arith), free-next (train l i) k))
+      (omega (arith, no-earlier k (omega arith), h .rule12 k (omega arith), h .rule11 (k + 1) (omega arith), free-next (train l i) k))
 
 -- ---- the minutes of a line
 
@@ -131,12 +131,13 @@ module _ (l : Line) (w : Within l) (size : length (l .trains) ≡ 12) where
   free-keeps : Keeps l free (freeMinutes l)
   free-keeps =
       record {
-        rule10 = λ i h.
-            let k = legs-few (train l i) (on-path _ (within i h)) .0 in
-            omega (arith, departs-free i 0 h k, free-start (train l i) refl refl);
-        rule11 = λ i h k b. omega (arith, departs-free i k h b, arrives-free i k h b, run-free (train l i) k);
-        rule12 = λ i h k b.
-            omega (arith, arrives-free i k h (omega arith), departs-free i (k + 1) h (omega arith), free-next (train l i) k);
+        trains = λ i h. record {
+          rule10 =
+              (let k = legs-few (train l i) (on-path _ (within i h)) .0 in
+              omega (arith, departs-free i 0 h k, free-start (train l i) refl refl));
+          rule11 = λ k b. omega (arith, departs-free i k h b, arrives-free i k h b, run-free (train l i) k);
+          rule12 = λ k b. omega (arith, arrives-free i k h (omega arith), departs-free i (k + 1) h (omega arith), free-next (train l i) k);
+        };
         choices = λ c o s t. absurd (free-marked c t);
       }
 
@@ -165,8 +166,8 @@ module _ (l : Line) (w : Within l) (size : length (l .trains) ≡ 12) where
           above = λ e. rw (zeros 352 e) (omega arith);
           first = λ m′ f k s.
               let at : (i j : ℕ) → i < l .«train_count» → j < legs l i → freeAfter (train l i) j ≤ arrival l m′ i j =
-              λ i j h b. no-earlier l m′ i (k .rule10 i h) (k .rule11 i h) (k .rule12 i h) j b in
-              bounded (λ x. getD m′ x 0) (λ i j h b. omega (arith, at i j h b, k .rule11 i h j b)) at;
+              λ i j h b. no-earlier l m′ i (k .trains i h) j b in
+              bounded (λ x. getD m′ x 0) (λ i j h b. omega (arith, at i j h b, k .trains i h .rule11 j b)) at;
         }
 
   pub first-plan : (r : FirstPlan) → r .minutes ≡ freeMinutes l → Decides (FreeInTime l) (r .«in_time») → First l r
@@ -179,7 +180,7 @@ module _ (l : Line) (w : Within l) (size : length (l .trains) ≡ 12) where
             omega (
               arith,
               n i h,
-              no-earlier l m′ i (k .rule10 i h) (k .rule11 i h) (k .rule12 i h) (legs l i - 1)
+              no-earlier l m′ i (k .trains i h) (legs l i - 1)
                   (omega (arith, legs-few (train l i) (on-path _ (within i h)) .0)),
             ));
       }

@@ -11,7 +11,7 @@ use Rattle.line.specs.declared.Line.{Line}
 use Rattle.line.specs.Within.{Within, Arrays}
 use Rattle.rules.specs.Paths.{train, legs, segmentOf, outOf, EachTrain}
 use Rattle.rules.specs.Minutes.{departs}
-use Rattle.rules.specs.Rules.{NotEarly, Runs, Stops}
+use Rattle.rules.specs.Rules.{NotBefore, Runs, Stops, TrainRules}
 use Rattle.rules.specs.PathsLaws.{routed, segment-apart}
 use Rattle.rules.specs.Directions.{directionsOf}
 use Rattle.orders.specs.NoLater.{_⊑_}
@@ -40,8 +40,9 @@ use Rattle.orders.specs.LegChoicesLaws.{
   goes-kept,
 }
 
-pub not-early-up : (l : Line) (m m′ : List ℕ) → m ⊑ m′ → EachTrain l (NotEarly l m) → EachTrain l (NotEarly l m′)
-not-early-up l m m′ up h i n = omega (arith, h i n, up (departs (segmentOf (train l i) 0) i))
+-- a floor under a departure stays one as the minutes rise
+pub floor-up : (l : Line) (m m′ : List ℕ) → m ⊑ m′ → (i k minute : ℕ) → NotBefore l m i k minute → NotBefore l m′ i k minute
+floor-up l m m′ up i k minute h = omega (arith, h, up (departs (segmentOf (train l i) k) i))
 
 module _ (l : Line) (w : Within l) (r : Arrays l) where
   abbrev ds : List ℕ
@@ -52,15 +53,15 @@ module _ (l : Line) (w : Within l) (r : Arrays l) where
 
   -- ---- from the rules to the arcs
 
-  module _ (m : List ℕ) (rule11 : EachTrain l (Runs l m)) (rule12 : EachTrain l (Stops l m)) where
+  module _ (m : List ℕ) (rules : EachTrain l (TrainRules l m)) where
     pub run-kept : (e : ℕ) → LegOf l e → getD m (176 + e) 0 ≡ getD m e 0 + runIn t e
-    run-kept = by-leg l w r (λ e. getD m (176 + e) 0 ≡ getD m e 0 + runIn t e) (λ i k n h. omega (arith, rule11 i n k h, run-at l w r i k n h))
+    run-kept = by-leg l w r (λ e. getD m (176 + e) 0 ≡ getD m e 0 + runIn t e) (λ i k n h. omega (arith, rules i n .rule11 k h, run-at l w r i k n h))
 
     stop-kept : (e : ℕ) → LegOf l e → (nextIn t e ≡ e → ⊥) → getD m (176 + e) 0 + stopIn t e ≤ getD m (nextIn t e) 0
     stop-kept =
         by-leg l w r (λ e. (nextIn t e ≡ e → ⊥) → getD m (176 + e) 0 + stopIn t e ≤ getD m (nextIn t e) 0)
         (λ i k n h more. elim (decLt (k + 1) (legs l i)) [
-          | yes s ↦ rw (next-at l w r i k n h s) (omega (arith, rule12 i n k (omega arith), stop-at l w r i k n h s))
+          | yes s ↦ rw (next-at l w r i k n h s) (omega (arith, rules i n .rule12 k (omega arith), stop-at l w r i k n h s))
           | no s ↦ absurd (more (next-last l w r i k n h (omega arith)))
         ])
 
@@ -87,7 +88,7 @@ module _ (l : Line) (w : Within l) (r : Arrays l) where
   pub keeps-graph : (q : Plan) → Tidy l q → (m : List ℕ) → Keeps l q m → KeepsAll (legGraph q t ds) m
   unfolding KeepsAll
   keeps-graph q d m k a u =
-      arc-kept m (k .rule11) (k .rule12) q a u
+      arc-kept m (k .trains) q a u
       (by-choice ds _ _ (λ c h. let f = d .fitting c (h .0) (h .1) in (f, k .choices c (f .0) (f .1) (h .1))) a (arc-marked q a u))
 
   -- ---- from the arcs to the rules
@@ -128,5 +129,14 @@ module _ (l : Line) (w : Within l) (r : Arrays l) where
         let on = marked-row q (atStation s a b) _ b (sym (leaving-is l w r s a b o h)) refl ∙ f in
         goes-kept l w r s a b o h m (omega (arith, k (gone e b) (leaves-leg l w r s a b o h, few, on)))
 
-  pub graph-keeps : (q : Plan) (m : List ℕ) → KeepsAll (legGraph q t ds) m → EachTrain l (NotEarly l m) → Keeps l q m
-  graph-keeps q m k h = record { rule10 = h; rule11 = kept-runs q m k; rule12 = kept-stops q m k; choices = kept-choices q m k }
+  -- the floors under departures have no arcs: minutes at or above some that keep them keep them too
+  pub graph-keeps : (q : Plan) (m : List ℕ) → KeepsAll (legGraph q t ds) m → (low : List ℕ) → low ⊑ m → EachTrain l (TrainRules l low) → Keeps l q m
+  graph-keeps q m k low up h =
+      record {
+        trains = λ i n. record {
+          rule10 = floor-up l low m up i 0 (train l i .earliest) (h i n .rule10);
+          rule11 = kept-runs q m k i n;
+          rule12 = kept-stops q m k i n;
+        };
+        choices = kept-choices q m k;
+      }

@@ -8,7 +8,7 @@ use Rattle.line.specs.declared.Line.{Line}
 use Rattle.line.specs.Within.{Within, Arrays}
 use Rattle.rules.specs.Paths.{train, legs, segmentOf, EachTrain}
 use Rattle.rules.specs.Minutes.{departs, arrival, lastArrival}
-use Rattle.rules.specs.Rules.{Runs, Stops, NotLate}
+use Rattle.rules.specs.Rules.{Runs, Stops, TrainRules, NotLate}
 use Rattle.rules.specs.PathsLaws.{routed, legs-few}
 use Rattle.rules.specs.Directions.{directionsOf}
 use Rattle.orders.specs.Tables.{limitIn, restOf, tablesOf}
@@ -37,7 +37,7 @@ module _ (l : Line) (w : Within l) (r : Arrays l) (m : List ℕ) where
       let none : legs l i - 1 - k ≡ 0 = omega arith in
       omega (arith, h (departs (segmentOf (train l i) k) i) (train-leg l w r i n k (omega arith)), rw none at (limit-at l w r i k n (omega arith)))
 
-  pub late-limits : EachTrain l (Runs l m) → EachTrain l (Stops l m) → EachTrain l (NotLate l m) → InLimits (tablesOf l) (directionsOf l) m
-  late-limits runs stops late =
+  pub late-limits : EachTrain l (TrainRules l m) → EachTrain l (NotLate l m) → InLimits (tablesOf l) (directionsOf l) m
+  late-limits rules late =
       by-leg l w r (λ e. getD m (176 + e) 0 ≤ limitIn (tablesOf l) e)
-      (λ i k n h. omega (arith, limit-at l w r i k n h, late i n, rest-fits l m i (runs i n) (stops i n) (legs l i - 1 - k) k (omega arith)))
+      (λ i k n h. omega (arith, limit-at l w r i k n h, late i n, rest-fits l m i (rules i n .rule11) (rules i n .rule12) (legs l i - 1 - k) k (omega arith)))

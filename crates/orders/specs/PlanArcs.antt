@@ -28,8 +28,11 @@ abbrev pub arrivesAt : Line → ℕ → ℕ → ℕ
 arrivesAt l i k = arrives (segmentOf (train l i) k) i
 
 -- 10, 11 and 12, of train i and its leg k; entry 352 is none, and so minute 0
+abbrev pub floorArc : Line → ℕ → ℕ → ℕ → Arc
+floorArc l i k minute = after 352 minute (departsAt l i k)
+
 abbrev pub earlyArcs : Line → ℕ → List Arc
-earlyArcs l i = after 352 (train l i .earliest) (departsAt l i 0) ∷ []
+earlyArcs l i = floorArc l i 0 (train l i .earliest) ∷ []
 
 abbrev pub runArcs : Line → ℕ → ℕ → List Arc
 runArcs l i k =

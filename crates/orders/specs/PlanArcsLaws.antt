@@ -17,7 +17,7 @@ use Rattle.line.specs.declared.Line.{Line}
 use Rattle.line.specs.Within.{Within, Arrays}
 use Rattle.rules.specs.Paths.{train, segmentCount, segment, legs, segmentOf, sameWay, into, outbound, EachTrain}
 use Rattle.rules.specs.Minutes.{departs, arrives}
-use Rattle.rules.specs.Rules.{NotEarly, Runs, Stops, GapBy}
+use Rattle.rules.specs.Rules.{NotBefore, TrainRules, GapBy}
 use Rattle.rules.specs.PathsLaws.{routed, legs-few, segment-below, decides-middle, middle-few}
 use Rattle.rules.specs.DirectionsLaws.{decides-between}
 use Rattle.orders.specs.NoLater.{slack}
@@ -29,7 +29,7 @@ use Rattle.orders.specs.ArcsLaws.{arcs-raise}
 use Rattle.orders.specs.Choices.{Choice, onSegment, atStation, Of, Shared, KeepsChoice}
 use Rattle.orders.specs.Marks.{Plan, marked}
 use Rattle.orders.specs.Plans.{Keeps}
-use Rattle.orders.specs.PlanArcs.{earlyArcs, runArcs, stopArcs, trainArcs, gapArcs, choiceArcs, shared, chosenArcs, forPairs, arcs, rounds, least}
+use Rattle.orders.specs.PlanArcs.{floorArc, earlyArcs, runArcs, stopArcs, trainArcs, gapArcs, choiceArcs, shared, chosenArcs, forPairs, arcs, rounds, least}
 
 -- ---- the arcs of a choice
 
@@ -114,17 +114,24 @@ module _ (P : Arc → Type 0) (l : Line) (i : ℕ) where
       (a .0, gather-parts P (runArcs l i) (legs l i) (b .0), gather-parts P (stopArcs l i) (legs l i - 1) (b .1))
 
 module _ (l : Line) (m : List ℕ) (z : length m ≡ 352) (i : ℕ) where
-  train-kept : NotEarly l m i → Runs l m i → Stops l m i → KeepsArcs (trainArcs l i) m
-  train-kept h r s =
-      each-train (KeepsArc m) l i
-      (omega (arith, List·getD-eq-default m 0 {n = 352} (omega arith)), tt)
-      (λ k n. (omega (arith, r k n), (omega (arith, r k n), tt)))
-      (λ k n. (omega (arith, s k n), tt))
+  floor-kept : (k minute : ℕ) → NotBefore l m i k minute → KeepsArc m (floorArc l i k minute)
+  floor-kept k minute h = omega (arith, h, List·getD-eq-default m 0 {n = 352} (omega arith))
 
-  kept-train : KeepsArcs (trainArcs l i) m → NotEarly l m i × Runs l m i × Stops l m i
+  train-kept : TrainRules l m i → KeepsArcs (trainArcs l i) m
+  train-kept h =
+      each-train (KeepsArc m) l i
+      (floor-kept 0 (train l i .earliest) (h .rule10), tt)
+      (λ k n. (omega (arith, h .rule11 k n), (omega (arith, h .rule11 k n), tt)))
+      (λ k n. (omega (arith, h .rule12 k n), tt))
+
+  kept-train : KeepsArcs (trainArcs l i) m → TrainRules l m i
   kept-train h =
       let a = train-each (KeepsArc m) l i h in
-      (omega (arith, a .0 .0), (λ k n. omega (arith, a .1 k n .0, a .1 k n .1 .0)), (λ k n. omega (arith, a .2 k n .0)))
+      record {
+        rule10 = omega (arith, a .0 .0);
+        rule11 = λ k n. omega (arith, a .1 k n .0, a .1 k n .1 .0);
+        rule12 = λ k n. omega (arith, a .2 k n .0);
+      }
 
 -- ---- the arcs of a plan
 
@@ -178,16 +185,14 @@ module _ (l : Line) (q : Plan) where
   keeps-arcs : (m : List ℕ) → Fit 352 m → Keeps l q m → KeepsArcs (arcs l q) m
   keeps-arcs m z k =
       each-arcs (KeepsArc m)
-      (λ i n. train-kept l m (z .size) i (k .rule10 i n) (k .rule11 i n) (k .rule12 i n))
+      (λ i n. train-kept l m (z .size) i (k .trains i n))
       (λ c o. each-chosen (KeepsArc m) l q c (λ s e. choice-kept l m c (k .choices c o s e)))
 
   arcs-keep : (m : List ℕ) → Fit 352 m → KeepsArcs (arcs l q) m → Keeps l q m
   arcs-keep m z h =
       let a = arcs-each (KeepsArc m) h in
       record {
-        rule10 = λ i n. kept-train l m (z .size) i (a .0 i n) .0;
-        rule11 = λ i n. kept-train l m (z .size) i (a .0 i n) .1;
-        rule12 = λ i n. kept-train l m (z .size) i (a .0 i n) .2;
+        trains = λ i n. kept-train l m (z .size) i (a .0 i n);
         choices = λ c o s e. kept-choice l m c (chosen-each (KeepsArc m) l q c (a .1 c o) s e);
       }
 

@@ -6,13 +6,11 @@ use mathlib.Core.Bool.{true}
 use mathlib.Core.List.{List}
 use Rattle.line.specs.declared.Line.{Line}
 use Rattle.rules.specs.Paths.{EachTrain}
-use Rattle.rules.specs.Rules.{NotEarly, Runs, Stops}
+use Rattle.rules.specs.Rules.{TrainRules}
 use Rattle.orders.specs.Choices.{Choice, Of, Shared, KeepsChoice}
 use Rattle.orders.specs.Marks.{Plan, marked}
 
 -- the minutes keep rules 10 to 12 and the plan's choices
 pub record Keeps (l : Line) (p : Plan) (m : List ℕ) : Type 0 where
-  pub rule10 : EachTrain l (NotEarly l m)
-  pub rule11 : EachTrain l (Runs l m)
-  pub rule12 : EachTrain l (Stops l m)
+  pub trains : EachTrain l (TrainRules l m)
   pub choices : (c : Choice) → Of l c → Shared l c → marked p c ≡ true → KeepsChoice l m c

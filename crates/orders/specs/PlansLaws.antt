@@ -13,14 +13,12 @@ use Rattle.orders.specs.Plans.{Keeps}
 module _ (l : Line) (c : Choice) (p : Plan) (m : List ℕ) where
   pub keeps-rest : Keeps l (also c p) m → Keeps l p m
   keeps-rest k =
-      record { rule10 = k .rule10; rule11 = k .rule11; rule12 = k .rule12; choices = λ d o s t. k .choices d o s (also-stays c d p t) }
+      record { trains = k .trains; choices = λ d o s t. k .choices d o s (also-stays c d p t) }
 
   pub keeps-also : Within l → Of l c → Keeps l p m → KeepsChoice l m c → Keeps l (also c p) m
   keeps-also w a k h =
       record {
-        rule10 = k .rule10;
-        rule11 = k .rule11;
-        rule12 = k .rule12;
+        trains = k .trains;
         choices = λ d o s t. ⊎-elim (λ e. subst (KeepsChoice l m) (sym e) h) (λ n. k .choices d o s n) (also-only l w c d p a o t);
       }
 

@@ -47,7 +47,7 @@ start-fit = record { size = unfold start in length-replicate {A = ℕ} 352 0; wi
 
 module _ (l : Line) (w : Within l) (a : Arrays l) where
   lawful-keeps : (m : List ℕ) → Lawful l m → Keeps l free m
-  lawful-keeps m h = record { rule10 = h .rule10; rule11 = h .rule11; rule12 = h .rule12; choices = λ c o s t. absurd (free-marked c t) }
+  lawful-keeps m h = record { trains = h .trains; choices = λ c o s t. absurd (free-marked c t) }
 
   -- minutes of a plan that are in time and have no conflict
   pub clear-lawful : (p : Plan) (m : List ℕ) → Fit 352 m → Keeps l p m → inTime l m ≡ true → conflictOf l m ≡ Conflict.Nothing → Fit 352 m × Lawful l m
@@ -56,9 +56,7 @@ module _ (l : Line) (w : Within l) (a : Arrays l) where
         z,
         record {
           days = λ i _ k _. (z .within (departsAt l i k), z .within (arrivesAt l i k));
-          rule10 = k .rule10;
-          rule11 = k .rule11;
-          rule12 = k .rule12;
+          trains = k .trains;
           rule13 = decides-inTime l m .yea t;
           rule14 = c .0;
           rule15 = c .1;

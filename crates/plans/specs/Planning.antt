@@ -6,10 +6,9 @@ use lib.ListN.{replicate}
 use lib.Dec.{ltb}
 use Rattle.text.specs.Below.{all, table}
 use Rattle.line.specs.declared.Line.{Line}
-use Rattle.rules.specs.Paths.{train, legs}
-use Rattle.rules.specs.Minutes.{departure}
+use Rattle.rules.specs.Paths.{train}
 use Rattle.rules.specs.Rules.{Lawful}
-use Rattle.rules.specs.Delay.{weightedDelay}
+use Rattle.rules.specs.Delay.{weightedDelay, comparedCount, compared}
 use Rattle.rules.specs.Tests.{keepsRule}
 use Rattle.orders.specs.Least.{Fit}
 use Rattle.orders.specs.Choices.{Choice}
@@ -23,13 +22,13 @@ use Rattle.plans.specs.Ways.{ways}
 unfoldable pub start : List ℕ
 start = replicate 352 0
 
--- train i has a leg k
+-- number k of train i is compared
 unfoldable pub isLeg : Line → ℕ → ℕ → Bool
-isLeg l i k = ltb i (l .«train_count») && ltb k (legs l i)
+isLeg l i k = ltb i (l .«train_count») && ltb k (comparedCount l i)
 
--- "departures are compared from train 1 up, each train's in travel order": 11 entries to a train, 0 where there is no leg
+-- what is compared "from train 1 up": 11 entries to a train, 0 where it has fewer
 unfoldable pub departures : Line → List ℕ → List ℕ
-departures l m = table (λ e. cond (isLeg l (e / 11) (e % 11)) (departure l m (e / 11) (e % 11)) 0) 132
+departures l m = table (λ e. cond (isLeg l (e / 11) (e % 11)) (compared l m (e / 11) (e % 11)) 0) 132
 
 -- rule 13 of every train
 unfoldable pub inTime : Line → List ℕ → Bool

@@ -16,7 +16,7 @@ use Rattle.line.specs.Within.{Within, Arrays}
 use Rattle.rules.specs.Paths.{train, legs, EachTrain}
 use Rattle.rules.specs.Minutes.{departure}
 use Rattle.rules.specs.Rules.{NotLate}
-use Rattle.rules.specs.Delay.{weightedDelay, Same, Earlier, Preferred}
+use Rattle.rules.specs.Delay.{weightedDelay, Same, compared, Earlier, Preferred}
 use Rattle.rules.specs.PathsLaws.{legs-few, routed}
 use Rattle.rules.specs.RulesLaws.{cost, decides-13}
 use Rattle.orders.specs.NoLater.{_⊑_}
@@ -59,7 +59,7 @@ module _ (l : Line) where
   decides-leg i k = decides-and (decides-lt _ _) (decides-lt _ _)
 
   abbrev entry : List ℕ → ℕ → ℕ
-  entry m e = cond (isLeg l (e / 11) (e % 11)) (departure l m (e / 11) (e % 11)) 0
+  entry m e = cond (isLeg l (e / 11) (e % 11)) (compared l m (e / 11) (e % 11)) 0
 
   -- an entry that is not 0 is a leg's
   departures-real : (m : List ℕ) (e : ℕ) → 0 < getD (departures l m) e 0 → (e / 11 < l .«train_count») × (e % 11 < legs l (e / 11))
@@ -91,7 +91,7 @@ module _ (l : Line) (w : Within l) (a : Arrays l) where
   pub told-apart : ToldApart (planning l) (Same l)
   told-apart m m′ x y c h i n k r =
       let d : departure l m i k ≡ departure l m′ i k = sym (departures-at m i k n r) ∙ h (i * 11 + k) ∙ departures-at m′ i k n r in
-      (d, omega (arith, x .1 .rule11 i n k r, y .1 .rule11 i n k r))
+      (d, omega (arith, x .1 .trains i n .rule11 k r, y .1 .trains i n .rule11 k r))
 
   -- the first departure that differs
   earlier : (m m′ : List ℕ) → Ahead (departures l m) (departures l m′) → Earlier l m m′
@@ -103,7 +103,7 @@ module _ (l : Line) (w : Within l) (a : Arrays l) where
       let d′ = ap (λ x. getD (departures l m′) x 0) (sym at) ∙ departures-at m′ (e / 11) (e % 11) (real .0) (real .1) in
       record {
         who = e / 11;
-        leg = e % 11;
+        place = e % 11;
         real = real;
         alike = λ i n k r o.
             let few = eleven i n in

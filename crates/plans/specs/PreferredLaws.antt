@@ -18,10 +18,10 @@ preferred-same l w a x m m′ s p =
       h .0 ∙ d,
       record {
         who = h .1 .who;
-        leg = h .1 .leg;
+        place = h .1 .place;
         real = h .1 .real;
         alike = λ i n k r o. h .1 .alike i n k r o ∙ s i n k r .0;
-        less = omega (arith, h .1 .less, s (h .1 .who) (h .1 .real .0) (h .1 .leg) (h .1 .real .1) .0);
+        less = omega (arith, h .1 .less, s (h .1 .who) (h .1 .real .0) (h .1 .place) (h .1 .real .1) .0);
       },
     ))
     p

@@ -138,7 +138,7 @@ module _ (l : Line) (w : Within l) (r : Arrays l) (m : List ℕ) where
     stays : (s i : ℕ) → i < l .«train_count» → Middle (train l i) s → (came l m′ s i ≤ goes l m′ s i) × (came l m′ s i ≤ 2879)
     stays s i n h =
         let (k, b, e, f) = middle-legs (train l i) s h in
-        let stop = lawful .rule12 i n k (omega arith) in
+        let stop = lawful .trains i n .rule12 k (omega arith) in
         let day = lawful .days i n k (omega arith) .1 in
         let came-at = ap (λ (p : ℕ). arrivesOn m′ p i) e in
         let goes-at = ap (λ (p : ℕ). departsOn m′ p i) f in

@@ -12,7 +12,7 @@ use Rattle.text.specs.Below.{all, decides-all}
 use Rattle.line.specs.declared.Line.{Line}
 use Rattle.rules.specs.Paths.{legs}
 use Rattle.rules.specs.Minutes.{departure, arrival}
-use Rattle.rules.specs.Delay.{Same, Earlier, Preferred, Best}
+use Rattle.rules.specs.Delay.{Same, comparedCount, compared, Earlier, Preferred, Best}
 use Rattle.rules.specs.SameLaws.{same-sym}
 
 -- ---- the same minutes, as a test
@@ -29,18 +29,18 @@ decides-same l m m′ = decides-all _ _ (l .«train_count») (λ i _. decides-al
 earlier-once : (l : Line) (m m′ : List ℕ) → Earlier l m m′ → Earlier l m′ m → ⊥
 earlier-once l m m′ a b =
     elim (decLt (a .who) (b .who)) [
-      | yes h ↦ omega (arith, a .less, b .alike (a .who) (a .real .0) (a .leg) (a .real .1) (inl h))
+      | yes h ↦ omega (arith, a .less, b .alike (a .who) (a .real .0) (a .place) (a .real .1) (inl h))
       | no h ↦ elim (decLt (b .who) (a .who)) [
-        | yes k ↦ omega (arith, b .less, a .alike (b .who) (b .real .0) (b .leg) (b .real .1) (inl k))
-        | no k ↦ same-train (a .who) (b .who) (omega arith) (a .leg) (b .leg) (a .real .0) (a .real .1) (b .real .0) (b .real .1) (a .less) (b .less)
-            (λ o. a .alike (b .who) (b .real .0) (b .leg) (b .real .1) (inr o))
-            (λ o. b .alike (a .who) (a .real .0) (a .leg) (a .real .1) (inr o))
+        | yes k ↦ omega (arith, b .less, a .alike (b .who) (b .real .0) (b .place) (b .real .1) (inl k))
+        | no k ↦ same-train (a .who) (b .who) (omega arith) (a .place) (b .place) (a .real .0) (a .real .1) (b .real .0) (b .real .1) (a .less) (b .less)
+            (λ o. a .alike (b .who) (b .real .0) (b .place) (b .real .1) (inr o))
+            (λ o. b .alike (a .who) (a .real .0) (a .place) (a .real .1) (inr o))
       ]
     ]
   where
-    same-train : (i j : ℕ) → i ≡ j → (k h : ℕ) → i < l .«train_count» → k < legs l i → j < l .«train_count» → h < legs l j →
-        departure l m i k < departure l m′ i k → departure l m′ j h < departure l m j h → ((j ≡ i) × (h < k) → departure l m j h ≡ departure l m′ j h) →
-        ((i ≡ j) × (k < h) → departure l m′ i k ≡ departure l m i k) → ⊥
+    same-train : (i j : ℕ) → i ≡ j → (k h : ℕ) → i < l .«train_count» → k < comparedCount l i → j < l .«train_count» → h < comparedCount l j →
+        compared l m i k < compared l m′ i k → compared l m′ j h < compared l m j h → ((j ≡ i) × (h < k) → compared l m j h ≡ compared l m′ j h) →
+        ((i ≡ j) × (k < h) → compared l m′ i k ≡ compared l m i k) → ⊥
     same-train i j e k h ni nk nj nh x y f g = elim (decLt k h) [
       | yes o ↦ omega (arith, g (e, o))
       | no o ↦ elim (decLt h k) [
@@ -49,9 +49,9 @@ earlier-once l m m′ a b =
       ]
     ]
       where
-        level : (i j : ℕ) → i ≡ j → (k h : ℕ) → k ≡ h → departure l m i k < departure l m′ i k → departure l m′ j h < departure l m j h → ⊥
+        level : (i j : ℕ) → i ≡ j → (k h : ℕ) → k ≡ h → compared l m i k < compared l m′ i k → compared l m′ j h < compared l m j h → ⊥
         level i j e k h q x y =
-            let z : departure l m i k < departure l m′ i k = x in let w : departure l m′ i k < departure l m i k = rw (← e, ← q) at y in omega arith
+            let z : compared l m i k < compared l m′ i k = x in let w : compared l m′ i k < compared l m i k = rw (← e, ← q) at y in omega arith
 
 preferred-once : (l : Line) (m m′ : List ℕ) → Preferred l m m′ → Preferred l m′ m → ⊥
 preferred-once l m m′ (inl a) (inl b) = omega arith

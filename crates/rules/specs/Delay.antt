@@ -4,7 +4,7 @@ use mathlib.Core.Path.{_≡_}
 use mathlib.Core.Logic.{_⊎_}
 use mathlib.Core.List.{List}
 use lib.ListN.{getD}
-use Rattle.text.specs.Below.{sum}
+use Rattle.text.specs.Below.{EachBelow, sum}
 use Rattle.line.specs.declared.Train.{Train}
 use Rattle.line.specs.declared.Line.{Line}
 use Rattle.line.specs.Record.{legsOf}
@@ -32,13 +32,20 @@ weightedDelay l m = sum (λ i. train l i .weight * delay l m i) (l .«train_coun
 abbrev pub Same : Line → List ℕ → List ℕ → Type 0
 Same l m m′ = EachTrain l (λ i. EachLeg l i (λ k. (departure l m i k ≡ departure l m′ i k) × (arrival l m i k ≡ arrival l m′ i k)))
 
--- "departures are compared from train 1 up, each train's in travel order": m has the earlier minute at the first that differs
+-- what is compared at equal delay, of each train one after the other: "departures", "each train's in travel order"
+abbrev pub comparedCount : Line → ℕ → ℕ
+comparedCount l i = legs l i
+
+abbrev pub compared : Line → List ℕ → ℕ → ℕ → ℕ
+compared l m i k = departure l m i k
+
+-- "departures are compared from train 1 up": m has the earlier minute at the first that differs, number `place` of train `who`
 pub record Earlier (l : Line) (m m′ : List ℕ) : Type 0 where
   pub who : ℕ
-  pub leg : ℕ
-  pub real : (who < l .«train_count») × (leg < legs l who)
-  pub alike : EachTrain l (λ i. EachLeg l i (λ k. (i < who) ⊎ ((i ≡ who) × (k < leg)) → departure l m i k ≡ departure l m′ i k))
-  pub less : departure l m who leg < departure l m′ who leg
+  pub place : ℕ
+  pub real : (who < l .«train_count») × (place < comparedCount l who)
+  pub alike : EachTrain l (λ i. EachBelow (comparedCount l i) (λ k. (i < who) ⊎ ((i ≡ who) × (k < place)) → compared l m i k ≡ compared l m′ i k))
+  pub less : compared l m who place < compared l m′ who place
 
 -- m is to be preferred: it has the smaller weighted delay, or the same and the earlier departures
 abbrev pub Preferred : Line → List ℕ → List ℕ → Type 0

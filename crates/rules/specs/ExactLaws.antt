@@ -20,7 +20,7 @@ use Rattle.rules.specs.declared.conflicts.Passage.{Passage}
 use Rattle.rules.specs.declared.rules.Breach.{Breach}
 use Rattle.rules.specs.Paths.{train, segmentCount, segment, tracksAt, outbound, sameWay, Uses, Middle, EachTrain}
 use Rattle.rules.specs.Minutes.{departsOn, arrivesOn}
-use Rattle.rules.specs.Rules.{InDays, NotEarly, Runs, Stops, NotLate, GapBy, Before, Apart, stands, standing, Room, Lawful}
+use Rattle.rules.specs.Rules.{InDays, TrainRules, NotLate, GapBy, Before, Apart, stands, standing, Room, Lawful}
 use Rattle.rules.specs.Directions.{directionsOf, on}
 use Rattle.rules.specs.DirectionsLaws.{decides-on, same-way, outbound-way}
 use Rattle.rules.specs.Conflicts.{gapBy, passage, keepsAfter, neitherFirst, clash, pairOn, segmentConflict, standsIn, standsAt, standingAt, crowdAt, crowdOn, stationConflict, conflictOf}
@@ -124,9 +124,7 @@ nobody-stands l m s h t b =
 
 -- every rule from 10 to 15 is kept
 pub record Kept (l : Line) (m : List ℕ) : Type 0 where
-  pub rule10 : EachTrain l (NotEarly l m)
-  pub rule11 : EachTrain l (Runs l m)
-  pub rule12 : EachTrain l (Stops l m)
+  pub trains : EachTrain l (TrainRules l m)
   pub rule13 : EachTrain l (NotLate l m)
   pub rule14 : EachBelow (segmentCount l) (Apart l m)
   pub rule15 : EachBelow (l .«station_count») (Room l m)
@@ -215,9 +213,11 @@ module _ (l : Line) (w : Within l) (a : Arrays l) (m : List ℕ) where
       let r13 = or-none (trainBreach 13 l m) _ (r12 .1) in
       let c = clear-of (no-conflict _ (r13 .1)) in
       record {
-        rule10 = λ i b. decides-10 l m i .yea (none-breach 10 l m (r10 .0) i b);
-        rule11 = λ i b. decides-11 l m i .yea (none-breach 11 l m (r11 .0) i b);
-        rule12 = λ i b. decides-12 l m i .yea (none-breach 12 l m (r12 .0) i b);
+        trains = λ i b. record {
+          rule10 = decides-10 l m i .yea (none-breach 10 l m (r10 .0) i b);
+          rule11 = decides-11 l m i .yea (none-breach 11 l m (r11 .0) i b);
+          rule12 = decides-12 l m i .yea (none-breach 12 l m (r12 .0) i b);
+        };
         rule13 = λ i b. decides-13 l m i .yea (none-breach 13 l m (r13 .0) i b);
         rule14 = c .0;
         rule15 = c .1;
@@ -227,9 +227,9 @@ module _ (l : Line) (w : Within l) (a : Arrays l) (m : List ℕ) where
   pub of-kept : Kept l m → breachOf l m ≡ Breach.None
   unfolding breachOf conflictOf
   of-kept k =
-      let b10 = sym (breach-none 10 l m (λ i b. is-true (decides-10 l m i) (k .rule10 i b))) in
-      let b11 = sym (breach-none 11 l m (λ i b. is-true (decides-11 l m i) (k .rule11 i b))) in
-      let b12 = sym (breach-none 12 l m (λ i b. is-true (decides-12 l m i) (k .rule12 i b))) in
+      let b10 = sym (breach-none 10 l m (λ i b. is-true (decides-10 l m i) (k .trains i b .rule10))) in
+      let b11 = sym (breach-none 11 l m (λ i b. is-true (decides-11 l m i) (k .trains i b .rule11))) in
+      let b12 = sym (breach-none 12 l m (λ i b. is-true (decides-12 l m i) (k .trains i b .rule12))) in
       let b13 = sym (breach-none 13 l m (λ i b. is-true (decides-13 l m i) (k .rule13 i b))) in
       rw (b10, b11, b12, b13, clear-segments (k .rule14), clear-stations (k .rule15)) refl
 
@@ -237,8 +237,8 @@ module _ (l : Line) (w : Within l) (a : Arrays l) (m : List ℕ) where
   pub lawful-of : EachTrain l (InDays l m) → breachOf l m ≡ Breach.None → Lawful l m
   lawful-of h e =
       let k = kept-of e in
-      record { days = h; rule10 = k .rule10; rule11 = k .rule11; rule12 = k .rule12; rule13 = k .rule13; rule14 = k .rule14; rule15 = k .rule15 }
+      record { days = h; trains = k .trains; rule13 = k .rule13; rule14 = k .rule14; rule15 = k .rule15 }
 
   pub of-lawful : Lawful l m → breachOf l m ≡ Breach.None
   of-lawful h =
-      of-kept record { rule10 = h .rule10; rule11 = h .rule11; rule12 = h .rule12; rule13 = h .rule13; rule14 = h .rule14; rule15 = h .rule15 }
+      of-kept record { trains = h .trains; rule13 = h .rule13; rule14 = h .rule14; rule15 = h .rule15 }

@@ -17,9 +17,13 @@ use Rattle.rules.specs.Minutes.{departsOn, arrivesOn, departure, arrival
 abbrev pub InDays : Line → List ℕ → ℕ → Type 0
 InDays l m i = EachLeg l i (λ k. (departure l m i k ≤ 2879) × (arrival l m i k ≤ 2879))
 
+-- a floor under a departure: train i does not depart on its leg k before a minute
+abbrev pub NotBefore : Line → List ℕ → ℕ → ℕ → ℕ → Type 0
+NotBefore l m i k minute = minute ≤ departure l m i k
+
 -- 10: the first departure is not before earliest
 abbrev pub NotEarly : Line → List ℕ → ℕ → Type 0
-NotEarly l m i = train l i .earliest ≤ departure l m i 0
+NotEarly l m i = NotBefore l m i 0 (train l i .earliest)
 
 -- 11: arrival less departure equals the run
 abbrev pub Runs : Line → List ℕ → ℕ → Type 0
@@ -28,6 +32,12 @@ Runs l m i = EachLeg l i (λ k. arrival l m i k ≡ departure l m i k + runOf l 
 -- 12: at a middle station, departure is at or after arrival plus stop
 abbrev pub Stops : Line → List ℕ → ℕ → Type 0
 Stops l m i = EachBelow (legs l i - 1) (λ k. arrival l m i k + stopOf l i k ≤ departure l m i (k + 1))
+
+-- the rules of train i by itself that the least minutes of a plan keep ("the least minutes that meet them and rules 10 to 12")
+pub record TrainRules (l : Line) (m : List ℕ) (i : ℕ) : Type 0 where
+  pub rule10 : NotEarly l m i
+  pub rule11 : Runs l m i
+  pub rule12 : Stops l m i
 
 -- 13: the last arrival is not after latest
 abbrev pub NotLate : Line → List ℕ → ℕ → Type 0
@@ -74,9 +84,7 @@ Room l m s = EachBelow 2880 (λ t. standing l m s t ≤ tracksAt l s)
 -- "A timetable is lawful, or keeps every rule, when all the rules hold of it"
 pub record Lawful (l : Line) (m : List ℕ) : Type 0 where
   pub days : EachTrain l (InDays l m)
-  pub rule10 : EachTrain l (NotEarly l m)
-  pub rule11 : EachTrain l (Runs l m)
-  pub rule12 : EachTrain l (Stops l m)
+  pub trains : EachTrain l (TrainRules l m)
   pub rule13 : EachTrain l (NotLate l m)
   pub rule14 : EachBelow (segmentCount l) (Apart l m)
   pub rule15 : EachBelow (l .«station_count») (Room l m)

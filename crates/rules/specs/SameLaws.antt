@@ -85,9 +85,11 @@ module _ (l : Line) (m m′ : List ℕ) (s : Same l m m′) where
     pub lawful-same : Lawful l m → Lawful l m′
     lawful-same h = record {
       days = λ i n k r. (omega (arith, h .days i n k r .0, s i n k r .0), omega (arith, h .days i n k r .1, s i n k r .1));
-      rule10 = λ i n. omega (arith, h .rule10 i n, s i n 0 (has-legs i n) .0);
-      rule11 = λ i n k r. omega (arith, h .rule11 i n k r, s i n k r .0, s i n k r .1);
-      rule12 = λ i n k r. omega (arith, h .rule12 i n k r, s i n k (omega arith) .1, s i n (k + 1) (omega arith) .0);
+      trains = λ i n. record {
+        rule10 = omega (arith, h .trains i n .rule10, s i n 0 (has-legs i n) .0);
+        rule11 = λ k r. omega (arith, h .trains i n .rule11 k r, s i n k r .0, s i n k r .1);
+        rule12 = λ k r. omega (arith, h .trains i n .rule12 k r, s i n k (omega arith) .1, s i n (k + 1) (omega arith) .0);
+      };
       rule13 = λ i n. omega (arith, h .rule13 i n, last-same i n);
       rule14 = λ p b i n j o e u v. ⊎-elim (λ x. inl (before-same p i j n o u v x)) (λ x. inr (before-same p j i o n v u x)) (h .rule14 p b i n j o e u v);
       rule15 = λ q b t r. omega (arith, h .rule15 q b t r, standing-same q t);
