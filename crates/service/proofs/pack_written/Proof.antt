@@ -1,9 +1,9 @@
--- `screen::pack_written` meets its contract: in each arm the number is what the definition gives for that case. Assumes nothing.
+-- `service::pack_written` meets its contract: in each arm the number is what the definition gives for that case. Assumes nothing.
 use mathlib.Core.Path.{_∙_, sym, ap}
-use Rattle.screen.specs.Packing.{packedWritten}
+use Rattle.service.specs.Packing.{packedWritten}
 use borrow.Author.Needs.{needs}
-use Rattle.screen.proofs.pack_written.Statement.{statement}
-use Rattle.screen.proofs.pack_written.Tie as tie
+use Rattle.service.proofs.pack_written.Statement.{statement}
+use Rattle.service.proofs.pack_written.Tie as tie
 
 enum-known-written : tie.Need-enum-known-written
 enum-known-written c = search needs

@@ -1,10 +1,10 @@
--- `screen::gaugeviolet_read` meets its contract: the answer of the reading, packed. Assumes nothing.
+-- `service::gaugeviolet_read` meets its contract: the answer of the reading, packed. Assumes nothing.
 use mathlib.Core.Path.{_∙_, sym, ap}
-use Rattle.screen.specs.Packing.{packedAnswer}
+use Rattle.service.specs.Packing.{packedAnswer}
 use Rattle.line.specs.declared.ReadLine.{ReadLine}
 use borrow.Author.Needs.{needs}
-use Rattle.screen.proofs.gaugeviolet_read.Statement.{statement}
-use Rattle.screen.proofs.gaugeviolet_read.Tie as tie
+use Rattle.service.proofs.gaugeviolet_read.Statement.{statement}
+use Rattle.service.proofs.gaugeviolet_read.Tie as tie
 
 read-requires : tie.Need-read-requires
 read-requires c κs = search needs

@@ -1,9 +1,9 @@
--- `screen::gaugeviolet_check` meets its contract: the verdict of the check, packed. Assumes nothing.
+-- `service::gaugeviolet_check` meets its contract: the verdict of the check, packed. Assumes nothing.
 use mathlib.Core.Path.{_∙_, sym, ap}
 use borrow.Author.Needs.{needs}
-use Rattle.screen.specs.Packing.{packedVerdict}
-use Rattle.screen.proofs.gaugeviolet_check.Statement.{statement}
-use Rattle.screen.proofs.gaugeviolet_check.Tie as tie
+use Rattle.service.specs.Packing.{packedVerdict}
+use Rattle.service.proofs.gaugeviolet_check.Statement.{statement}
+use Rattle.service.proofs.gaugeviolet_check.Tie as tie
 
 check-requires : tie.Need-check-requires
 check-requires c κs = search needs

@@ -11,7 +11,7 @@ use Rattle.line.specs.declared.ReadLine.{ReadLine}
 use Rattle.line.specs.File.{lineFile, answered}
 use Rattle.line.specs.Writing.{spelling}
 use Rattle.line.specs.RoundTrip.{Accepts, rewritten}
-use Rattle.screen.specs.Packing.{packed, packedWritten}
+use Rattle.service.specs.Packing.{packed, packedWritten}
 
 -- what there is to write: the refusal of the file, or what there is to write for its line
 abbrev pub respelt : Answer → Line → Spelling

@@ -1,8 +1,8 @@
--- `screen::gaugeviolet_rewrite` meets its contract: a refused file is its refusal, an accepted one what writing its line gives. Assumes nothing.
-use Rattle.screen.specs.Rewriting.{rewritten-line, rewritten-refused}
+-- `service::gaugeviolet_rewrite` meets its contract: a refused file is its refusal, an accepted one what writing its line gives. Assumes nothing.
+use Rattle.service.specs.Rewriting.{rewritten-line, rewritten-refused}
 use borrow.Author.Needs.{needs}
-use Rattle.screen.proofs.gaugeviolet_rewrite.Statement.{statement}
-use Rattle.screen.proofs.gaugeviolet_rewrite.Tie as tie
+use Rattle.service.proofs.gaugeviolet_rewrite.Statement.{statement}
+use Rattle.service.proofs.gaugeviolet_rewrite.Tie as tie
 
 read-requires : tie.Need-read-requires
 read-requires c κs = search needs
