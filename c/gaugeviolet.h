@@ -1,5 +1,6 @@
 /* Gaugeviolet for C and C++: the functions of the proved static library that `rt staticlib screen` writes to
- * target/staticlib/libscreen.a.
+ * target/staticlib/libscreen.a. Reading, rewriting and checking are also in target/staticlib/libservice.a, which
+ * `rt staticlib service` writes: the checking service without the search. A program links one of the two.
  *
  * Lent bytes are passed as a pointer and a length. No function asks for anything of their content: whatever stands in
  * them, each call keeps within them and returns. What the caller answers for:

@@ -14,8 +14,8 @@ use Rattle.line.specs.declared.Line.{Line}
 use Rattle.line.specs.Record.{noSegment}
 use Rattle.line.specs.Within.{Within}
 use Rattle.rules.specs.declared.conflicts.Conflict.{Conflict}
-use Rattle.rules.specs.declared.conflicts.TrainFound.{TrainFound}
-use Rattle.rules.specs.declared.conflicts.MinuteFound.{MinuteFound}
+use Rattle.rules.specs.declared.passages.TrainFound.{TrainFound}
+use Rattle.rules.specs.declared.stations.MinuteFound.{MinuteFound}
 use Rattle.rules.specs.declared.rules.Breach.{Breach}
 use Rattle.rules.specs.Paths.{train, segmentCount, EachTrain}
 use Rattle.rules.specs.Tests.{keepsRule}

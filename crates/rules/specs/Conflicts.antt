@@ -12,10 +12,10 @@ use Rattle.line.specs.declared.Line.{Line}
 use Rattle.line.specs.Record.{noSegment}
 use Rattle.rules.specs.declared.conflicts.Conflict.{Conflict}
 use Rattle.rules.specs.declared.conflicts.Layout.{Layout}
-use Rattle.rules.specs.declared.conflicts.Passage.{Passage}
-use Rattle.rules.specs.declared.conflicts.Stay.{Stay}
-use Rattle.rules.specs.declared.conflicts.TrainFound.{TrainFound}
-use Rattle.rules.specs.declared.conflicts.MinuteFound.{MinuteFound}
+use Rattle.rules.specs.declared.passages.Passage.{Passage}
+use Rattle.rules.specs.declared.stations.Stay.{Stay}
+use Rattle.rules.specs.declared.passages.TrainFound.{TrainFound}
+use Rattle.rules.specs.declared.stations.MinuteFound.{MinuteFound}
 use Rattle.rules.specs.Paths.{segmentCount}
 use Rattle.rules.specs.Minutes.{departsOn, arrivesOn}
 use Rattle.rules.specs.Directions.{directionsOf, way, on}

@@ -18,8 +18,8 @@ use Rattle.line.specs.declared.Line.{Line}
 use Rattle.line.specs.Record.{noSegment}
 use Rattle.rules.specs.declared.conflicts.Conflict.{Conflict}
 use Rattle.rules.specs.declared.conflicts.Layout.{Layout}
-use Rattle.rules.specs.declared.conflicts.Passage.{Passage}
-use Rattle.rules.specs.declared.conflicts.TrainFound.{TrainFound}
+use Rattle.rules.specs.declared.passages.Passage.{Passage}
+use Rattle.rules.specs.declared.passages.TrainFound.{TrainFound}
 use Rattle.rules.specs.Directions.{directionsOf, way}
 use Rattle.rules.specs.Conflicts.{orConflict, firstConflict, gapBy, passage, keepsAfter, neitherFirst, clash, trainFound, partnerOf, pairWith, pairOn, segmentConflict, conflictOf, layoutOf, conflictIn}
 use Rattle.rules.specs.Scanning.{neitherAlone, keepsBehind, neitherBehind}
@@ -82,6 +82,17 @@ module _ (g : Segment) (x y : Passage) where
   pub neither-by : (k : Kind) (w r : Bool) → g .kind ≡ k → eqb (x .way) (y .way) ≡ w → r ≡ neitherBy k w → r ≡ neitherFirst g x y
   unfolding neitherFirst keepsAfter
   neither-by k w r e f h = h ∙ gap-by k w ∙ sym (rw (e, f, way-turned w (x .way) (y .way) f) refl)
+
+-- and the same for either order of the two
+pub neither-turned : (g : Segment) (x y : Passage) → neitherFirst g x y ≡ neitherFirst g y x
+unfolding neitherFirst
+neither-turned g x y = turned (keepsAfter g x y) (keepsAfter g y x)
+  where
+    turned : (a b : Bool) → not (a || b) ≡ not (b || a)
+    turned true true = refl
+    turned true false = refl
+    turned false true = refl
+    turned false false = refl
 
 -- ---- a train's partner, a segment's pair, the lowest segment
 
@@ -147,9 +158,14 @@ module _ (g : Segment) (ds m : List ℕ) (p : ℕ) where
 module _ (gs : List Segment) (ds m : List ℕ) (n : ℕ) where
   -- no segment below p has a pair
   abbrev pub NoSegment : ℕ → Type 0
-  NoSegment p = firstConflict (λ k. pairOn (getD gs k noSegment) ds m n k) p ≡ Conflict.Nothing
+  NoSegment p = segmentConflict gs ds m p n ≡ Conflict.Nothing
+
+  pub segment-start : NoSegment 0
+  unfolding segmentConflict
+  segment-start = conflict-start (λ k. pairOn (getD gs k noSegment) ds m n k)
 
   pub segment-on : (p : ℕ) → NoSegment p → pairOn (getD gs p noSegment) ds m n p ≡ Conflict.Nothing → NoSegment (p + 1)
+  unfolding segmentConflict
   segment-on p e h = conflict-on (λ k. pairOn (getD gs k noSegment) ds m n k) p e h
 
   pub segment-found : (segments p : ℕ) (x : Conflict) → p < segments → NoSegment p → pairOn (getD gs p noSegment) ds m n p ≡ x →
@@ -158,8 +174,7 @@ module _ (gs : List Segment) (ds m : List ℕ) (n : ℕ) where
   segment-found segments p x l e h s = sym (conflict-hit (λ k. pairOn (getD gs k noSegment) ds m n k) segments p x l e h s)
 
   pub segment-none : (segments p : ℕ) → p ≡ segments → NoSegment p → Conflict.Nothing ≡ segmentConflict gs ds m segments n
-  unfolding segmentConflict
-  segment-none segments p q e = sym e ∙ ap (firstConflict (λ k. pairOn (getD gs k noSegment) ds m n k)) q
+  segment-none segments p q e = sym e ∙ ap (λ (k : ℕ). segmentConflict gs ds m k n) q
 
 -- ---- by the layout of a line and its table of directions
 

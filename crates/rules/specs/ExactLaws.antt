@@ -15,8 +15,8 @@ use Rattle.line.specs.declared.Segment.{Segment}
 use Rattle.line.specs.declared.Line.{Line}
 use Rattle.line.specs.Within.{Within, Arrays}
 use Rattle.rules.specs.declared.conflicts.Conflict.{Conflict}
-use Rattle.rules.specs.declared.conflicts.MinuteFound.{MinuteFound}
-use Rattle.rules.specs.declared.conflicts.Passage.{Passage}
+use Rattle.rules.specs.declared.stations.MinuteFound.{MinuteFound}
+use Rattle.rules.specs.declared.passages.Passage.{Passage}
 use Rattle.rules.specs.declared.rules.Breach.{Breach}
 use Rattle.rules.specs.Paths.{train, segmentCount, segment, tracksAt, outbound, sameWay, Uses, Middle, EachTrain}
 use Rattle.rules.specs.Minutes.{departsOn, arrivesOn}

@@ -17,6 +17,7 @@ pub mod Standing
 pub mod StationLaws
 pub mod RulesLaws
 pub mod BreachesLaws
+pub mod LowestLaws
 pub mod ScanningLaws
 pub mod OrdersCarry
 pub mod OrdersLaws

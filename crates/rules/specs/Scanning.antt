@@ -1,19 +1,14 @@
--- What the scan for the lowest conflict may leave out, and what it collects of a station: the contracts of its parts.
-use Prim.Native.Nat.{ℕ, _+_, _*_, _-_, _≤_, _<_}
+-- How the scan for the lowest conflict tells which of two trains goes first, and what it collects of a station: the contracts of its parts.
+use Prim.Native.Nat.{ℕ, _+_, _≤_, _<_}
 use mathlib.Core.Path.{_≡_}
 use mathlib.Core.Bool.{Bool, true, false, not, _&&_, _||_}
-use mathlib.Core.Logic.{_⊎_}
 use mathlib.Core.List.{List}
 use lib.ListN.{length, getD}
 use lib.Dec.{leb, ltb}
-use Rattle.line.specs.declared.Segment.{Segment}
-use Rattle.rules.specs.declared.conflicts.Conflict.{Conflict}
 use Rattle.rules.specs.declared.conflicts.Layout.{Layout}
-use Rattle.rules.specs.declared.conflicts.Passage.{Passage}
-use Rattle.rules.specs.declared.conflicts.Stays.{Stays}
-use Rattle.rules.specs.Minutes.{departsOn, arrivesOn}
-use Rattle.rules.specs.Directions.{on}
-use Rattle.rules.specs.Conflicts.{passage, neitherFirst, segmentConflict, stay, standsAt, cameTo}
+use Rattle.rules.specs.declared.passages.Passage.{Passage}
+use Rattle.rules.specs.declared.stations.Stays.{Stays}
+use Rattle.rules.specs.Conflicts.{stay, standsAt, cameTo}
 
 -- ---- two trains on a segment
 
@@ -43,49 +38,15 @@ keepsBehind gap x y = leb (x .departs + gap) (y .departs) && leb (x .arrives + g
 unfoldable pub neitherBehind : ℕ → Passage → Passage → Bool
 neitherBehind gap x y = not (keepsBehind gap x y || keepsBehind gap y x)
 
--- ---- segments
-
--- the 16 entries from b on are the same in both
-unfoldable pub SameRow : List ℕ → List ℕ → ℕ → Type 0
-SameRow m former b = (i : ℕ) → i < 16 → getD m (b + i) 0 ≡ getD former (b + i) 0
-
--- departures and arrivals on segment p
-abbrev pub SameOn : List ℕ → List ℕ → ℕ → Type 0
-SameOn m former p = SameRow m former (16 * p) × SameRow m former (176 + 16 * p)
-
--- train i goes over segment p at the same minutes
-abbrev pub SameTimes : List ℕ → List ℕ → ℕ → ℕ → Type 0
-SameTimes m former p i = (departsOn m p i ≡ departsOn former p i) × (arrivesOn m p i ≡ arrivesOn former p i)
-
--- train i is in conflict with none of the n on segment p, which is g
-unfoldable pub Apart : Segment → List ℕ → List ℕ → ℕ → ℕ → ℕ → Type 0
-Apart g ds m p n i =
-    (j : ℕ) → j < n → (j ≡ i → ⊥) → on ds p i ≡ true → on ds p j ≡ true → neitherFirst g (passage ds m p i) (passage ds m p j) ≡ false
-
--- each of the first k trains has its former minutes there or is in no conflict
-unfoldable pub ChangedApart : Segment → List ℕ → List ℕ → List ℕ → ℕ → ℕ → ℕ → Type 0
-ChangedApart g ds m former p n k = (i : ℕ) → i < k → SameTimes m former p i ⊎ Apart g ds m p n i
+-- ---- what the scan starts from
 
 abbrev pub LaidOut : Layout → Type 0
 LaidOut y = (2 ≤ y .stations) × (y .stations ≤ 12) × (y .trains ≤ 12)
 
--- no conflict on the segments below `clear` at these minutes
-unfoldable pub ClearBelow : Layout → List ℕ → List ℕ → ℕ → Type 0
-ClearBelow y ds m clear = (clear ≤ y .stations - 1) × (segmentConflict (y .segments) ds m clear (y .trains) ≡ Conflict.Nothing)
-
--- what the scan starts from
-pub record Scans (y : Layout) (ds m former : List ℕ) (clear : ℕ) : Type 0 where
+pub record Scans (y : Layout) (ds m : List ℕ) : Type 0 where
   pub laid-out : LaidOut y
   pub directions : length ds ≡ 176
   pub size : length m ≡ 352
-  pub former-size : length former ≡ 352
-  pub known : ClearBelow y ds former clear
-
--- the segments below the lowest conflict have none; those that it is not on have none at all
-abbrev pub clearSegments : Layout → Conflict → ℕ
-clearSegments y Conflict.Nothing = y .stations - 1
-clearSegments y (Conflict.OnSegment x) = x .segment
-clearSegments y (Conflict.AtStation x) = y .stations - 1
 
 -- ---- stations
 

@@ -18,14 +18,15 @@ use Rattle.text.specs.Below.{EachBelow, each-more, first-found, first-none, non
 use Rattle.text.specs.BelowLaws.{table-size}
 use Rattle.line.specs.declared.Segment.{Segment}
 use Rattle.line.specs.declared.Line.{Line}
+use Rattle.line.specs.Record.{noSegment}
 use Rattle.rules.specs.declared.conflicts.Conflict.{Conflict}
 use Rattle.rules.specs.declared.conflicts.Layout.{Layout}
-use Rattle.rules.specs.declared.conflicts.Stay.{Stay}
-use Rattle.rules.specs.declared.conflicts.MinuteFound.{MinuteFound}
+use Rattle.rules.specs.declared.stations.Stay.{Stay}
+use Rattle.rules.specs.declared.stations.MinuteFound.{MinuteFound}
 use Rattle.rules.specs.Minutes.{departsOn, arrivesOn}
 use Rattle.rules.specs.Directions.{directionEntry, directionsOf, way, on}
 use Rattle.rules.specs.Conflicts.{orConflict, firstConflict, clash, trainFound, partnerOf, pairWith, pairOn, cameTo, leavesFrom, stay, standsIn, standsAt, standingAt, minuteFound, earliestCrowd, inCrowd, crowdMask, crowdAt, crowdOn, stationConflict, segmentConflict, conflictIn}
-use Rattle.rules.specs.ConflictsLaws.{conflict-start, conflict-on, conflict-hit}
+use Rattle.rules.specs.ConflictsLaws.{conflict-start, conflict-on, conflict-hit, NoSegment}
 use Rattle.rules.specs.Standing.{crowd-arrives}
 
 -- ---- there is no first conflict exactly when there is none at any number
@@ -64,6 +65,12 @@ module _ (g : Segment) (ds m : List ℕ) (n p : ℕ) where
   pub clash-none : NoClash → pairOn g ds m n p ≡ Conflict.Nothing
   unfolding pairOn partnerOf
   clash-none h = conflict-none _ n (λ i a. ap (λ (o : Option ℕ). pairWith p i (trainFound o)) (first-none (clash g ds m p i) n (h i a)))
+
+-- where no segment below a number has a pair, each of them has none
+pub segment-each : (gs : List Segment) (ds m : List ℕ) (n segments : ℕ) → NoSegment gs ds m n segments →
+    EachBelow segments (λ p. pairOn (getD gs p noSegment) ds m n p ≡ Conflict.Nothing)
+unfolding segmentConflict
+segment-each gs ds m n segments e = none-conflict _ segments e
 
 -- ---- when a train stands at a station
 

@@ -5,7 +5,7 @@ ghost use lib.ListN.{length};
 ghost use Rattle.line.specs.Within.{Within};
 ghost use Rattle.rules.specs.Paths.{Routed};
 ghost use Rattle.rules.specs.Delay.{freeArrival, weightedDelay};
-use crate::conflicts::wide;
+use crate::passages::wide;
 use crate::rules::arrival_of;
 use line::Line;
 use line::Train;

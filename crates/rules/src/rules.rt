@@ -8,12 +8,12 @@ ghost use Rattle.rules.specs.Paths.{Routed, segmentBetween};
 ghost use Rattle.rules.specs.Tests.{departureOf, arrivalOf, runsRight, stopsRight, keepsRule};
 ghost use Rattle.rules.specs.Breaches.{trainBreach, placeOf, conflictBreach, breachOf};
 use crate::conflicts::Conflict;
-use crate::conflicts::arrives_on;
-use crate::conflicts::departs_on;
 use crate::conflicts::layout_of;
 use crate::conflicts::lowest_conflict;
-use crate::conflicts::wide;
 use crate::directions::directions_of;
+use crate::passages::arrives_on;
+use crate::passages::departs_on;
+use crate::passages::wide;
 use line::Line;
 use line::Train;
 use line::legs_between;
@@ -158,5 +158,5 @@ pub fn breach_of(line: Line, m: &[u16]) -> Breach
         return late;
     };
     let directions = directions_of(line);
-    conflict_breach(lowest_conflict(layout_of(line), &directions, m, m, 0))
+    conflict_breach(lowest_conflict(layout_of(line), &directions, m))
 }

@@ -4,7 +4,7 @@ use mathlib.Core.Path.{_≡_}
 use mathlib.Core.List.{List}
 use Rattle.text.specs.declared.Written.{Written}
 use Rattle.solver.specs.Solving.{Solving}
-use Rattle.screen.specs.Packing.{packedWritten}
+use Rattle.service.specs.Packing.{packedWritten}
 
 pub record Solved (file entry exit : List ℕ) (r : ℕ) : Type 0 where
   pub written : Written

@@ -9,7 +9,7 @@ use Rattle.line.specs.File.{lineFile, answered}
 use Rattle.plans.specs.Planning.{planning}
 use Rattle.plans.specs.Tallies.{cutOff}
 use Rattle.walk.specs.Walk.{walk}
-use Rattle.screen.specs.Packing.{packed}
+use Rattle.service.specs.Packing.{packed}
 
 -- the refusal of the file, or 0 and the number of plans of its line's walk, cut off at 4,294,967,295
 abbrev pub lengthOf : Answer → Line → ℕ

@@ -17,7 +17,6 @@ use Rattle.rules.specs.Paths.{segment}
 use Rattle.rules.specs.Conflicts.{conflictIn, layoutOf, clash, crowdAt, earliestCrowd}
 use Rattle.rules.specs.Directions.{directionsOf}
 use Rattle.rules.specs.Scanning.{Scans}
-use Rattle.rules.specs.ScanningLaws.{clear-none}
 use Rattle.rules.specs.StationLaws.{directions-size}
 use Rattle.rules.specs.ConflictsLaws.{conflict-told}
 use Rattle.plans.specs.ConflictFacts.{Clashing, Real, clashing, crowd-at-real, conflict-real}
@@ -36,15 +35,13 @@ some-chosen layout ds m c real some l w a f g = record { real = real l w a f g; 
 
 -- ---- what can be selected from
 
-pub select-scans : (m marks t ds : List ℕ) (layout : Layout) (cost cut : ℕ) → CanSelect m marks t ds layout cost cut → Scans layout ds m m 0
+pub select-scans : (m marks t ds : List ℕ) (layout : Layout) (cost cut : ℕ) → CanSelect m marks t ds layout cost cut → Scans layout ds m
 select-scans m marks t ds layout cost cut h =
     let w = h .tabled .within in
     record {
       laid-out = (rw (h .layout-is) (w .stations .0), rw (h .layout-is) (w .stations .1), rw (h .layout-is) (w .trains .1));
       directions = directions-size _ _ (h .tabled .directions);
       size = h .planned .fit .size;
-      former-size = h .planned .fit .size;
-      known = clear-none _ _ _;
     }
 
 pub can-select-after : (m marks t ds : List ℕ) (layout : Layout) (cost cut : ℕ) → CanSelect m marks t ds layout cost cut → (marks′ : List ℕ) →

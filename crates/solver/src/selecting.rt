@@ -17,10 +17,10 @@ use plans::ways::with_bit;
 use rules::conflicts::Conflict;
 use rules::conflicts::Layout;
 use rules::conflicts::SegmentConflict;
-use rules::conflicts::crowd_on;
 use rules::conflicts::lowest_conflict;
-use rules::conflicts::neither;
-use rules::conflicts::passage_of;
+use rules::passages::neither;
+use rules::passages::passage_of;
+use rules::stations::crowd_on;
 
 // A bit for every place, and more.
 const EVERYWHERE: u32 = 4294967295;
@@ -472,7 +472,7 @@ pub fn select_conflict(
     if n > 0 {
         return b;
     }
-    let lowest = lowest_conflict(layout, ds, m, m, 0);
+    let lowest = lowest_conflict(layout, ds, m);
     Selected {
         conflict: lowest,
         score: 0,

@@ -5,6 +5,8 @@ pub mod Sound
 pub mod WalkLaws
 pub mod Solved
 pub mod ProblemLaws
+pub mod Scanning
+pub mod ScanningLaws
 pub mod Taking
 pub mod TakingLaws
 pub mod WalksLaws

@@ -20,8 +20,8 @@ use Rattle.plans.specs.Planning.{planning}
 use Rattle.plans.specs.Keys.{betterBy}
 use Rattle.plans.specs.Tallies.{bestOf, cutOf, cutOff, Tallied}
 use Rattle.plans.specs.WaysTold.{TellsWay, Steps}
-use Rattle.rules.specs.Scanning.{ClearBelow, clearSegments}
-use Rattle.rules.specs.ScanningLaws.{clear-told}
+use Rattle.walk.specs.Scanning.{ClearBelow, clearSegments}
+use Rattle.walk.specs.ScanningLaws.{clear-told}
 use Rattle.plans.specs.Choosing.{Planned, Given, NoRaise, Fails, Raised, Raises, IsWay}
 use Rattle.walk.specs.Taking.{Tries, TriesFirst, Walks, planPart, wayPart, waysPart}
 use Rattle.plans.specs.TryingLaws.{way-there, way-absent, is-way, put-back}

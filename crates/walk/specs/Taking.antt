@@ -8,13 +8,13 @@ use Rattle.line.specs.declared.Line.{Line}
 use Rattle.rules.specs.declared.conflicts.Conflict.{Conflict}
 use Rattle.rules.specs.declared.conflicts.Layout.{Layout}
 use Rattle.rules.specs.Conflicts.{conflictOf}
-use Rattle.rules.specs.Scanning.{ClearBelow}
 use Rattle.orders.specs.NoLater.{slack}
 use Rattle.orders.specs.Least.{minutes}
 use Rattle.orders.specs.Choices.{Choice}
 use Rattle.orders.specs.Marks.{also}
 use Rattle.plans.specs.Problem.{Problem}
 use Rattle.plans.specs.BestSoFar.{BestSoFar}
+use Rattle.walk.specs.Scanning.{ClearBelow}
 use Rattle.walk.specs.Walk.{Walked, inOrder, lookLeast, follow, takeUp}
 use Rattle.plans.specs.Ways.{wayOf, wayCount}
 use Rattle.plans.specs.Planning.{planning}

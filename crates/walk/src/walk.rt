@@ -1,6 +1,8 @@
 // The walk over the plans: taking up a plan tries the ways out of its lowest conflict in order, and trying a way takes up the plan with that choice more.
 // The minutes of a plan lie above those of the plan that it comes from, so what they can still rise falls.
 ghost use Rattle.walk.specs.Taking.{CanTakeUp, TakesUp, CanTry, Tries, CanTryAll, TriesFirst};
+use crate::scanning::clear_segments;
+use crate::scanning::lowest_conflict;
 use orders::raising::DEAD;
 use plans::choosing::copy_minutes;
 use plans::choosing::fails;
@@ -15,8 +17,6 @@ use plans::ways::way_of;
 use plans::ways::with_bit;
 use rules::conflicts::Conflict;
 use rules::conflicts::Layout;
-use rules::conflicts::clear_segments;
-use rules::conflicts::lowest_conflict;
 
 // Takes up the plan of these marks, whose least minutes are m and cost this. The caller has counted it. At the former minutes, those of the plan that it
 // comes from, the segments below `clear` have no conflict.

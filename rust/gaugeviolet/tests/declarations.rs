@@ -1,5 +1,6 @@
 //! The exported functions are declared three times: in the Rattle source, in `src/screen.rs` and in the C
-//! header. Nothing but this test holds the three to each other.
+//! header; those of the checking service in its own Rattle source too. Nothing but this test holds these
+//! to each other.
 
 use std::path::Path;
 
@@ -22,6 +23,13 @@ fn all_three_declare_the_same_functions() {
         rattle
     );
     assert_eq!(declared_in_c(&source("c/gaugeviolet.h")), rattle);
+}
+
+#[test]
+fn the_checking_service_declares_the_first_three() {
+    let screen = declared_in_rattle(&source("crates/screen/src/lib.rt"));
+    let service = declared_in_rattle(&source("crates/service/src/lib.rt"));
+    assert_eq!(service, screen[..3]);
 }
 
 #[test]

@@ -3,7 +3,7 @@ use mathlib.Core.Path.{_∙_, ap}
 use Prim.Native.Nat.{ℕ}
 use borrow.Author.Needs.{needs}
 use Rattle.solver.specs.SolvingLaws.{solved-read}
-use Rattle.screen.specs.Packing.{packed}
+use Rattle.service.specs.Packing.{packed}
 use Rattle.screen.specs.Walking.{length-told}
 use Rattle.screen.proofs.gaugeviolet_walk_length.Statement.{statement}
 use Rattle.screen.proofs.gaugeviolet_walk_length.Tie as tie

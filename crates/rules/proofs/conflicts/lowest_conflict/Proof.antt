@@ -17,7 +17,7 @@ enum-told c = search needs
 
 returns : tie.Need-returns
 returns c =
-    let a = c .before .before .before .before .before .args in
+    let a = c .before .before .before .before .args in
     lowest-segment (a .layout) (now (a .ds)) (now (a .m)) _ (c .before .segment-conflict .ensures) (conflict-stays (tagOf the-type) refl _ (c .match .keys2))
 
 station-conflict-requires : tie.Need-station-conflict-requires
@@ -25,7 +25,7 @@ station-conflict-requires c κs = search needs
 
 returns-2 : tie.Need-returns-2
 returns-2 c =
-    let a = c .before .before .before .before .before .before .before .args in
+    let a = c .before .before .before .before .before .before .args in
     lowest-station (a .layout) (now (a .ds)) (now (a .m)) _ (c .before .before .before .segment-conflict .ensures) _
     (c .before .enum-told .given .1) (c .station-conflict .ensures)
 

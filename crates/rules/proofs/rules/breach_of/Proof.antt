@@ -7,7 +7,6 @@ use Rattle.rules.specs.Breaches.{conflictBreach, breachOf}
 use Rattle.rules.specs.ConflictsLaws.{conflict-told}
 use Rattle.rules.specs.StationLaws.{directions-size}
 use Rattle.rules.specs.BreachesLaws.{breach-first, breach-later, place-fits}
-use Rattle.rules.specs.ScanningLaws.{clear-none}
 use Rattle.rules.proofs.rules.breach_of.Statement.{statement}
 use Rattle.rules.proofs.rules.breach_of.Tie as tie
 
@@ -92,8 +91,6 @@ lowest-conflict-requires c κs =
       laid-out = rw y (a .pre .0 .stations .0, a .pre .0 .stations .1, a .pre .0 .trains .1);
       directions = directions-size (a .args .line) _ (c .before .before .directions-of .ensures);
       size = a .pre .1;
-      former-size = a .pre .1;
-      known = clear-none _ _ _;
     }
 
 conflict-breach-requires : tie.Need-conflict-breach-requires

@@ -36,7 +36,7 @@ returns c =
 
 lowest-conflict-requires : tie.Need-lowest-conflict-requires
 lowest-conflict-requires c κs =
-    let h = c .before .before .before .before .before in
+    let h = c .before .before .before .before in
     select-scans _ _ _ _ _ _ _ (h .before .before .before .before .before .pre .0)
 
 first-hint-requires : tie.Need-first-hint-requires
@@ -45,7 +45,7 @@ first-hint-requires c κs = search needs
 returns-2 : tie.Need-returns-2
 returns-2 c =
     record {
-      marks-same = c .before .before .before .before .before .before .before .highest-scored .ensures .marks-same;
+      marks-same = c .before .before .before .before .before .before .highest-scored .ensures .marks-same;
       chosen = lowest-chosen _ _ _ _ (c .before .lowest-conflict .ensures);
     }
 

@@ -8,7 +8,7 @@ use lib.ListN.{replicate}
 use Rattle.orders.specs.Least.{IsLeast}
 use Rattle.orders.specs.Marks.{free}
 use Rattle.orders.specs.Plans.{Keeps}
-use Rattle.rules.specs.ScanningLaws.{clear-none}
+use Rattle.walk.specs.ScanningLaws.{clear-none}
 use Rattle.plans.specs.Choosing.{Given}
 use Rattle.plans.specs.FirstLaws.{first-given}
 use Rattle.walk.specs.FindingLaws.{finds-walked, finds-nothing}

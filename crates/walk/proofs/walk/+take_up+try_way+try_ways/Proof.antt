@@ -30,8 +30,8 @@ use Rattle.walk.proofs.walk.try_ways.Reads as try-ways
 use Rattle.walk.proofs.walk.try_ways.Kinds as try-ways-kinds
 use Rattle.walk.proofs.walk.+take_up+try_way+try_ways.Lts-try_ways as try-ways-lts
 use Rattle.plans.proofs.ranking.improves.Reads as improves-reads
-use Rattle.rules.proofs.conflicts.clear_segments.Reads as clear-segments-reads
-use Rattle.rules.proofs.conflicts.lowest_conflict.Reads as lowest-conflict-reads
+use Rattle.walk.proofs.scanning.clear_segments.Reads as clear-segments-reads
+use Rattle.walk.proofs.scanning.lowest_conflict.Reads as lowest-conflict-reads
 use Rattle.plans.proofs.tally.counted.Reads as counted-reads
 use Rattle.plans.proofs.tally.cut_of.Reads as cut-of-reads
 use Rattle.plans.proofs.choosing.copy_minutes.Reads as copy-minutes-reads
@@ -116,9 +116,11 @@ take-up-lowest-conflict-requires : (t : ℕ) → take-up-lts.Need-lowest-conflic
 take-up-lowest-conflict-requires t c κs =
     let a = c .before .before .before .before .before .before .pre .1 in
     record {
-      laid-out = laid-out (a .line) _ _ _ _ _ _ _ _ _ (a .given);
-      directions = directions-size _ _ (a .given .tabled .directions);
-      size = a .given .planned .fit .size;
+      scans = record {
+        laid-out = laid-out (a .line) _ _ _ _ _ _ _ _ _ (a .given);
+        directions = directions-size _ _ (a .given .tabled .directions);
+        size = a .given .planned .fit .size;
+      };
       former-size = a .former-size;
       known = a .known;
     }

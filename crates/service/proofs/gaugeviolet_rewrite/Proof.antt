@@ -1,0 +1,49 @@
+-- `service::gaugeviolet_rewrite` meets its contract: a refused file is its refusal, an accepted one what writing its line gives. Assumes nothing.
+use Rattle.service.specs.Rewriting.{rewritten-line, rewritten-refused}
+use borrow.Author.Needs.{needs}
+use Rattle.service.proofs.gaugeviolet_rewrite.Statement.{statement}
+use Rattle.service.proofs.gaugeviolet_rewrite.Tie as tie
+
+read-requires : tie.Need-read-requires
+read-requires c κs = search needs
+
+enum-told : tie.Need-enum-told
+enum-told c = search needs
+
+write-requires : tie.Need-write-requires
+write-requires c κs = search needs
+
+pack-written-requires : tie.Need-pack-written-requires
+pack-written-requires c κs = search needs
+
+enum-known-answer : tie.Need-enum-known-answer
+enum-known-answer c = search needs
+
+pack-requires : tie.Need-pack-requires
+pack-requires c κs = search needs
+
+same-length : tie.Need-same-length
+same-length c = search needs
+
+returns : tie.Need-returns
+returns c =
+    rewritten-line _ _ _ _ (c .before .before .before .before .before .before .before .before .read .ensures)
+    (c .before .before .before .before .before .before .enum-told .given .1) (c .before .before .before .write .ensures) (c .pack-written .ensures)
+
+returns-2 : tie.Need-returns-2
+returns-2 c =
+    rewritten-refused _ _ _ _ (c .before .before .before .before .read .ensures) _ _ (c .before .before .answer .given .1) (c .pack .ensures)
+
+pub gaugeviolet-rewrite-spec : {M : Type 1} → statement M
+gaugeviolet-rewrite-spec =
+    tie.close
+    (tie.spec
+    read-requires
+    enum-told
+    write-requires
+    pack-written-requires
+    enum-known-answer
+    pack-requires
+    same-length
+    returns
+    returns-2)
