@@ -71,9 +71,9 @@ module _ (l : Line) (w : Within l) (a : Arrays l) where
     least-none = λ p s z e. least-none l w a p s z e;
     cost-up = delay-up l;
     key-up = departures-up l;
-    inTime-down = inTime-down l;
+    allowed-down = inTime-down l;
     lawful-fit = λ m h. h .0;
-    lawful-inTime = λ m h. is-true (decides-inTime l m) (h .1 .rule13);
+    lawful-allowed = λ m h. is-true (decides-inTime l m) (h .1 .rule13);
     lawful-keeps = λ m h. lawful-keeps m (h .1);
     keeps-rest = keeps-rest l;
     clear = λ p m z k t q. clear-lawful p m z k t (ways-none l w a m q);

@@ -110,7 +110,7 @@ module _ (l : Line) (w : Within l) (a : Arrays l) where
   unfolding NoRaise NoneBetter
   none-raised c p m best y u t h m′ k q i =
       let L = planning-laws l w a in
-      h m′ (k .0) q (under-also (planning l) L c p m u m′ k q) (L .lawful-inTime m′ k) (improves-cheap best y m′ t (k .0) i)
+      h m′ (k .0) q (under-also (planning l) L c p m u m′ k q) (L .lawful-allowed m′ k) (improves-cheap best y m′ t (k .0) i)
 
 -- ---- a way's mark set, and raised for
 

@@ -47,6 +47,6 @@ planning l = record {
   least = least l;
   cost = weightedDelay l;
   key = departures l;
-  inTime = inTime l;
+  allowed = inTime l;
   ways = ways l;
 }

@@ -27,8 +27,8 @@ pub record Problem : Type 1 where
   -- what is compared, the lower the better: the cost first, and then the key
   pub cost : List ℕ → ℕ
   pub key : List ℕ → List ℕ
-  -- no event is after its latest minute
-  pub inTime : List ℕ → Bool
+  -- a test that every lawful timetable passes, and that only fails more as minutes rise: no event is after its latest minute
+  pub allowed : List ℕ → Bool
   -- the choices that would settle the first conflict; [] if there is no conflict
   pub ways : List ℕ → List Choice
 
@@ -52,12 +52,12 @@ pub record Laws (P : Problem) : Type 0 where
   pub least-none : (cs : P .Plan) (s : List ℕ) → Fit (P .events) s → P .least cs s ≡ none → NoneKeeps (P .events) (P .Keeps cs) s
   pub cost-up : (m m′ : List ℕ) → m ⊑ m′ → P .cost m ≤ P .cost m′
   pub key-up : (m m′ : List ℕ) → m ⊑ m′ → P .key m ⊑ P .key m′
-  pub inTime-down : (m m′ : List ℕ) → m ⊑ m′ → P .inTime m′ ≡ true → P .inTime m ≡ true
+  pub allowed-down : (m m′ : List ℕ) → m ⊑ m′ → P .allowed m′ ≡ true → P .allowed m ≡ true
   pub lawful-fit : (m : List ℕ) → P .Lawful m → Fit (P .events) m
-  pub lawful-inTime : (m : List ℕ) → P .Lawful m → P .inTime m ≡ true
+  pub lawful-allowed : (m : List ℕ) → P .Lawful m → P .allowed m ≡ true
   pub lawful-keeps : (m : List ℕ) → P .Lawful m → P .Keeps (P .free) m
   pub keeps-rest : (c : P .Choice) (cs : P .Plan) (m : List ℕ) → P .Keeps (P .also c cs) m → P .Keeps cs m
-  -- with no conflict left, minutes that are in time are lawful
-  pub clear : (cs : P .Plan) (m : List ℕ) → Fit (P .events) m → P .Keeps cs m → P .inTime m ≡ true → P .ways m ≡ [] → P .Lawful m
+  -- with no conflict left, minutes that are allowed are lawful
+  pub clear : (cs : P .Plan) (m : List ℕ) → Fit (P .events) m → P .Keeps cs m → P .allowed m ≡ true → P .ways m ≡ [] → P .Lawful m
   -- where there is a conflict, these are ways out of one
   pub ways-split : (cs : P .Plan) (m : List ℕ) → (P .ways m ≡ [] → ⊥) → Splits P cs m (P .ways m)

@@ -48,7 +48,7 @@ module _ (P : Problem) (cs : P .Plan) where
   searched-dead b h = record { onward = inl refl; none-better = h }
 
 module _ (P : Problem) (L : Laws P) where
-  open Problem P using (Choice, Plan, events, Keeps, Lawful, also, free, inTime)
+  open Problem P using (Choice, Plan, events, Keeps, Lawful, also, free, allowed)
 
   rank-up : (m m′ : List ℕ) → m ⊑ m′ → rank P m ⊑ rank P m′
   rank-up m m′ h zero = L .cost-up m m′ h
@@ -78,14 +78,14 @@ module _ (P : Problem) (L : Laws P) where
     unfolding NoneBetter
     none-worse n m′ l k i = n (improves-up m m′ b (u m′ l k) i)
 
-    pub none-late : inTime m ≡ false → NoneBetter P cs b
+    pub none-late : allowed m ≡ false → NoneBetter P cs b
     unfolding NoneBetter
-    none-late n m′ l k i = true≢false (sym (L .inTime-down m m′ (u m′ l k) (L .lawful-inTime m′ l)) ∙ n)
+    none-late n m′ l k i = true≢false (sym (L .allowed-down m m′ (u m′ l k) (L .lawful-allowed m′ l)) ∙ n)
 
     pub searched-worse : (Improves P m b → ⊥) → Searched P cs b b
     searched-worse n = searched-dead P cs b (none-worse n)
 
-    pub searched-late : inTime m ≡ false → Searched P cs b b
+    pub searched-late : allowed m ≡ false → Searched P cs b b
     searched-late n = searched-dead P cs b (none-late n)
 
     -- the minutes are lawful, and better

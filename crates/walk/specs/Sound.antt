@@ -21,10 +21,10 @@ pub record Enough (P : Problem) (fuel : ℕ) (cs : P .Plan) (s : List ℕ) : Typ
   pub deep : (m : List ℕ) → IsLeast (P .events) (P .Keeps cs) s m → slack m + 1 < fuel
 
 module _ (P : Problem) (L : Laws P) where
-  open Problem P using (Choice, Plan, events, Keeps, Lawful, least, inTime, ways)
+  open Problem P using (Choice, Plan, events, Keeps, Lawful, least, allowed, ways)
 
   -- a plan that is cut off holds nothing better
-  cut-right : (cs : Plan) (m : List ℕ) (b : BestSoFar) → Under P cs m → (t i : Bool) → inTime m ≡ t → improves P m b ≡ i → t && i ≡ false → NoneBetter P cs b
+  cut-right : (cs : Plan) (m : List ℕ) (b : BestSoFar) → Under P cs m → (t i : Bool) → allowed m ≡ t → improves P m b ≡ i → t && i ≡ false → NoneBetter P cs b
   cut-right cs m b u true i e f n = none-worse P L cs m b u (improves-false P m b (f ∙ n))
   cut-right cs m b u false i e f n = none-late P L cs m b u e
 
@@ -47,10 +47,10 @@ module _ (P : Problem) (L : Laws P) where
   follow-sound go cs s b z u h _ (seen-none e) =
       searched-dead P cs b (unfold NoneBetter in λ m l k i. L .least-none cs s z e m (L .lawful-fit m l) k (u m l k))
   follow-sound go cs s b z u h _ (seen-cut m e t) =
-      searched-dead P cs b (cut-right cs m b (under-least P L cs s m u (L .least-is cs s m z e)) (inTime m) (improves P m b) refl refl t)
+      searched-dead P cs b (cut-right cs m b (under-least P L cs s m u (L .least-is cs s m z e)) (allowed m) (improves P m b) refl refl t)
   follow-sound go cs s b z u h _ (seen-clear m e t q) =
       let i = L .least-is cs s m z e in
-      let (timely, better) = and-eq-true-iff (inTime m) (improves P m b) .0 t in
+      let (timely, better) = and-eq-true-iff (allowed m) (improves P m b) .0 t in
       searched-clear P L cs m b (under-least P L cs s m u i) (L .clear cs m (i .fit) (i .keeps) timely q) (improves-true P m b better)
   follow-sound go cs s b z u h _ (seen-open m w ws e q) =
       let i = L .least-is cs s m z e in

@@ -24,18 +24,18 @@ module _ (P : Problem) (fuel : ℕ) (cs : P .Plan) where
   taken-none s b e = rw e refl
 
   module _ (m : List ℕ) (b : BestSoFar) where
-    pub taken-cut : P .inTime m && improves P m b ≡ false → takenUp P fuel cs m b ≡ record { best = b; steps = 1 }
+    pub taken-cut : P .allowed m && improves P m b ≡ false → takenUp P fuel cs m b ≡ record { best = b; steps = 1 }
     unfolding takenUp lookLeast follow
     taken-cut e = rw e refl
 
-    pub taken-clear : P .inTime m && improves P m b ≡ true → P .ways m ≡ [] → takenUp P fuel cs m b ≡ record { best = found m; steps = 1 }
+    pub taken-clear : P .allowed m && improves P m b ≡ true → P .ways m ≡ [] → takenUp P fuel cs m b ≡ record { best = found m; steps = 1 }
     unfolding takenUp lookLeast lookWays follow
     taken-clear e q = rw (e, q) refl
 
     abbrev parts : Walked
     parts = inOrder (λ c. takeUp P fuel (P .also c cs) m) (P .ways m) b
 
-    pub taken-split : P .inTime m && improves P m b ≡ true → (P .ways m ≡ [] → ⊥) →
+    pub taken-split : P .allowed m && improves P m b ≡ true → (P .ways m ≡ [] → ⊥) →
         takenUp P fuel cs m b ≡ record { best = parts .best; steps = suc (parts .steps) }
     unfolding takenUp lookLeast
     taken-split e n = rw e (go (P .ways m) n)

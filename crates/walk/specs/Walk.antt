@@ -27,7 +27,7 @@ inOrder go (x ∷ xs) b =
     record { best = t .best; steps = r .steps + t .steps }
 
 module _ (P : Problem) where
-  open Problem P using (Choice, Plan, start, least, inTime, ways)
+  open Problem P using (Choice, Plan, start, least, allowed, ways)
 
   unfoldable pub lookWays : List ℕ → List Choice → Look Choice
   lookWays m [] = solved m
@@ -35,7 +35,7 @@ module _ (P : Problem) where
 
   unfoldable pub lookLeast : Least → BestSoFar → Look Choice
   lookLeast none b = ends
-  lookLeast (minutes m) b = cond (inTime m && improves P m b) (lookWays m (ways m)) ends
+  lookLeast (minutes m) b = cond (allowed m && improves P m b) (lookWays m (ways m)) ends
 
   unfoldable pub look : Plan → List ℕ → BestSoFar → Look Choice
   look cs s b = lookLeast (least cs s) b
