@@ -32,9 +32,9 @@ freeMinutes l = table (freeEntry l) 352
 abbrev pub FreeInTime : Line → Type 0
 FreeInTime l = EachTrain l (λ i. freeArrival (train l i) ≤ train l i .latest)
 
--- the first plan: its minutes are the least from 0 on, end in time and have no delay; or no minutes end in time
+-- the first plan: its minutes are the least from 0 on, end in time, and what they cost; or no minutes end in time
 pub record First (l : Line) (r : FirstPlan) : Type 0 where
   pub least : r .«in_time» ≡ true → IsLeast 352 (Keeps l free) (replicate 352 0) (r .minutes)
   pub rule13 : r .«in_time» ≡ true → EachTrain l (NotLate l (r .minutes))
-  pub cost : r .«in_time» ≡ true → weightedDelay l (r .minutes) ≡ 0
+  pub cost-is : r .cost ≡ weightedDelay l (r .minutes)
   pub none : r .«in_time» ≡ false → (m′ : List ℕ) → Fit 352 m′ → Keeps l free m′ → EachTrain l (NotLate l m′) → ⊥

@@ -9,8 +9,8 @@ use native.Mathlib.Omega.{arith}
 use lib.ListN.{length, getD, replicate}
 use borrow.Author.Tests.{lt-ltb, le-ltb}
 use Rattle.text.specs.Decide.{Decides, by-test, is-true}
-use Rattle.text.specs.Below.{EachBelow, each-more, sum}
-use Rattle.text.specs.BelowLaws.{sum-most, table-at, table-past, table-size}
+use Rattle.text.specs.Below.{EachBelow, each-more}
+use Rattle.text.specs.BelowLaws.{table-at, table-past, table-size}
 use Rattle.line.specs.declared.Train.{Train}
 use Rattle.line.specs.declared.Line.{Line}
 use Rattle.line.specs.Record.{legsOf}
@@ -19,7 +19,7 @@ use Rattle.rules.specs.Paths.{train, legs, runOf, segmentOf}
 use Rattle.rules.specs.Minutes.{departs, arrives, departure, arrival}
 use Rattle.rules.specs.Rules.{TrainRules}
 use Rattle.rules.specs.PathsLaws.{train-within, legs-few, uses-leg, segment-below}
-use Rattle.rules.specs.RulesLaws.{free-start, free-next, cost, cost-none, cost-end}
+use Rattle.rules.specs.RulesLaws.{free-start, free-next}
 use Rattle.rules.specs.Delay.{freeAfter, freeArrival, weightedDelay}
 use Rattle.orders.specs.declared.first.FirstPlan.{FirstPlan}
 use Rattle.orders.specs.Least.{Fit, IsLeast}
@@ -144,13 +144,6 @@ module _ (l : Line) (w : Within l) (size : length (l .trains) ≡ 12) where
   last-free : (i : ℕ) (h : i < l .«train_count») → arrival l (freeMinutes l) i (legs l i - 1) ≡ freeArrival (train l i)
   last-free i h = arrives-free i (legs l i - 1) h (omega (arith, legs-few (train l i) (on-path _ (within i h)) .0))
 
-  free-cost : weightedDelay l (freeMinutes l) ≡ 0
-  free-cost =
-      let none : sum (cost l (freeMinutes l)) (l .«train_count») ≤ l .«train_count» * 0 =
-      sum-most (cost l (freeMinutes l)) 0 (l .«train_count»)
-      (λ i h. omega (arith, cost-none l (freeMinutes l) i refl refl refl (omega (arith, last-free i h)))) in
-      sym (cost-end l (freeMinutes l) {s = 0} (omega (arith, none)) refl)
-
   module _ (ends : FreeInTime l) where
     free-fit : Fit 352 (freeMinutes l)
     free-fit = record { size = minutes-size l; within = bounded (λ _. 2879) (λ i k h b. omega (arith, days i k h b)) days }
@@ -170,12 +163,12 @@ module _ (l : Line) (w : Within l) (size : length (l .trains) ≡ 12) where
               bounded (λ x. getD m′ x 0) (λ i j h b. omega (arith, at i j h b, k .trains i h .rule11 j b)) at;
         }
 
-  pub first-plan : (r : FirstPlan) → r .minutes ≡ freeMinutes l → Decides (FreeInTime l) (r .«in_time») → First l r
-  first-plan r e d =
+  pub first-plan : (r : FirstPlan) → r .minutes ≡ freeMinutes l → Decides (FreeInTime l) (r .«in_time») → r .cost ≡ weightedDelay l (r .minutes) → First l r
+  first-plan r e d cost-is =
       record {
         least = λ t. rw e (free-least (d .yea t));
         rule13 = λ t i h. rw e (omega (arith, last-free i h, d .yea t i h));
-        cost = λ t. rw e free-cost;
+        cost-is = cost-is;
         none = λ t m′ f k n. d .nay t (λ i h.
             omega (
               arith,

@@ -12,12 +12,14 @@ use crate::tables::leg_on;
 use line::Line;
 use line::Train;
 use line::legs_between;
+use rules::delay::weighted_delay;
 use rules::directions::directions_of;
 
-// Whether all trains end in time, and if they do the minutes.
+// Whether all trains end in time, and if they do the minutes and what they cost.
 pub struct FirstPlan {
     pub in_time: bool,
     pub minutes: [u16; 352],
+    pub cost: u32,
 }
 
 // The minute at entry x, of the leg that the train has there.
@@ -85,5 +87,10 @@ pub fn first_minutes(line: Line) -> FirstPlan
 {
     let in_time = free_in_time(line);
     let minutes = free_minutes(line);
-    FirstPlan { in_time, minutes }
+    let cost = weighted_delay(line, &minutes);
+    FirstPlan {
+        in_time,
+        minutes,
+        cost,
+    }
 }

@@ -36,10 +36,10 @@ module _ (l : Line) (w : Within l) (a : Arrays l) where
         under-least (planning l) L free start m (under-start (planning l) L) (subst (λ (s : List ℕ). IsLeast 352 (Keeps l free) s m) starts least)
 
     -- what a search is given of it, with nothing found yet
-    pub first-given : EachTrain l (NotLate l m) → weightedDelay l m ≡ 0 → (t ds key : List ℕ) (layout : Layout) → t ≡ tablesOf l → ds ≡ directionsOf l →
+    pub first-given : EachTrain l (NotLate l m) → (cost : ℕ) → cost ≡ weightedDelay l m → (t ds key : List ℕ) (layout : Layout) → t ≡ tablesOf l → ds ≡ directionsOf l →
         key ≡ keyOf l → layout ≡ layoutOf l → (y : Tally) → y .found ≡ false → y .steps ≤ 4294967295 →
-        Given l m free (replicate 352 0) t ds key layout 0 y
-    first-given late cost t ds key layout tables directions keys layout-is y none-yet low =
+        Given l m free (replicate 352 0) t ds key layout cost y
+    first-given late cost cost-is t ds key layout tables directions keys layout-is y none-yet low =
         record {
           tabled = record { within = w; arrays = a; tables = tables; directions = directions };
           keys = keys;
@@ -49,7 +49,7 @@ module _ (l : Line) (w : Within l) (a : Arrays l) where
             keeps = least .keeps;
             tidy = free-tidy l;
             timely = is-true (decides-inTime l m) late;
-            cost-is = sym cost;
+            cost-is = cost-is;
           };
           tallied = record {
             size = length-replicate {A = ℕ} 352 0;

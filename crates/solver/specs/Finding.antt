@@ -15,29 +15,29 @@ use Rattle.plans.specs.declared.tally.Tally.{Tally}
 use Rattle.solver.specs.Searching.{Held, Whole}
 use Rattle.solver.specs.declared.finding.Found.{Found}
 
--- m has the least minutes of the plan without choices, which cost nothing
-abbrev pub First : Line → List ℕ → List ℕ → List ℕ → List ℕ → List ℕ → Layout → Tally → Type 0
-First l m best t ds key layout y = Held l m free best t ds key layout 0 y
+-- m has the least minutes of the plan without choices, and this is what they cost
+abbrev pub First : Line → List ℕ → List ℕ → List ℕ → List ℕ → List ℕ → Layout → ℕ → Tally → Type 0
+First l m best t ds key layout cost y = Held l m free best t ds key layout cost y
 
-pub record CanFind (m best t ds key : List ℕ) (layout : Layout) (y : Tally) : Type 0 where
+pub record CanFind (m best t ds key : List ℕ) (layout : Layout) (cost : ℕ) (y : Tally) : Type 0 where
   pub line : Line
-  pub first : First line m best t ds key layout y
+  pub first : First line m best t ds key layout cost y
 
 -- the best so far stays, or a better lawful timetable takes its place
 pub record Improved (l : Line) (best : List ℕ) (y : Tally) (best′ : List ℕ) (r : Tally) : Type 0 where
   pub tallied : Tallied l best′ r
   pub onward : Onward (planning l) (bestOf y best) (bestOf r best′)
 
-abbrev pub Improves : List ℕ → List ℕ → List ℕ → List ℕ → List ℕ → Layout → Tally → List ℕ → Tally → Type 0
-Improves m best t ds key layout y best′ r = (l : Line) → First l m best t ds key layout y → Improved l best y best′ r
+abbrev pub Improves : List ℕ → List ℕ → List ℕ → List ℕ → List ℕ → Layout → ℕ → Tally → List ℕ → Tally → Type 0
+Improves m best t ds key layout cost y best′ r = (l : Line) → First l m best t ds key layout cost y → Improved l best y best′ r
 
 -- and no lawful timetable is better then, unless the limit ended the search
 pub record SearchedTo (l : Line) (best : List ℕ) (limit : ℕ) (y : Tally) (best′ : List ℕ) (r : Tally) : Type 0 where
   pub improved : Improved l best y best′ r
   pub none-better : Whole limit r → NoneBetter (planning l) free (bestOf r best′)
 
-abbrev pub Searches : List ℕ → List ℕ → List ℕ → List ℕ → List ℕ → Layout → ℕ → Tally → List ℕ → Tally → Type 0
-Searches m best t ds key layout limit y best′ r = (l : Line) → First l m best t ds key layout y → SearchedTo l best limit y best′ r
+abbrev pub Searches : List ℕ → List ℕ → List ℕ → List ℕ → List ℕ → Layout → ℕ → ℕ → Tally → List ℕ → Tally → Type 0
+Searches m best t ds key layout cost limit y best′ r = (l : Line) → First l m best t ds key layout cost y → SearchedTo l best limit y best′ r
 
 -- the best timetable of the line; or no timetable keeps every rule
 pub record Finds (l : Line) (r : Found) : Type 0 where

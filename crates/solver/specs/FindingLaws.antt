@@ -47,9 +47,9 @@ module _ (l : Line) (best : List ℕ) (y b : Tally) (afresh : AfreshOf y b) wher
   afresh-cut cut is t = omega (arith, cut-low l best b (afresh-tallied t))
 
   -- a plan made from the first is one to search
-  pub near-held : (m t ds key : List ℕ) (layout : Layout) → First l m best t ds key layout y → (marks q : List ℕ) (cost : ℕ) → Searchable l marks q cost →
-      Held l q marks best t ds key layout cost b
-  near-held m t ds key layout h marks q cost s =
+  pub near-held : (m t ds key : List ℕ) (layout : Layout) (cost : ℕ) → First l m best t ds key layout cost y → (marks q : List ℕ) (c : ℕ) →
+      Searchable l marks q c → Held l q marks best t ds key layout c b
+  near-held m t ds key layout cost h marks q c s =
       let g = h .given in
       record {
         given = record {
@@ -75,34 +75,34 @@ module _ (l : Line) (best : List ℕ) (y b : Tally) (afresh : AfreshOf y b) wher
   pub searched-sought : (limit : ℕ) (marks′ best′ : List ℕ) (r : Tally) → Sought l free free best limit b marks′ best′ r → SearchedTo l best limit y best′ r
   searched-sought limit marks′ best′ r s = record { improved = improved-sought free free limit marks′ best′ r s; none-better = s .none-better }
 
-pub first-searchable : (l : Line) (m best t ds key : List ℕ) (layout : Layout) (y : Tally) → First l m best t ds key layout y → (q : List ℕ) → q ≡ m →
-    Searchable l free q 0
-first-searchable l m best t ds key layout y h q same =
-    subst (λ (x : List ℕ). Searchable l free x 0) (sym same) (record { planned = h .given .planned; under = h .under })
+pub first-searchable : (l : Line) (m best t ds key : List ℕ) (layout : Layout) (cost : ℕ) (y : Tally) → First l m best t ds key layout cost y → (q : List ℕ) → q ≡ m →
+    Searchable l free q cost
+first-searchable l m best t ds key layout cost y h q same =
+    subst (λ (x : List ℕ). Searchable l free x cost) (sym same) (record { planned = h .given .planned; under = h .under })
 
 -- ---- one after another
 
-pub improves-same : (m best t ds key : List ℕ) (layout : Layout) (y : Tally) → Improves m best t ds key layout y best y
-improves-same m best t ds key layout y l h = record { tallied = h .given .tallied; onward = inl refl }
+pub improves-same : (m best t ds key : List ℕ) (layout : Layout) (cost : ℕ) (y : Tally) → Improves m best t ds key layout cost y best y
+improves-same m best t ds key layout cost y l h = record { tallied = h .given .tallied; onward = inl refl }
 
-module _ (m best t ds key : List ℕ) (layout : Layout) (y : Tally) where
-  pub searches-improves : (limit : ℕ) (best₁ : List ℕ) (r₁ : Tally) → Searches m best t ds key layout limit y best₁ r₁ →
-      Improves m best t ds key layout y best₁ r₁
+module _ (m best t ds key : List ℕ) (layout : Layout) (cost : ℕ) (y : Tally) where
+  pub searches-improves : (limit : ℕ) (best₁ : List ℕ) (r₁ : Tally) → Searches m best t ds key layout cost limit y best₁ r₁ →
+      Improves m best t ds key layout cost y best₁ r₁
   searches-improves limit best₁ r₁ s l h = s l h .improved
 
   -- a search that ended below its limit went to its end
-  pub searches-below : (limit : ℕ) (best₁ : List ℕ) (r₁ : Tally) → r₁ .steps < limit → Searches m best t ds key layout limit y best₁ r₁ →
-      Searches m best t ds key layout 4294967295 y best₁ r₁
+  pub searches-below : (limit : ℕ) (best₁ : List ℕ) (r₁ : Tally) → r₁ .steps < limit → Searches m best t ds key layout cost limit y best₁ r₁ →
+      Searches m best t ds key layout cost 4294967295 y best₁ r₁
   searches-below limit best₁ r₁ low s l h = record { improved = s l h .improved; none-better = λ _. s l h .none-better (inr low) }
 
-  module _ (best₁ : List ℕ) (r₁ : Tally) (i : Improves m best t ds key layout y best₁ r₁) where
-    first-after : (l : Line) → First l m best t ds key layout y → First l m best₁ t ds key layout r₁
-    first-after l h = held-after l m free best t ds key layout 0 0 y h free best₁ r₁ refl (i l h .tallied)
+  module _ (best₁ : List ℕ) (r₁ : Tally) (i : Improves m best t ds key layout cost y best₁ r₁) where
+    first-after : (l : Line) → First l m best t ds key layout cost y → First l m best₁ t ds key layout cost r₁
+    first-after l h = held-after l m free best t ds key layout cost 0 y h free best₁ r₁ refl (i l h .tallied)
 
-    pub find-after : CanFind m best t ds key layout y → CanFind m best₁ t ds key layout r₁
+    pub find-after : CanFind m best t ds key layout cost y → CanFind m best₁ t ds key layout cost r₁
     find-after h = record { line = h .line; first = first-after (h .line) (h .first) }
 
-    pub improves-then : (best₂ : List ℕ) (r₂ : Tally) → Improves m best₁ t ds key layout r₁ best₂ r₂ → Improves m best t ds key layout y best₂ r₂
+    pub improves-then : (best₂ : List ℕ) (r₂ : Tally) → Improves m best₁ t ds key layout cost r₁ best₂ r₂ → Improves m best t ds key layout cost y best₂ r₂
     improves-then best₂ r₂ j l h =
         let after = j l (first-after l h) in
         record {
@@ -110,8 +110,8 @@ module _ (m best t ds key : List ℕ) (layout : Layout) (y : Tally) where
           onward = onward-then (planning l) (bestOf y best) (bestOf r₁ best₁) (bestOf r₂ best₂) (i l h .onward) (after .onward);
         }
 
-    pub searches-then : (limit : ℕ) (best₂ : List ℕ) (r₂ : Tally) → Searches m best₁ t ds key layout limit r₁ best₂ r₂ →
-        Searches m best t ds key layout limit y best₂ r₂
+    pub searches-then : (limit : ℕ) (best₂ : List ℕ) (r₂ : Tally) → Searches m best₁ t ds key layout cost limit r₁ best₂ r₂ →
+        Searches m best t ds key layout cost limit y best₂ r₂
     searches-then limit best₂ r₂ s l h =
         record {
           improved = improves-then best₂ r₂ (λ k f. s k f .improved) l h;

@@ -61,7 +61,7 @@ fn afresh(tally: Tally) -> Tally
     }
 }
 
-// Searches the plan without choices, whose least minutes are m, up to a limit of plans.
+// Searches the plan without choices, whose least minutes are m and cost this, up to a limit of plans.
 fn search_within(
     m: &[u16; 352],
     best: &mut [u16; 352],
@@ -69,12 +69,13 @@ fn search_within(
     ds: &[u16; 176],
     key: &[u16; 132],
     layout: Layout,
+    cost: u32,
     hint: Hint,
     limit: u32,
     tally: Tally,
 ) -> Tally
-    requires { ⌜ CanFind (now m) (now best) (now t) (now ds) (now key) layout tally ⌝ }
-    ensures { λ r. ⌜ Searches (now (m .entry)) (now (best .entry)) (now (t .entry)) (now (ds .entry)) (now (key .entry)) layout limit tally
+    requires { ⌜ CanFind (now m) (now best) (now t) (now ds) (now key) layout cost tally ⌝ }
+    ensures { λ r. ⌜ Searches (now (m .entry)) (now (best .entry)) (now (t .entry)) (now (ds .entry)) (now (key .entry)) layout cost limit tally
         (now (best .exit)) r ⌝ }
 {
     let mut marks = [0u16; 368];
@@ -88,7 +89,7 @@ fn search_within(
         ds,
         key,
         layout,
-        0,
+        cost,
         hint,
         limit,
         b,
@@ -103,19 +104,30 @@ fn search_around(
     ds: &[u16; 176],
     key: &[u16; 132],
     layout: Layout,
+    cost: u32,
     free: u16,
     tally: Tally,
 ) -> Tally
-    requires { ⌜ CanFind (now m) (now best) (now t) (now ds) (now key) layout tally ⌝ }
-    ensures { λ r. ⌜ Improves (now (m .entry)) (now (best .entry)) (now (t .entry)) (now (ds .entry)) (now (key .entry)) layout tally
+    requires { ⌜ CanFind (now m) (now best) (now t) (now ds) (now key) layout cost tally ⌝ }
+    ensures { λ r. ⌜ Improves (now (m .entry)) (now (best .entry)) (now (t .entry)) (now (ds .entry)) (now (key .entry)) layout cost tally
         (now (best .exit)) r ⌝ }
 {
     let b = afresh(tally);
     let mut marks = [0u16; 368];
     let mut q = [0u16; 352];
     copy_minutes(m, &mut q);
-    let cost = keep_orders(&mut q, &mut marks, best, t, ds, layout, free, 0, cut_of(b));
-    if cost == DEAD {
+    let c = keep_orders(
+        &mut q,
+        &mut marks,
+        best,
+        t,
+        ds,
+        layout,
+        free,
+        cost,
+        cut_of(b),
+    );
+    if c == DEAD {
         return b;
     }
     take_up(
@@ -127,7 +139,7 @@ fn search_around(
         ds,
         key,
         layout,
-        cost,
+        c,
         first_hint(false, 0),
         NEAR_LIMIT,
         b,
@@ -155,12 +167,13 @@ fn search_near(
     ds: &[u16; 176],
     key: &[u16; 132],
     layout: Layout,
+    cost: u32,
     number: usize,
     end: usize,
     tally: Tally,
 ) -> Tally
-    requires { ⌜ CanFind (now m) (now best) (now t) (now ds) (now key) layout tally ⌝ }
-    ensures { λ r. ⌜ Improves (now (m .entry)) (now (best .entry)) (now (t .entry)) (now (ds .entry)) (now (key .entry)) layout tally
+    requires { ⌜ CanFind (now m) (now best) (now t) (now ds) (now key) layout cost tally ⌝ }
+    ensures { λ r. ⌜ Improves (now (m .entry)) (now (best .entry)) (now (t .entry)) (now (ds .entry)) (now (key .entry)) layout cost tally
         (now (best .exit)) r ⌝ }
 {
     let mut b = tally;
@@ -169,7 +182,7 @@ fn search_near(
     }
     let mut k = number;
     while k < end {
-        b = search_around(m, best, t, ds, key, layout, free_trains(k), b);
+        b = search_around(m, best, t, ds, key, layout, cost, free_trains(k), b);
         k = k + 1;
     }
     b
@@ -183,10 +196,11 @@ fn search_anew(
     ds: &[u16; 176],
     key: &[u16; 132],
     layout: Layout,
+    cost: u32,
     tally: Tally,
 ) -> Tally
-    requires { ⌜ CanFind (now m) (now best) (now t) (now ds) (now key) layout tally ⌝ }
-    ensures { λ r. ⌜ Improves (now (m .entry)) (now (best .entry)) (now (t .entry)) (now (ds .entry)) (now (key .entry)) layout tally
+    requires { ⌜ CanFind (now m) (now best) (now t) (now ds) (now key) layout cost tally ⌝ }
+    ensures { λ r. ⌜ Improves (now (m .entry)) (now (best .entry)) (now (t .entry)) (now (ds .entry)) (now (key .entry)) layout cost tally
         (now (best .exit)) r ⌝ }
 {
     let mut b = tally;
@@ -197,7 +211,7 @@ fn search_anew(
         }
         k = k + 1;
         let hint = first_hint(false, drawn(k) + 1);
-        b = search_within(m, best, t, ds, key, layout, hint, ANEW_LIMIT, b);
+        b = search_within(m, best, t, ds, key, layout, cost, hint, ANEW_LIMIT, b);
     }
     b
 }
@@ -218,36 +232,59 @@ fn search_whole(
     ds: &[u16; 176],
     key: &[u16; 132],
     layout: Layout,
+    cost: u32,
     tally: Tally,
 ) -> Tally
-    requires { ⌜ CanFind (now m) (now best) (now t) (now ds) (now key) layout tally ⌝ }
-    ensures { λ r. ⌜ Searches (now (m .entry)) (now (best .entry)) (now (t .entry)) (now (ds .entry)) (now (key .entry)) layout 4294967295 tally
+    requires { ⌜ CanFind (now m) (now best) (now t) (now ds) (now key) layout cost tally ⌝ }
+    ensures { λ r. ⌜ Searches (now (m .entry)) (now (best .entry)) (now (t .entry)) (now (ds .entry)) (now (key .entry)) layout cost 4294967295 tally
         (now (best .exit)) r ⌝ }
 {
     let short = first_hint(false, 0);
-    let first = search_within(m, best, t, ds, key, layout, short, FIRST_LIMIT, tally);
+    let first = search_within(m, best, t, ds, key, layout, cost, short, FIRST_LIMIT, tally);
     if first.steps < FIRST_LIMIT {
         return first;
     }
     let limit = again_limit(first);
-    let again = search_within(m, best, t, ds, key, layout, short, limit, first);
+    let again = search_within(m, best, t, ds, key, layout, cost, short, limit, first);
     if again.steps < limit {
         return again;
     }
-    let some = search_anew(m, best, t, ds, key, layout, again);
-    let near = search_near(m, best, t, ds, key, layout, 0, FIRST_NEAR, some);
-    let second = search_within(m, best, t, ds, key, layout, short, SECOND_LIMIT, near);
+    let some = search_anew(m, best, t, ds, key, layout, cost, again);
+    let near = search_near(m, best, t, ds, key, layout, cost, 0, FIRST_NEAR, some);
+    let second = search_within(m, best, t, ds, key, layout, cost, short, SECOND_LIMIT, near);
     if second.steps < SECOND_LIMIT {
         return second;
     }
-    let nearer = search_near(m, best, t, ds, key, layout, FIRST_NEAR, SECOND_NEAR, second);
+    let nearer = search_near(
+        m,
+        best,
+        t,
+        ds,
+        key,
+        layout,
+        cost,
+        FIRST_NEAR,
+        SECOND_NEAR,
+        second,
+    );
     let long = first_hint(true, 0);
-    let third = search_within(m, best, t, ds, key, layout, long, THIRD_LIMIT, nearer);
+    let third = search_within(m, best, t, ds, key, layout, cost, long, THIRD_LIMIT, nearer);
     if third.steps < THIRD_LIMIT {
         return third;
     }
-    let last = search_near(m, best, t, ds, key, layout, SECOND_NEAR, LAST_NEAR, third);
-    search_within(m, best, t, ds, key, layout, long, NO_LIMIT, last)
+    let last = search_near(
+        m,
+        best,
+        t,
+        ds,
+        key,
+        layout,
+        cost,
+        SECOND_NEAR,
+        LAST_NEAR,
+        third,
+    );
+    search_within(m, best, t, ds, key, layout, cost, long, NO_LIMIT, last)
 }
 
 // Finds the best timetable of a line within the limits.
@@ -273,7 +310,7 @@ pub fn best_timetable(line: Line) -> Found
         delay: 0,
         steps: 0,
     };
-    let whole = search_whole(&minutes, &mut best, &t, &ds, &key, layout, none);
+    let whole = search_whole(&minutes, &mut best, &t, &ds, &key, layout, first.cost, none);
     Found {
         found: whole.found,
         minutes: best,

@@ -52,7 +52,7 @@ pub fn best_of(line: Line) -> Found
         &ds,
         &key,
         layout,
-        0,
+        first.cost,
         none,
     );
     Found {

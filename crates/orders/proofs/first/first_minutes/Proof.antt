@@ -12,11 +12,25 @@ free-in-time-requires c κs = search needs
 free-minutes-requires : tie.Need-free-minutes-requires
 free-minutes-requires c κs = search needs
 
+slice-aggregate-weighted-delay : tie.Need-slice-aggregate-weighted-delay
+slice-aggregate-weighted-delay c = search needs
+
+weighted-delay-requires : tie.Need-weighted-delay-requires
+weighted-delay-requires c κs = search needs
+
 returns : tie.Need-returns
 returns c =
-    let a = c .before .before in
+    let a = c .before .before .before .before in
     let size : length (a .args .line .trains) ≡ 12 = sym (length-map (a .args .line .trains) _) ∙ a .good .0 .1 .1 .1 .1 .1 .1 .0 .1 .0 .1 in
-    first-plan (a .args .line) (a .pre) size _ (c .free-minutes .ensures) (c .before .free-in-time .ensures)
+    first-plan (a .args .line) (a .pre) size _ (c .before .before .free-minutes .ensures) (c .before .before .before .free-in-time .ensures)
+    (c .weighted-delay .ensures)
 
 pub first-minutes-spec : {M : Type 1} → statement M
-first-minutes-spec = tie.close (tie.spec free-in-time-requires free-minutes-requires returns)
+first-minutes-spec =
+    tie.close
+    (tie.spec
+    free-in-time-requires
+    free-minutes-requires
+    slice-aggregate-weighted-delay
+    weighted-delay-requires
+    returns)

@@ -49,14 +49,14 @@ least c = firstly c .first-minutes .ensures .least (not-false _ (laid c .before 
 first : (c : tie.After-key) →
     First (firstly c .before .args .line) (firstly c .first-minutes .result .minutes) (replicate 352 0)
     (laid c .before .before .before .tables-of .result) (laid c .before .before .directions-of .result) (laid c .before .key-of .result)
-    (laid c .layout-of .result) (record { found = false; delay = 0; steps = 0 })
+    (laid c .layout-of .result) (firstly c .first-minutes .result .cost) (record { found = false; delay = 0; steps = 0 })
 first c =
     let a = firstly c .before in
     let timely = not-false _ (laid c .before .before .before .before .before .if1 .left) in
     record {
       given =
           first-given (a .args .line) (a .pre .0) (a .pre .1) _ (least c) (firstly c .first-minutes .ensures .rule13 timely)
-          (firstly c .first-minutes .ensures .cost timely) _ _ _ _ (laid c .before .before .before .tables-of .ensures)
+          _ (firstly c .first-minutes .ensures .cost-is) _ _ _ _ (laid c .before .before .before .tables-of .ensures)
           (laid c .before .before .directions-of .ensures) (laid c .before .key-of .ensures) (laid c .layout-of .ensures) _ refl (omega arith);
       under = first-under (a .args .line) (a .pre .0) (a .pre .1) _ (least c);
     }

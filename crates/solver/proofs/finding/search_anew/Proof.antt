@@ -9,13 +9,13 @@ use Rattle.solver.proofs.finding.search_anew.Statement.{statement}
 use Rattle.solver.proofs.finding.search_anew.Tie as tie
 
 abbrev Inv-loop : tie.InvT-loop
-Inv-loop m best₀ t ds key layout b₀ k₀ best b k = Improves m best₀ t ds key layout b₀ best b
+Inv-loop m best₀ t ds key layout cost b₀ k₀ best b k = Improves m best₀ t ds key layout cost b₀ best b
 
 abbrev μ-loop : tie.MeasureT-loop
-μ-loop m best₀ t ds key layout b₀ k₀ best b k = 200 - k
+μ-loop m best₀ t ds key layout cost b₀ k₀ best b k = 200 - k
 
 loop-holds : tie.Need-loop-holds Inv-loop μ-loop
-loop-holds c = improves-same _ _ _ _ _ _ _
+loop-holds c = improves-same _ _ _ _ _ _ _ _
 
 returns : tie.Need-returns Inv-loop μ-loop
 returns c = c .before .before .loop .inv
@@ -34,7 +34,7 @@ first-hint-requires c κs = search needs
 
 search-within-requires : tie.Need-search-within-requires Inv-loop μ-loop
 search-within-requires c κs =
-    let i = c .before .before .before .before .before in find-after _ _ _ _ _ _ _ _ _ (i .loop .inv) (i .before .pre)
+    let i = c .before .before .before .before .before in find-after _ _ _ _ _ _ _ _ _ _ (i .loop .inv) (i .before .pre)
 
 loop-less : tie.Need-loop-less Inv-loop μ-loop
 loop-less c = omega (arith, c .before .before .before .before .before .loop-test .taken)
@@ -42,7 +42,7 @@ loop-less c = omega (arith, c .before .before .before .before .before .loop-test
 loop-again : tie.Need-loop-again Inv-loop μ-loop
 loop-again c =
     let i = c .before .before .before .before .before .before in
-    improves-then _ _ _ _ _ _ _ _ _ (i .loop .inv) _ _ (searches-improves _ _ _ _ _ _ _ _ _ _ (c .search-within .ensures))
+    improves-then _ _ _ _ _ _ _ _ _ _ (i .loop .inv) _ _ (searches-improves _ _ _ _ _ _ _ _ _ _ _ (c .search-within .ensures))
 
 returns-2 : tie.Need-returns-2 Inv-loop μ-loop
 returns-2 c = c .before .loop .inv

@@ -27,7 +27,7 @@ keep-orders-requires c κs =
       record {
         line = p .line;
         among = record { tabled = g .tabled; layout-is = g .layout-is };
-        searchable = first-searchable (p .line) _ _ _ _ _ _ _ (p .first) _ (q .copy-minutes .ensures);
+        searchable = first-searchable (p .line) _ _ _ _ _ _ _ _ (p .first) _ (q .copy-minutes .ensures);
         cut-low = afresh-cut (p .line) _ _ _ (a .afresh .ensures) _ (c .cut-of .ensures) (g .tallied);
       },
       g .tallied .size,
@@ -51,10 +51,10 @@ take-up-requires c κs =
     let p = a .before .pre in
     let g = p .first .given in
     let near = k .keep-orders .ensures (i .if1 .left) .leads (p .line) (record { tabled = g .tabled; layout-is = g .layout-is })
-    (first-searchable (p .line) _ _ _ _ _ _ _ (p .first) _ (q .copy-minutes .ensures)) in
+    (first-searchable (p .line) _ _ _ _ _ _ _ _ (p .first) _ (q .copy-minutes .ensures)) in
     record {
       line = p .line;
-      held = near-held (p .line) _ _ _ (a .afresh .ensures) _ _ _ _ _ (p .first) _ _ _ near;
+      held = near-held (p .line) _ _ _ (a .afresh .ensures) _ _ _ _ _ _ (p .first) _ _ _ near;
       former-size = g .planned .fit .size;
     }
 
@@ -67,8 +67,8 @@ returns-2 c l h =
     let a = q .before .before in
     let g = h .given in
     let near = k .keep-orders .ensures (i .if1 .left) .leads l (record { tabled = g .tabled; layout-is = g .layout-is })
-    (first-searchable l _ _ _ _ _ _ _ h _ (q .copy-minutes .ensures)) in
-    improved-sought l _ _ _ (a .afresh .ensures) _ _ _ _ _ _ (c .take-up .ensures l (near-held l _ _ _ (a .afresh .ensures) _ _ _ _ _ h _ _ _ near))
+    (first-searchable l _ _ _ _ _ _ _ _ h _ (q .copy-minutes .ensures)) in
+    improved-sought l _ _ _ (a .afresh .ensures) _ _ _ _ _ _ (c .take-up .ensures l (near-held l _ _ _ (a .afresh .ensures) _ _ _ _ _ _ h _ _ _ near))
 
 pub search-around-spec : {M : Type 1} → statement M
 search-around-spec =

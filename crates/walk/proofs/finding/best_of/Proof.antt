@@ -49,13 +49,13 @@ least c = first c .first-minutes .ensures .least (not-false _ (laid c .before .b
 given : (c : tie.After-key) →
     Given (first c .before .args .line) (first c .first-minutes .result .minutes) (replicate 368 0) (replicate 352 0)
     (laid c .before .before .before .tables-of .result) (laid c .before .before .directions-of .result) (laid c .before .key-of .result)
-    (laid c .layout-of .result) 0 (record { found = false; delay = 0; steps = 1 })
+    (laid c .layout-of .result) (first c .first-minutes .result .cost) (record { found = false; delay = 0; steps = 1 })
 unfolding free
 given c =
     let a = first c .before in
     let timely = not-false _ (laid c .before .before .before .before .before .if1 .left) in
     first-given (a .args .line) (a .pre .0) (a .pre .1) _ (least c) (first c .first-minutes .ensures .rule13 timely)
-    (first c .first-minutes .ensures .cost timely) _ _ _ _ (laid c .before .before .before .tables-of .ensures)
+    _ (first c .first-minutes .ensures .cost-is) _ _ _ _ (laid c .before .before .before .tables-of .ensures)
     (laid c .before .before .directions-of .ensures) (laid c .before .key-of .ensures) (laid c .layout-of .ensures) _ refl (omega arith)
 
 take-up-requires : tie.Need-take-up-requires
