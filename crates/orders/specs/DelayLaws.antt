@@ -13,6 +13,7 @@ use Rattle.line.specs.Within.{Within, Arrays}
 use Rattle.rules.specs.Paths.{train, legs, segmentOf}
 use Rattle.rules.specs.Minutes.{departs}
 use Rattle.rules.specs.Delay.{delay, weightedDelay}
+use Rattle.rules.specs.RulesLaws.{cost, cost-sum}
 use Rattle.rules.specs.PathsLaws.{routed, legs-few, segment-below}
 use Rattle.orders.specs.Tables.{weightIn, freeIn, costIn, tablesOf}
 use Rattle.orders.specs.TableLegsLaws.{weight-last, free-last, weight-else}
@@ -55,10 +56,10 @@ module _ (l : Line) (w : Within l) (r : Arrays l) (m : List ℕ) where
           there ∙ ap (segmentOf (train l j)) leg ∙ ap (λ (y : ℕ). segmentOf (train l y) (legs l y - 1)) same
 
   pub cost-is : costIn (tablesOf l) m ≡ weightedDelay l m
-  unfolding costIn weightedDelay
+  unfolding costIn
   cost-is =
       let n = l .«train_count» in
       let all : n + (16 - n) ≡ 16 = omega (arith, w .trains .1) in
       sum-columns legCost 16 11 ∙ ap (sum trainCost) (sym all) ∙ sum-parts trainCost n (16 - n) ∙
-      rw (sum-none (λ i. trainCost (n + i)) (16 - n) (λ i b. cost-past i (omega arith)), sum-same trainCost (λ i. train l i .weight * delay l m i) n cost-of)
-      (omega arith)
+      rw (sum-none (λ i. trainCost (n + i)) (16 - n) (λ i b. cost-past i (omega arith)), sum-same trainCost (cost l m) n cost-of)
+      (omega (arith, cost-sum l m))

@@ -5,12 +5,11 @@ use mathlib.Core.Logic.{inl, inr, ⊎-elim}
 use mathlib.Core.Bool.{Bool, true, false, cond}
 use mathlib.Core.List.{List}
 use native.Mathlib.Decide.{decLt}
-use native.Mathlib.Nat.{mul-le-mul-left}
 use native.Mathlib.Omega.{arith}
 use lib.ListN.{getD}
 use Rattle.text.specs.Decide.{Decides, is-true, decides-and, decides-lt}
 use Rattle.text.specs.Below.{decides-all}
-use Rattle.text.specs.BelowLaws.{sum-grows, table-at, table-past, table-grows}
+use Rattle.text.specs.BelowLaws.{table-at, table-past, table-grows}
 use Rattle.line.specs.declared.Line.{Line}
 use Rattle.line.specs.Within.{Within, Arrays}
 use Rattle.rules.specs.Paths.{train, legs, EachTrain}
@@ -18,7 +17,7 @@ use Rattle.rules.specs.Minutes.{departure}
 use Rattle.rules.specs.Rules.{NotLate}
 use Rattle.rules.specs.Delay.{weightedDelay, Same, compared, Earlier, Preferred}
 use Rattle.rules.specs.PathsLaws.{legs-few, routed}
-use Rattle.rules.specs.RulesLaws.{cost, decides-13}
+use Rattle.rules.specs.RulesLaws.{delay-grows, decides-13}
 use Rattle.orders.specs.NoLater.{_⊑_}
 use Rattle.orders.specs.PlanArcs.{departsAt, arrivesAt}
 use Rattle.plans.specs.Ranking.{Ahead}
@@ -30,10 +29,7 @@ use Rattle.plans.specs.Planning.{isLeg, departures, inTime, planning}
 
 module _ (l : Line) where
   pub delay-up : (m m′ : List ℕ) → m ⊑ m′ → weightedDelay l m ≤ weightedDelay l m′
-  unfolding weightedDelay
-  delay-up m m′ h =
-      sum-grows (cost l m) (cost l m′) (l .«train_count»)
-      (λ i _. mul-le-mul-left (train l i .weight) (omega (arith, h (arrivesAt l i (legs l i - 1)))))
+  delay-up m m′ h = delay-grows l m m′ (λ i _. h (arrivesAt l i (legs l i - 1)))
 
   entry-up : (b : Bool) (x y : ℕ) → x ≤ y → cond b x 0 ≤ cond b y 0
   entry-up true x y h = h

@@ -10,7 +10,7 @@ use native.Mathlib.Omega.{arith}
 use lib.Dec.{ltb, eqb}
 use Rattle.text.specs.EachLaws.{each-at}
 use Rattle.text.specs.Decide.{Decides, is-true, decides-self, decides-and, decides-not, decides-lt, decides-eq}
-use Rattle.text.specs.Below.{gather, First, first, first-is, count, count-grows}
+use Rattle.text.specs.Below.{gather, First, first, first-is, count}
 use Rattle.text.specs.BelowLaws.{count-nth, gather-in, gather-from}
 use Rattle.line.specs.declared.Line.{Line}
 use Rattle.line.specs.Ranges.{In, tracks}
@@ -20,14 +20,15 @@ use Rattle.rules.specs.declared.conflicts.SegmentConflict.{SegmentConflict}
 use Rattle.rules.specs.declared.conflicts.StationConflict.{StationConflict}
 use Rattle.rules.specs.Paths.{train, Middle}
 use Rattle.rules.specs.Minutes.{departsOn, arrivesOn}
-use Rattle.rules.specs.Rules.{Lawful, came, goes, stands, standing}
+use Rattle.rules.specs.Rules.{Lawful, came, goes}
 use Rattle.rules.specs.PathsLaws.{middle-legs}
+use Rattle.rules.specs.RulesLaws.{room-most}
 use Rattle.rules.specs.Conflicts.{conflictOf}
 use Rattle.rules.specs.Standing.{Largest, largest}
 use Rattle.orders.specs.Bits.{inMask}
 use Rattle.orders.specs.Choices.{Choice, onSegment, atStation, Of, Shared, KeepsChoice}
 use Rattle.plans.specs.Ways.{twoOf, wayOf, wayCount, waysOf, ways}
-use Rattle.plans.specs.ConflictFacts.{decides-stands, Crowded, Real, conflict-real}
+use Rattle.plans.specs.ConflictFacts.{Crowded, Real, conflict-real}
 
 -- ---- which the ways are
 
@@ -146,7 +147,6 @@ module _ (l : Line) (w : Within l) (r : Arrays l) (m : List ℕ) where
 
     -- Of the crowd, the last to come at m′ comes after another has left: else all of them stand there when it comes.
     crowd-goes : (x : StationConflict) → Crowded l m x → (a : ℕ) × (b : ℕ) × Has x a × Has x b × (goes l m′ (x .station) a < came l m′ (x .station) b)
-    unfolding standing
     crowd-goes x h = go (first f n) (first-is f n)
       where
         n : ℕ
@@ -172,11 +172,11 @@ module _ (l : Line) (w : Within l) (r : Arrays l) (m : List ℕ) where
         go : (o : Option ℕ) → First f n o → (a : ℕ) × (b : ℕ) × Has x a × Has x b × (goes l m′ s a < came l m′ s b)
         go (some a) q = let c = d a .yea (q .1) in (a, b, c .0, last .passes, c .1)
         go none q =
-            let all = count-grows (inMask (x .trains)) (stands l m′ s (came l m′ s b)) n (λ a k c.
-            let g : ¬ (goes l m′ s a < came l m′ s b) = λ y. d a .nay (q a k) (c, y) in
-            is-true (decides-stands l m′ s (came l m′ s b) a) (h .trains a c .1 .0, (last .most a k c, omega arith))) in
             let day = stays s b (last .below) (h .trains b (last .passes) .1 .0) .1 in
-            absurd (omega (arith, h .many, all, lawful .rule15 s (h .place) (came l m′ s b) (omega (arith, day))))
+            let most = room-most l m′ s (lawful .rule15 s (h .place)) (came l m′ s b) (omega (arith, day)) (inMask (x .trains)) (λ a k c.
+            let g : ¬ (goes l m′ s a < came l m′ s b) = λ y. d a .nay (q a k) (c, y) in
+            (h .trains a c .1 .0, (last .most a k c, omega arith))) in
+            absurd (omega (arith, h .many, most))
 
     pub goes-of : (c : Conflict) → Real l m c → (c ≡ Conflict.Nothing → ⊥) → (v : Choice) × List·Memᴰ v (waysOf c) × Of l v × KeepsChoice l m′ v
     goes-of Conflict.Nothing h n = absurd (n refl)

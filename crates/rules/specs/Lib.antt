@@ -16,8 +16,9 @@ pub mod ConflictsLaws
 pub mod Standing
 pub mod StationLaws
 pub mod RulesLaws
-pub mod BreachesLaws
+pub mod FoundLaws
 pub mod LowestLaws
+pub mod BreachesLaws
 pub mod ScanningLaws
 pub mod OrdersCarry
 pub mod OrdersLaws

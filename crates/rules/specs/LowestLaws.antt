@@ -1,20 +1,16 @@
 -- Below the lowest conflict there is none: it is on the lowest segment that has one, or at a station where no segment has.
-use Prim.Native.Nat.{ℕ, zero, suc, _+_, _-_, _<_}
+use Prim.Native.Nat.{ℕ, zero, suc, _-_, _<_}
 use mathlib.Core.Path.{_≡_, refl}
-use mathlib.Core.Bool.{Bool, true, false, cond, _&&_}
 use mathlib.Core.List.{List}
 use native.Mathlib.Omega.{arith}
 use lib.ListN.{getD}
-use lib.Dec.{ltb}
 use Rattle.line.specs.declared.Segment.{Segment}
 use Rattle.line.specs.Record.{noSegment}
 use Rattle.rules.specs.declared.conflicts.Conflict.{Conflict}
 use Rattle.rules.specs.declared.conflicts.Layout.{Layout}
-use Rattle.rules.specs.declared.passages.TrainFound.{TrainFound}
-use Rattle.rules.specs.declared.stations.MinuteFound.{MinuteFound}
-use Rattle.rules.specs.Conflicts.{orConflict, firstConflict, partnerOf, pairWith, pairOn, segmentConflict, earliestCrowd, crowdAt, crowdOn, stationConflict, conflictIn}
+use Rattle.rules.specs.Conflicts.{orConflict, firstConflict, pairOn, segmentConflict, stationConflict, conflictIn}
 use Rattle.rules.specs.ConflictsLaws.{NoSegment}
-use Rattle.rules.specs.BreachesLaws.{first-holds}
+use Rattle.rules.specs.FoundLaws.{pair-holds, station-holds}
 
 -- a conflict on segment p, or none
 abbrev OnlyOn : ℕ → Conflict → Type 0
@@ -22,13 +18,8 @@ OnlyOn p Conflict.Nothing = Unit {0}
 OnlyOn p (Conflict.OnSegment x) = x .segment ≡ p
 OnlyOn p (Conflict.AtStation x) = ⊥
 
-with-only : (p i : ℕ) (f : TrainFound) → OnlyOn p (pairWith p i f)
-with-only p i TrainFound.Nobody = tt
-with-only p i (TrainFound.Train j) = refl
-
 pair-only : (g : Segment) (ds m : List ℕ) (n p : ℕ) → OnlyOn p (pairOn g ds m n p)
-unfolding pairOn
-pair-only g ds m n p = first-holds (OnlyOn p) (λ i. pairWith p i (partnerOf g ds m p n i)) n tt (λ i _. with-only p i (partnerOf g ds m p n i))
+pair-only g ds m n p = pair-holds (OnlyOn p) tt g ds m n p (λ i j _ _ _. refl)
 
 -- a conflict at a station, or none
 abbrev OnlyStation : Conflict → Type 0
@@ -36,17 +27,8 @@ OnlyStation Conflict.Nothing = Unit {0}
 OnlyStation (Conflict.OnSegment x) = ⊥
 OnlyStation (Conflict.AtStation x) = Unit {0}
 
-crowd-only : (ds m : List ℕ) (n tracks s : ℕ) (f : MinuteFound) (b : Bool) → OnlyStation (cond b (crowdAt ds m n tracks s f) Conflict.Nothing)
-crowd-only ds m n tracks s MinuteFound.Never true = tt
-crowd-only ds m n tracks s MinuteFound.Never false = tt
-crowd-only ds m n tracks s (MinuteFound.Minute t) true = tt
-crowd-only ds m n tracks s (MinuteFound.Minute t) false = tt
-
 station-only : (tracks ds m : List ℕ) (stations n : ℕ) → OnlyStation (stationConflict tracks ds m stations n)
-unfolding stationConflict crowdOn
-station-only tracks ds m stations n =
-    first-holds OnlyStation (crowdOn tracks ds m stations n) stations tt
-    (λ s _. crowd-only ds m n (getD tracks s 0) s (earliestCrowd ds m n (getD tracks s 0) s) (ltb 0 s && ltb (s + 1) stations))
+station-only tracks ds m stations n = station-holds OnlyStation tt tracks ds m stations n (λ s low high t _. tt)
 
 -- the first of those at the numbers below n, each on its own segment, has none before it
 module _ (f : ℕ → Conflict) where

@@ -10,7 +10,7 @@ use Rattle.line.specs.declared.Kind.{Kind}
 use Rattle.line.specs.declared.Segment.{Segment}
 use Rattle.line.specs.declared.Train.{Train}
 use Rattle.line.specs.declared.Line.{Line}
-use Rattle.rules.specs.Paths.{train, segmentCount, segment, tracksAt, runOf, stopOf, legs, originAt, destinationAt, sameWay, Uses, into, outOf, EachTrain, EachLeg}
+use Rattle.rules.specs.Paths.{train, segmentCount, segment, tracksAt, runOf, stopOf, legs, originAt, destinationAt, sameWay, Uses, Middle, into, outOf, EachTrain, EachLeg}
 use Rattle.rules.specs.Minutes.{departsOn, arrivesOn, departure, arrival, lastArrival}
 
 -- "a departure and an arrival, each 0 to 2,879, for each of its segments"
@@ -73,6 +73,10 @@ middle t s = ltb (min (originAt t) (destinationAt t)) s && ltb s (max (originAt 
 
 unfoldable pub stands : Line → List ℕ → ℕ → ℕ → ℕ → Bool
 stands l m s t i = middle (train l i) s && (leb (came l m s i) t && leb t (goes l m s i))
+
+-- the same as a statement
+abbrev pub Stands : Line → List ℕ → ℕ → ℕ → ℕ → Type 0
+Stands l m s t i = Middle (train l i) s × ((came l m s i ≤ t) × (t ≤ goes l m s i))
 
 unfoldable pub standing : Line → List ℕ → ℕ → ℕ → ℕ
 standing l m s t = count (stands l m s t) (l .«train_count»)

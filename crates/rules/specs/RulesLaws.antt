@@ -1,26 +1,27 @@
--- Laws of free arrival and weighted delay, and of the tests of rules 10 to 13: each test decides its rule.
-use Prim.Native.Nat.{ℕ, suc, _+_, _*_, _-_, _≤_}
+-- Laws of free arrival and weighted delay, of the tests of rules 10 to 13 (each test decides its rule), and of who stands by rule 15.
+use Prim.Native.Nat.{ℕ, suc, _+_, _*_, _-_, _≤_, _<_}
 use mathlib.Core.Path.{_≡_, refl, sym, _∙_, ap}
 use mathlib.Core.Logic.{⊎-elim}
-use mathlib.Core.Bool.{Bool}
+use mathlib.Core.Bool.{Bool, true}
 use mathlib.Core.List.{List}
-use native.Mathlib.Nat.{mul-zero, mul-le-mul}
+use native.Mathlib.Nat.{mul-zero, mul-le-mul, mul-le-mul-left}
 use native.Mathlib.Numerals.{add-one}
 use native.Mathlib.Omega.{arith}
 use borrow.Author.Tests.{eq-eqb, ne-eqb}
 use lib.ListN.{getD}
 use lib.Dec.{leb}
-use Rattle.text.specs.Decide.{Decides, decides-le, decides-eq}
-use Rattle.text.specs.Below.{EachBelow, sum, sum-more, decides-all}
-use Rattle.text.specs.BelowLaws.{sum-most}
+use Rattle.text.specs.Decide.{Decides, is-true, decides-and, decides-le, decides-eq}
+use Rattle.text.specs.Below.{EachBelow, count, count-grows, sum, sum-more, decides-all}
+use Rattle.text.specs.BelowLaws.{sum-most, sum-grows}
 use Rattle.line.specs.declared.Train.{Train}
 use Rattle.line.specs.declared.Line.{Line}
 use Rattle.line.specs.Record.{legsOf}
 use Rattle.line.specs.Within.{Within}
-use Rattle.rules.specs.Paths.{train, legs, EachTrain}
-use Rattle.rules.specs.PathsLaws.{routed-within, legs-few, train-or-past}
+use Rattle.rules.specs.Paths.{train, legs, tracksAt, EachTrain}
+use Rattle.rules.specs.Minutes.{lastArrival}
+use Rattle.rules.specs.PathsLaws.{routed-within, legs-few, train-or-past, decides-middle}
 use Rattle.rules.specs.Delay.{freeAfter, freeArrival, delay, weightedDelay}
-use Rattle.rules.specs.Rules.{InDays, NotEarly, Runs, Stops, NotLate}
+use Rattle.rules.specs.Rules.{InDays, NotEarly, Runs, Stops, NotLate, stands, Stands, standing, Room}
 use Rattle.rules.specs.Tests.{departureOf, arrivalOf, startsRight, runsRight, stopsRight, endsRight, keepsRule}
 
 -- ---- free arrival
@@ -87,6 +88,17 @@ module _ (l : Line) (m : List ℕ) where
       rw none (omega arith))
       (train-or-past l i w h))
 
+  -- it is the sum of the trains' terms
+  pub cost-sum : weightedDelay l m ≡ sum cost (l .«train_count»)
+  unfolding weightedDelay
+  cost-sum = refl
+
+-- it does not fall as last arrivals rise
+pub delay-grows : (l : Line) (m m′ : List ℕ) → EachTrain l (λ i. lastArrival l m i ≤ lastArrival l m′ i) → weightedDelay l m ≤ weightedDelay l m′
+unfolding weightedDelay
+delay-grows l m m′ h =
+    sum-grows (cost l m) (cost l m′) (l .«train_count») (λ i n. mul-le-mul-left (train l i .weight) (omega (arith, h i n)))
+
 -- ---- each test decides its rule
 
 module _ (t : Train) (m : List ℕ) (i : ℕ) where
@@ -139,3 +151,16 @@ module _ (l : Line) (m : List ℕ) (i : ℕ) where
   pub decides-13 : Decides (NotLate l m i) (keepsRule 13 (train l i) m i)
   unfolding keepsRule endsRight
   decides-13 = decides-le _ _
+
+-- ---- rule 15
+
+pub decides-stands : (l : Line) (m : List ℕ) (s t i : ℕ) → Decides (Stands l m s t i) (stands l m s t i)
+unfolding stands
+decides-stands l m s t i = decides-and (decides-middle (train l i) s) (decides-and (decides-le _ _) (decides-le _ _))
+
+-- trains that all stand at a station at one minute are no more than its tracks
+pub room-most : (l : Line) (m : List ℕ) (s : ℕ) → Room l m s → (t : ℕ) → t < 2880 → (f : ℕ → Bool) →
+    EachBelow (l .«train_count») (λ i. f i ≡ true → Stands l m s t i) → count f (l .«train_count») ≤ tracksAt l s
+unfolding standing
+room-most l m s room t day f all =
+    omega (arith, room t day, count-grows f (stands l m s t) (l .«train_count») (λ i n e. is-true (decides-stands l m s t i) (all i n e)))

@@ -2,7 +2,7 @@
 -- a conflict. Assumes nothing.
 use Prim.Native.Nat.{ℕ, zero, suc, _+_, _-_, _*_, _^_, _≤_, _<_}
 use mathlib.Core.Path.{_≡_, refl, sym, _∙_, ap, subst}
-use mathlib.Core.Bool.{Bool, true, false, _&&_}
+use mathlib.Core.Bool.{Bool, true, false, cond, _&&_}
 use mathlib.Core.Option.{Option, some, none}
 use mathlib.Core.List.{List}
 use native.Mathlib.Nat.{pow-suc}
@@ -15,7 +15,7 @@ use borrow.Author.Count.{below-more}
 use borrow.Author.Tests.{lt-ltb, le-ltb, le-leb, lt-leb, eq-eqb, ne-eqb, ltb-false}
 use Rattle.text.specs.Decide.{Decides, is-false, decides-as, decides-and, decides-lt, decides-le, decides-self}
 use Rattle.text.specs.Below.{EachBelow, each-more, first-found, first-none, none-first, count, sum, sum-more}
-use Rattle.text.specs.BelowLaws.{table-size}
+use Rattle.text.specs.BelowLaws.{table-size, count-lowest}
 use Rattle.line.specs.declared.Segment.{Segment}
 use Rattle.line.specs.declared.Line.{Line}
 use Rattle.line.specs.Record.{noSegment}
@@ -182,6 +182,22 @@ module _ (ds m : List ℕ) (tracks s t i mask : ℕ) (e : mask ≡ crowdMask ds 
   pub mask-full : (k : ℕ) → standsAt ds m s t i ≡ true → k ≡ count (standsAt ds m s t) i → tracks < k → mask ≡ crowdMask ds m (i + 1) tracks s t
   unfolding crowdMask inCrowd
   mask-full k h c l = rw (sum-more, h, lt-leb (count (standsAt ds m s t) i) tracks (omega arith)) (omega arith)
+
+module _ (ds m : List ℕ) (n tracks s t : ℕ) where
+  -- it has the bits of the trains in the crowd
+  pub mask-sum : crowdMask ds m n tracks s t ≡ sum (λ i. cond (inCrowd ds m tracks s t i) (2 ^ i) 0) n
+  unfolding crowdMask
+  mask-sum = refl
+
+  -- each of them stands there
+  pub crowd-stands : (i : ℕ) → inCrowd ds m tracks s t i ≡ true → standsAt ds m s t i ≡ true
+  unfolding inCrowd
+  crowd-stands i e = decides-and (decides-self (standsAt ds m s t i)) (decides-le (count (standsAt ds m s t) i) tracks) .yea e .0
+
+  -- "one more train than tracks", where more stand there
+  pub crowd-many : tracks < standingAt ds m n s t → count (inCrowd ds m tracks s t) n ≡ tracks + 1
+  unfolding inCrowd standingAt
+  crowd-many h = omega (arith, count-lowest (standsAt ds m s t) n tracks)
 
 pub mask-start : (ds m : List ℕ) (tracks s t : ℕ) → 0 ≡ crowdMask ds m 0 tracks s t
 unfolding crowdMask sum
