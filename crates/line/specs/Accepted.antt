@@ -1,5 +1,5 @@
 -- What is accepted is the text of its line: each part that was read is within the limits, and its bytes are its text.
-use Prim.Native.Nat.{ℕ, zero, suc, _+_, _-_, _<_, _≤_}
+use Prim.Native.Nat.{ℕ, zero, suc, _-_, _<_, _≤_}
 use mathlib.Core.Path.{_≡_, refl, sym, ap, _∙_}
 use mathlib.Core.Bool.{Bool, true, false}
 use mathlib.Core.List.{List, [], _∷_}
@@ -15,8 +15,8 @@ use Rattle.text.specs.Bytes.{byteAt, from, ahead, pastOf}
 use Rattle.text.specs.BytesLaws.{from-cons, past-spelt}
 use Rattle.text.specs.Lists.{padded, take-padded, padded-length}
 use Rattle.text.specs.Each.{eachThen, Each}
-use Rattle.text.specs.Parsed.{Parsed, many}
-use Rattle.text.specs.ParsedLaws.{then-got, got-is, ranged-spelt, PartSpelt, many-spelt}
+use Rattle.text.specs.Parsed.{Parsed, lines}
+use Rattle.text.specs.ParsedLaws.{then-got, pick-got, got-is, ranged-spelt, PartSpelt, many-spelt}
 use Rattle.line.specs.declared.Kind.{Kind}
 use Rattle.line.specs.declared.Segment.{Segment}
 use Rattle.line.specs.declared.Train.{Train}
@@ -26,7 +26,7 @@ use Rattle.line.specs.declared.reading.Path.{Path}
 use Rattle.line.specs.declared.reading.Head.{Head}
 use Rattle.line.specs.Ranges.{In, stationCount, tracks, gap, trainCount, station, time, weight, run, stop}
 use Rattle.line.specs.Record.{noSegment, noTrain, legsBetween, tidyTrain}
-use Rattle.line.specs.File.{number, stationLine, letterOf, onLetter, kindAt, segmentLine, pathAt, headAt, Journey, journeyAt, trainWith, trainLine, trainsPart, segmentsPart, stationsPart, fileFrom, lineFile}
+use Rattle.line.specs.File.{number, stationLine, letterOf, onLetter, kindAt, segmentLine, pathAt, headAt, Journey, journeyAt, trainWith, trainLine, Section, sectionAt, stationSection, segmentSection, trainSection, joins, lineWith, lineAt, fileFrom, lineFile}
 use Rattle.line.specs.Spell.{field, stationText, letterByte, segmentText, journeyText, trainText}
 use Rattle.line.specs.RecordLaws.{path-legs}
 use Rattle.line.specs.FileLaws.{letter-byte, letter-inside}
@@ -37,28 +37,28 @@ pub record NumberSpelt (r : Limits) (b : ℕ) (s : List ℕ) (c : Cursor) (n : �
   pub range : In r n
   pub text : from s c ≡ field n b (from s next)
 
-number-spelt : (r : Limits) (b p : ℕ) (s : List ℕ) (c : Cursor) (n : ℕ) (next : Cursor) → b < 256 → number r b p s c ≡ Parsed.got n next →
+number-spelt : (r : Limits) (b : ℕ) (s : List ℕ) (c : Cursor) (n : ℕ) (next : Cursor) → b < 256 → number r b s c ≡ Parsed.got n next →
     NumberSpelt r b s c n next
-number-spelt r b p s c n next h e =
-    let a = ranged-spelt 2 3 (r .min) (r .max) b p s c n next h e in
+number-spelt r b s c n next h e =
+    let a = ranged-spelt 2 3 (r .min) (r .max) b s c n next h e in
     record { range = (a .low, a .high); text = a .text }
 
 -- ---- stations
 
-station-spelt : (s : List ℕ) (p : ℕ) (c : Cursor) (t : ℕ) (next : Cursor) → stationLine p s c ≡ Parsed.got t next →
-    PartSpelt (In tracks) stationText stationLine s c t next
-station-spelt s p c t next e =
-    let a = number-spelt tracks 10 p s c t next (omega arith) e in
+station-spelt : (s : List ℕ) (c : Cursor) (t : ℕ) (next : Cursor) → stationLine s c ≡ Parsed.got t next →
+    PartSpelt (In tracks) stationText s c t next
+station-spelt s c t next e =
+    let a = number-spelt tracks 10 s c t next (omega arith) e in
     record { valid = a .range; spelt = a .text }
 
 -- ---- segments
 
-kind-spelt : (p : ℕ) (s : List ℕ) (c : Cursor) (k : Kind) (next : Cursor) → kindAt p s c ≡ Parsed.got k next → from s c ≡ letterByte k ∷ (32 ∷ from s next)
+kind-spelt : (s : List ℕ) (c : Cursor) (k : Kind) (next : Cursor) → kindAt s c ≡ Parsed.got k next → from s c ≡ letterByte k ∷ (32 ∷ from s next)
 unfolding kindAt
-kind-spelt p s c k next e = go (letterOf (byteAt s c)) refl e
+kind-spelt s c k next e = go (letterOf (byteAt s c)) refl e
   where
     step : (m : Kind) → letterOf (byteAt s c) ≡ Letter.Found m → (y : Step) → pastOf s (ahead c) 32 ≡ y →
-        onStep y (λ x. Parsed.got m x) (Parsed.bad 2 p) ≡ Parsed.got k next → from s c ≡ letterByte k ∷ (32 ∷ from s next)
+        onStep y (λ x. Parsed.got m x) (Parsed.bad 2 (c .line)) ≡ Parsed.got k next → from s c ≡ letterByte k ∷ (32 ∷ from s next)
     step m hx (Step.Next x) hy f =
         let q : m ≡ k = cc in
         let z : x ≡ next = cc in
@@ -68,24 +68,24 @@ kind-spelt p s c k next e = go (letterOf (byteAt s c)) refl e
     step m hx Step.Wrong hy f = let z : _≡_ {A = ℕ} 0 1 = cc in absurd (omega arith)
 
     go : (x : Letter) → letterOf (byteAt s c) ≡ x →
-        onLetter x (λ m. onStep (pastOf s (ahead c) 32) (λ y. Parsed.got m y) (Parsed.bad 2 p)) (Parsed.bad 2 p) ≡ Parsed.got k next →
+        onLetter x (λ m. onStep (pastOf s (ahead c) 32) (λ y. Parsed.got m y) (Parsed.bad 2 (c .line))) (Parsed.bad 2 (c .line)) ≡ Parsed.got k next →
         from s c ≡ letterByte k ∷ (32 ∷ from s next)
     go (Letter.Found m) hx f = step m hx (pastOf s (ahead c) 32) refl f
     go Letter.Other hx f = let z : _≡_ {A = ℕ} 0 1 = cc in absurd (omega arith)
 
-segment-spelt : (s : List ℕ) (p : ℕ) (c : Cursor) (g : Segment) (next : Cursor) → segmentLine p s c ≡ Parsed.got g next →
-    PartSpelt SegmentWithin segmentText segmentLine s c g next
+segment-spelt : (s : List ℕ) (c : Cursor) (g : Segment) (next : Cursor) → segmentLine s c ≡ Parsed.got g next →
+    PartSpelt SegmentWithin segmentText s c g next
 unfolding segmentLine
-segment-spelt s p c g next e =
-    let k = then-got (kindAt p s c) _ g next e in
-    let f = then-got (number gap 32 p s (k .next)) _ g next (k .after) in
-    let o = then-got (number gap 10 p s (f .next)) _ g next (f .after) in
-    let following = number-spelt gap 32 p s (k .next) (f .value) (f .next) (omega arith) (f .first) in
-    let opposing = number-spelt gap 10 p s (f .next) (o .value) (o .next) (omega arith) (o .first) in
-    got-is (λ x end. PartSpelt SegmentWithin segmentText segmentLine s c x end) (o .after) (record {
+segment-spelt s c g next e =
+    let k = then-got (kindAt s c) _ g next e in
+    let f = then-got (number gap 32 s (k .next)) _ g next (k .after) in
+    let o = then-got (number gap 10 s (f .next)) _ g next (f .after) in
+    let following = number-spelt gap 32 s (k .next) (f .value) (f .next) (omega arith) (f .first) in
+    let opposing = number-spelt gap 10 s (f .next) (o .value) (o .next) (omega arith) (o .first) in
+    got-is (λ x end. PartSpelt SegmentWithin segmentText s c x end) (o .after) (record {
       valid = record { following = following .range; opposing = opposing .range };
       spelt =
-          kind-spelt p s c (k .value) (k .next) (k .first)
+          kind-spelt s c (k .value) (k .next) (k .first)
           ∙ ap (λ (l : List ℕ). letterByte (k .value) ∷ (32 ∷ l)) (following .text)
           ∙ ap (λ (l : List ℕ). letterByte (k .value) ∷ (32 ∷ field (f .value) 32 l)) (opposing .text);
     })
@@ -98,21 +98,21 @@ record PathSpelt (n : ℕ) (s : List ℕ) (c : Cursor) (h : Path) (next : Cursor
   apart : h .destination ≡ h .origin → ⊥
   text : from s c ≡ field (h .origin) 32 (field (h .destination) 32 (from s next))
 
-path-spelt : (n p : ℕ) (s : List ℕ) (c : Cursor) (h : Path) (next : Cursor) → pathAt n p s c ≡ Parsed.got h next → PathSpelt n s c h next
+path-spelt : (n : ℕ) (s : List ℕ) (c : Cursor) (h : Path) (next : Cursor) → pathAt n s c ≡ Parsed.got h next → PathSpelt n s c h next
 unfolding pathAt
-path-spelt n p s c h next e =
-    let o = then-got (number (station n) 32 p s c) _ h next e in
-    let d = then-got (number (station n) 32 p s (o .next)) _ h next (o .after) in
-    let from-o = number-spelt (station n) 32 p s c (o .value) (o .next) (omega arith) (o .first) in
-    let to-d = number-spelt (station n) 32 p s (o .next) (d .value) (d .next) (omega arith) (d .first) in
-    go (o .value) (d .value) (d .next) (eqb (d .value) (o .value)) refl (from-o .range) (to-d .range)
+path-spelt n s c h next e =
+    let o = then-got (number (station n) 32 s c) _ h next e in
+    let d = then-got (number (station n) 32 s (o .next)) _ h next (o .after) in
+    let from-o = number-spelt (station n) 32 s c (o .value) (o .next) (omega arith) (o .first) in
+    let to-d = number-spelt (station n) 32 s (o .next) (d .value) (d .next) (omega arith) (d .first) in
+    go (o .value) (d .value) (o .next .line) (d .next) (eqb (d .value) (o .value)) refl (from-o .range) (to-d .range)
     (from-o .text ∙ ap (λ (l : List ℕ). field (o .value) 32 l) (to-d .text))
     (d .after)
   where
-    go : (o d : ℕ) (m : Cursor) (b : Bool) → eqb d o ≡ b → In (station n) o → In (station n) d → from s c ≡ field o 32 (field d 32 (from s m)) →
+    go : (o d p : ℕ) (m : Cursor) (b : Bool) → eqb d o ≡ b → In (station n) o → In (station n) d → from s c ≡ field o 32 (field d 32 (from s m)) →
         pick b (Parsed.bad 4 p) (Parsed.got (record { origin = o; destination = d }) m) ≡ Parsed.got h next → PathSpelt n s c h next
-    go o d m true q io id t f = let z : _≡_ {A = ℕ} 0 1 = cc in absurd (omega arith)
-    go o d m false q io id t f =
+    go o d p m true q io id t f = let z : _≡_ {A = ℕ} 0 1 = cc in absurd (omega arith)
+    go o d p m false q io id t f =
         let same : _≡_ {A = Path} (record { origin = o; destination = d }) h = cc in
         let end : m ≡ next = cc in
         let so : o ≡ h .origin = ap (λ (x : Path). x .origin) same in
@@ -133,17 +133,17 @@ pub record HeadSpelt (n : ℕ) (s : List ℕ) (c : Cursor) (h : Head) (next : Cu
   pub weight : In weight (h .weight)
   pub text : from s c ≡ field (h .origin) 32 (field (h .destination) 32 (field (h .earliest) 32 (field (h .latest) 32 (field (h .weight) 32 (from s next)))))
 
-pub head-spelt : (n p : ℕ) (s : List ℕ) (c : Cursor) (h : Head) (next : Cursor) → headAt n p s c ≡ Parsed.got h next → HeadSpelt n s c h next
+pub head-spelt : (n : ℕ) (s : List ℕ) (c : Cursor) (h : Head) (next : Cursor) → headAt n s c ≡ Parsed.got h next → HeadSpelt n s c h next
 unfolding headAt
-head-spelt n p s c h next x =
-    let path = then-got (pathAt n p s c) _ h next x in
-    let e = then-got (number time 32 p s (path .next)) _ h next (path .after) in
-    let l = then-got (number time 32 p s (e .next)) _ h next (e .after) in
-    let w = then-got (number weight 32 p s (l .next)) _ h next (l .after) in
-    let ends = path-spelt n p s c (path .value) (path .next) (path .first) in
-    let earliest = number-spelt time 32 p s (path .next) (e .value) (e .next) (omega arith) (e .first) in
-    let latest = number-spelt time 32 p s (e .next) (l .value) (l .next) (omega arith) (l .first) in
-    let weighs = number-spelt weight 32 p s (l .next) (w .value) (w .next) (omega arith) (w .first) in
+head-spelt n s c h next x =
+    let path = then-got (pathAt n s c) _ h next x in
+    let e = then-got (number time 32 s (path .next)) _ h next (path .after) in
+    let l = then-got (number time 32 s (e .next)) _ h next (e .after) in
+    let w = then-got (number weight 32 s (l .next)) _ h next (l .after) in
+    let ends = path-spelt n s c (path .value) (path .next) (path .first) in
+    let earliest = number-spelt time 32 s (path .next) (e .value) (e .next) (omega arith) (e .first) in
+    let latest = number-spelt time 32 s (e .next) (l .value) (l .next) (omega arith) (l .first) in
+    let weighs = number-spelt weight 32 s (l .next) (w .value) (w .next) (omega arith) (w .first) in
     let o = path .value .origin in
     let d = path .value .destination in
     got-is (λ x end. HeadSpelt n s c x end) (w .after) (record {
@@ -167,20 +167,20 @@ pub record JourneySpelt (k : ℕ) (s : List ℕ) (c : Cursor) (j : Journey) (nex
   pub stops : Each (In stop) (j .stops)
   pub text : from s c ≡ journeyText (j .stops) (j .runs) (from s next)
 
-journey-spelt : (k p : ℕ) (s : List ℕ) (c : Cursor) (j : Journey) (next : Cursor) → journeyAt k p s c ≡ Parsed.got j next → JourneySpelt k s c j next
+journey-spelt : (k : ℕ) (s : List ℕ) (c : Cursor) (j : Journey) (next : Cursor) → journeyAt k s c ≡ Parsed.got j next → JourneySpelt k s c j next
 unfolding journeyAt
-journey-spelt zero p s c j next e =
-    let r = then-got (number run 10 p s c) _ j next e in
-    let last = number-spelt run 10 p s c (r .value) (r .next) (omega arith) (r .first) in
+journey-spelt zero s c j next e =
+    let r = then-got (number run 10 s c) _ j next e in
+    let last = number-spelt run 10 s c (r .value) (r .next) (omega arith) (r .first) in
     got-is (λ x end. JourneySpelt 0 s c x end) (r .after)
     (record { many-runs = refl; many-stops = refl; runs = (last .range, tt); stops = tt; text = last .text })
-journey-spelt (suc k) p s c j next e =
-    let r = then-got (number run 32 p s c) _ j next e in
-    let t = then-got (number stop 32 p s (r .next)) _ j next (r .after) in
-    let x = then-got (journeyAt k p s (t .next)) _ j next (t .after) in
-    let one = number-spelt run 32 p s c (r .value) (r .next) (omega arith) (r .first) in
-    let two = number-spelt stop 32 p s (r .next) (t .value) (t .next) (omega arith) (t .first) in
-    let rest = journey-spelt k p s (t .next) (x .value) (x .next) (x .first) in
+journey-spelt (suc k) s c j next e =
+    let r = then-got (number run 32 s c) _ j next e in
+    let t = then-got (number stop 32 s (r .next)) _ j next (r .after) in
+    let x = then-got (journeyAt k s (t .next)) _ j next (t .after) in
+    let one = number-spelt run 32 s c (r .value) (r .next) (omega arith) (r .first) in
+    let two = number-spelt stop 32 s (r .next) (t .value) (t .next) (omega arith) (t .first) in
+    let rest = journey-spelt k s (t .next) (x .value) (x .next) (x .first) in
     got-is (λ x end. JourneySpelt (suc k) s c x end) (x .after) (record {
       many-runs = ap suc (rest .many-runs);
       many-stops = ap suc (rest .many-stops);
@@ -207,7 +207,7 @@ tidy-is h rs ts e f = λ i. trainWith h (padded 11 0 (e i)) (padded 11 0 (f i))
 module _ (n : ℕ) (few : n ≤ 12) (s : List ℕ) where
   train-read : (c m : Cursor) (h : Head) (j : Journey) (end : Cursor) → HeadSpelt n s c h m →
       JourneySpelt (legsBetween (h .origin) (h .destination) - 1) s m j end →
-      PartSpelt (TrainRead n) trainText (trainLine n) s c (trainWith h (padded 11 0 (j .runs)) (padded 11 0 (j .stops))) end
+      PartSpelt (TrainRead n) trainText s c (trainWith h (padded 11 0 (j .runs)) (padded 11 0 (j .stops))) end
   train-read c m h j end a b =
       let legs = path-legs n (h .origin) (h .destination) few (a .origin) (a .destination) (a .apart) in
       let many : length (j .runs) ≡ legsBetween (h .origin) (h .destination) = b .many-runs ∙ (omega (arith, legs .0)) in
@@ -237,92 +237,50 @@ module _ (n : ℕ) (few : n ≤ 12) (s : List ℕ) where
             ∙ (rw (rs, ts) refl);
       }
 
-  train-spelt : (p : ℕ) (c : Cursor) (t : Train) (next : Cursor) → trainLine n p s c ≡ Parsed.got t next →
-      PartSpelt (TrainRead n) trainText (trainLine n) s c t next
+  train-spelt : (c : Cursor) (t : Train) (next : Cursor) → trainLine n s c ≡ Parsed.got t next →
+      PartSpelt (TrainRead n) trainText s c t next
   unfolding trainLine
-  train-spelt p c t next e =
-      let h = then-got (headAt n p s c) _ t next e in
-      let j = then-got (journeyAt (legsBetween (h .value .origin) (h .value .destination) - 1) p s (h .next)) _ t next (h .after) in
-      got-is (λ x end. PartSpelt (TrainRead n) trainText (trainLine n) s c x end) (j .after)
-      (train-read c (h .next) (h .value) (j .value) (j .next) (head-spelt n p s c (h .value) (h .next) (h .first))
-      (journey-spelt _ p s (h .next) (j .value) (j .next) (j .first)))
+  train-spelt c t next e =
+      let h = then-got (headAt n s c) _ t next e in
+      let j = then-got (journeyAt (legsBetween (h .value .origin) (h .value .destination) - 1) s (h .next)) _ t next (h .after) in
+      got-is (λ x end. PartSpelt (TrainRead n) trainText s c x end) (j .after)
+      (train-read c (h .next) (h .value) (j .value) (j .next) (head-spelt n s c (h .value) (h .next) (h .first))
+      (journey-spelt _ s (h .next) (j .value) (j .next) (j .first)))
 
 -- ---- the sections
+
+-- a section that was read: the entries xs of its array, each within the limits, and its text
+record SectionSpelt {A : Type 0} (r : Limits) (size : ℕ) (none : A) (P : A → Type 0) (text : A → List ℕ → List ℕ) (s : List ℕ) (c : Cursor)
+    (x : Section A) (next : Cursor) : Type 0 where
+  xs : List A
+  range : In r (x .count)
+  many : length xs ≡ x .count
+  each : Each P xs
+  array : x .entries ≡ padded size none xs
+  spelt : from s c ≡ field (x .count) 10 (eachThen text xs (from s next))
+
+section-spelt : {A : Type 0} (r : Limits) (size : ℕ) (none : A) (P : A → Type 0) (text : A → List ℕ → List ℕ) (line : List ℕ → Cursor → Parsed A)
+    (s : List ℕ) → ((c : Cursor) (x : A) (next : Cursor) → line s c ≡ Parsed.got x next → PartSpelt P text s c x next) →
+    (c : Cursor) (x : Section A) (next : Cursor) → sectionAt r size none line s c ≡ Parsed.got x next → SectionSpelt r size none P text s c x next
+unfolding sectionAt
+section-spelt r size none P text line s one c x next e =
+    let n = then-got (number r 10 s c) _ x next e in
+    let xs = then-got (lines (n .value) line s (n .next)) _ x next (n .after) in
+    let count = number-spelt r 10 s c (n .value) (n .next) (omega arith) (n .first) in
+    let each = many-spelt P text s (λ left. line) (λ left. one) (n .value) (n .next) (xs .value) (xs .next) (xs .first) in
+    got-is (λ y end. SectionSpelt r size none P text s c y end) (xs .after) (record {
+      xs = xs .value;
+      range = count .range;
+      many = each .many;
+      each = each .valid;
+      array = refl;
+      spelt = count .text ∙ ap (λ (l : List ℕ). field (n .value) 10 l) (each .spelt);
+    })
 
 -- the record of a line with these stations, segments and trains
 abbrev pub lineOf : ℕ → List ℕ → List Segment → ℕ → List Train → Line
 lineOf n ts gs t trs =
     record { «station_count» = n; tracks = padded 12 0 ts; segments = padded 11 noSegment gs; «train_count» = t; trains = padded 12 noTrain trs }
-
--- the trains, from their count to the end of the file
-pub record TrainsRead (n : ℕ) (ts : List ℕ) (gs : List Segment) (s : List ℕ) (c : Cursor) (l : Line) : Type 0 where
-  pub t : ℕ
-  pub trs : List Train
-  pub few : In trainCount t
-  pub many : length trs ≡ t
-  pub each : Each (TrainRead n) trs
-  pub line : l ≡ record { «station_count» = n; tracks = ts; segments = gs; «train_count» = t; trains = padded 12 noTrain trs }
-  pub text : from s c ≡ field t 10 (eachThen trainText trs [])
-
-trains-spelt : (n : ℕ) → n ≤ 12 → (ts : List ℕ) (gs : List Segment) (s : List ℕ) (c : Cursor) (l : Line) (end : Cursor) →
-    trainsPart n ts gs s c ≡ Parsed.got l end → TrainsRead n ts gs s c l
-unfolding trainsPart
-trains-spelt n h ts gs s c l end e =
-    let t = then-got (number trainCount 10 (n + n + 2) s c) _ l end e in
-    let trs = then-got (many (t .value) (trainLine n) (n + n + 3) s (t .next)) _ l end (t .after) in
-    let count = number-spelt trainCount 10 (n + n + 2) s c (t .value) (t .next) (omega arith) (t .first) in
-    let lines = many-spelt (TrainRead n) trainText (trainLine n) s (train-spelt n h s) (t .value) (n + n + 3) (t .next) (trs .value) (trs .next) (trs .first) in
-    go (t .value) (trs .value) (trs .next) (count .range) (lines .many) (lines .valid)
-    (count .text ∙ ap (λ (r : List ℕ). field (t .value) 10 r) (lines .spelt))
-    (ltb (trs .next .at) (length s)) refl (trs .after)
-  where
-    go : (t : ℕ) (trs : List Train) (last : Cursor) → In trainCount t → length trs ≡ t → Each (TrainRead n) trs →
-        from s c ≡ field t 10 (eachThen trainText trs (from s last)) → (b : Bool) → ltb (last .at) (length s) ≡ b →
-        pick b (Parsed.bad 2 (n + n + 3 + t)) (Parsed.got (record {
-          «station_count» = n;
-          tracks = ts;
-          segments = gs;
-          «train_count» = t;
-          trains = padded 12 noTrain trs;
-        }) last) ≡ Parsed.got l end → TrainsRead n ts gs s c l
-    go t trs last i m v x true q f = let z : _≡_ {A = ℕ} 0 1 = cc in absurd (omega arith)
-    go t trs last i m v x false q f =
-        let none : from s last ≡ [] = drop-of-length-le s (ltb-false (last .at) (length s) q) in
-        record {
-          t = t;
-          trs = trs;
-          few = i;
-          many = m;
-          each = v;
-          line = sym (cc);
-          text = x ∙ ap (λ (r : List ℕ). field t 10 (eachThen trainText trs r)) none;
-        }
-
-pub record SegmentsRead (n : ℕ) (ts : List ℕ) (s : List ℕ) (c : Cursor) (l : Line) : Type 0 where
-  pub gs : List Segment
-  pub many : length gs ≡ n - 1
-  pub each : Each SegmentWithin gs
-  pub next : Cursor
-  pub rest : TrainsRead n ts (padded 11 noSegment gs) s next l
-  pub text : from s c ≡ field (n - 1) 10 (eachThen segmentText gs (from s next))
-
-segments-spelt : (n : ℕ) → n ≤ 12 → (ts : List ℕ) (s : List ℕ) (c : Cursor) (l : Line) (end : Cursor) → segmentsPart n ts s c ≡ Parsed.got l end →
-    SegmentsRead n ts s c l
-unfolding segmentsPart
-segments-spelt n h ts s c l end e =
-    let m = then-got (number (record { min = n - 1; max = n - 1 }) 10 (n + 2) s c) _ l end e in
-    let gs = then-got (many (n - 1) segmentLine (n + 3) s (m .next)) _ l end (m .after) in
-    let count = number-spelt (record { min = n - 1; max = n - 1 }) 10 (n + 2) s c (m .value) (m .next) (omega arith) (m .first) in
-    let lines = many-spelt SegmentWithin segmentText segmentLine s (segment-spelt s) (n - 1) (n + 3) (m .next) (gs .value) (gs .next) (gs .first) in
-    let same : m .value ≡ n - 1 = omega (arith, count .range .0, count .range .1) in
-    record {
-      gs = gs .value;
-      many = lines .many;
-      each = lines .valid;
-      next = gs .next;
-      rest = trains-spelt n h ts (padded 11 noSegment (gs .value)) s (gs .next) l end (gs .after);
-      text = count .text ∙ ap (λ (k : ℕ). field k 10 (from s (m .next))) same ∙ ap (λ (r : List ℕ). field (n - 1) 10 r) (lines .spelt);
-    }
 
 -- the whole file
 pub record LineRead (s : List ℕ) (l : Line) : Type 0 where
@@ -342,43 +300,58 @@ pub record LineRead (s : List ℕ) (l : Line) : Type 0 where
   pub line : l ≡ lineOf n ts gs t trs
   pub text : s ≡ field n 10 (eachThen stationText ts (field (n - 1) 10 (eachThen segmentText gs (field t 10 (eachThen trainText trs [])))))
 
-stations-spelt : (s : List ℕ) (l : Line) (end : Cursor) → stationsPart s (record { at = 0 }) ≡ Parsed.got l end → LineRead s l
-unfolding stationsPart
-stations-spelt s l end e =
-    let start : Cursor = record { at = 0 } in
-    let n = then-got (number stationCount 10 1 s start) _ l end e in
-    let ts = then-got (many (n .value) stationLine 2 s (n .next)) _ l end (n .after) in
-    let count = number-spelt stationCount 10 1 s start (n .value) (n .next) (omega arith) (n .first) in
-    let lines = many-spelt (In tracks) stationText stationLine s (station-spelt s) (n .value) 2 (n .next) (ts .value) (ts .next) (ts .first) in
-    let joins = segments-spelt (n .value) (count .range .1) (padded 12 0 (ts .value)) s (ts .next) l end (ts .after) in
-    let rest = joins .rest in
+-- the line of three sections, and nothing after them
+line-of : (s : List ℕ) (x : Section ℕ) (y : Section Segment) (z : Section Train) (c c₁ c₂ c₃ : Cursor) → from s c ≡ s →
+    SectionSpelt stationCount 12 0 (In tracks) stationText s c x c₁ → SectionSpelt (joins (x .count)) 11 noSegment SegmentWithin segmentText s c₁ y c₂ →
+    SectionSpelt trainCount 12 noTrain (TrainRead (x .count)) trainText s c₂ z c₃ → length s ≤ c₃ .at → LineRead s (lineWith x y z)
+line-of s x y z c c₁ c₂ c₃ start a b d end =
+    let n = x .count in
+    let joined : y .count ≡ n - 1 = omega (arith, b .range .0, b .range .1) in
+    let last : from s c₃ ≡ [] = drop-of-length-le s end in
+    let trains = d .spelt ∙ ap (λ (l : List ℕ). field (z .count) 10 (eachThen trainText (d .xs) l)) last in
+    let segments = b .spelt ∙ ap (λ (k : ℕ). field k 10 (eachThen segmentText (b .xs) (from s c₂))) joined
+    ∙ ap (λ (l : List ℕ). field (n - 1) 10 (eachThen segmentText (b .xs) l)) trains in
     record {
-      n = n .value;
-      ts = ts .value;
-      gs = joins .gs;
-      t = rest .t;
-      trs = rest .trs;
-      stations = count .range;
-      many-stations = lines .many;
-      each-station = lines .valid;
-      many-segments = joins .many;
-      each-segment = joins .each;
-      trains = rest .few;
-      many-trains = rest .many;
-      each-train = rest .each;
-      line = rest .line;
-      text =
-          count .text
-          ∙ ap (λ (r : List ℕ). field (n .value) 10 r) (lines .spelt)
-          ∙ ap (λ (r : List ℕ). field (n .value) 10 (eachThen stationText (ts .value) r)) (joins .text)
-          ∙ ap (λ (r : List ℕ). field (n .value) 10 (eachThen stationText (ts .value) (field (n .value - 1) 10 (eachThen segmentText (joins .gs) r))))
-          (rest .text);
+      n = n;
+      ts = a .xs;
+      gs = b .xs;
+      t = z .count;
+      trs = d .xs;
+      stations = a .range;
+      many-stations = a .many;
+      each-station = a .each;
+      many-segments = b .many ∙ joined;
+      each-segment = b .each;
+      trains = d .range;
+      many-trains = d .many;
+      each-train = d .each;
+      line = λ i. record {
+        «station_count» = n;
+        tracks = a .array i;
+        segments = b .array i;
+        «train_count» = z .count;
+        trains = d .array i;
+      };
+      text = sym start ∙ a .spelt ∙ ap (λ (l : List ℕ). field n 10 (eachThen stationText (a .xs) l)) segments;
     }
+
+line-spelt : (s : List ℕ) (l : Line) (end : Cursor) → lineAt s (record { at = 0; line = 1 }) ≡ Parsed.got l end → LineRead s l
+unfolding lineAt
+line-spelt s l end e =
+    let start : Cursor = record { at = 0; line = 1 } in
+    let x = then-got (stationSection s start) _ l end e in
+    let n = x .value .count in
+    let y = then-got (segmentSection n s (x .next)) _ l end (x .after) in
+    let z = then-got (trainSection n s (y .next)) _ l end (y .after) in
+    let stations = section-spelt stationCount 12 0 (In tracks) stationText stationLine s (station-spelt s) start (x .value) (x .next) (x .first) in
+    let segments = section-spelt (joins n) 11 noSegment SegmentWithin segmentText segmentLine s (segment-spelt s) (x .next) (y .value) (y .next) (y .first) in
+    let trains = section-spelt trainCount 12 noTrain (TrainRead n) trainText (trainLine n) s (train-spelt n (stations .range .1) s) (y .next) (z .value)
+    (z .next) (z .first) in
+    let done = pick-got (ltb (z .next .at) (length s)) 2 (z .next .line) _ l end (z .after) in
+    got-is (λ m c. LineRead s m) (done .1)
+    (line-of s (x .value) (y .value) (z .value) start (x .next) (y .next) (z .next) refl stations segments trains
+    (ltb-false (z .next .at) (length s) (done .0)))
 
 pub file-spelt : (s : List ℕ) (l : Line) (end : Cursor) → lineFile s ≡ Parsed.got l end → LineRead s l
 unfolding lineFile fileFrom
-file-spelt s l end e = go (ltb 4096 (length s)) e
-  where
-    go : (b : Bool) → pick b (Parsed.bad 1 0) (stationsPart s (record { at = 0 })) ≡ Parsed.got l end → LineRead s l
-    go true f = let z : _≡_ {A = ℕ} 0 1 = cc in absurd (omega arith)
-    go false f = stations-spelt s l end f
+file-spelt s l end e = line-spelt s l end (pick-got (ltb 4096 (length s)) 1 0 _ l end e .1)

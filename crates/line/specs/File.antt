@@ -1,15 +1,14 @@
 -- Reading the line file: document 01, "The line file", section by section and field by field: the field's form, the byte after it (2), its range
 -- (3), and at a destination whether it equals the origin (4).
-use Prim.Native.Nat.{ℕ, zero, suc, _+_, _-_}
+use Prim.Native.Nat.{ℕ, zero, suc, _-_}
 use mathlib.Core.List.{List, [], _∷_}
 use lib.ListN.{length}
 use lib.Dec.{ltb, eqb}
 use Rattle.text.specs.declared.Cursor.{Cursor}
-use Rattle.text.specs.declared.Faults.{Faults}
 use Rattle.text.specs.declared.Limits.{Limits}
 use Rattle.text.specs.Choice.{pick, onStep}
 use Rattle.text.specs.Bytes.{byteAt, ahead, pastOf}
-use Rattle.text.specs.Parsed.{Parsed, thenRead, many, rangedAt}
+use Rattle.text.specs.Parsed.{Parsed, thenRead, lines, rangedAt}
 use Rattle.text.specs.Lists.{padded}
 use Rattle.line.specs.declared.Kind.{Kind}
 use Rattle.line.specs.declared.Segment.{Segment}
@@ -24,18 +23,31 @@ use Rattle.line.specs.declared.reading.KindField.{KindField}
 use Rattle.line.specs.Ranges.{stationCount, tracks, gap, trainCount, station, time, weight, run, stop}
 use Rattle.line.specs.Record.{noSegment, noTrain, emptyLine, legsBetween}
 
--- 2 for the form of a field and the byte after it, 3 for its range, on line p
-abbrev pub faultsOn : ℕ → Faults
-faultsOn p = record { form = 2; range = 3; line = p }
+-- a number in its range, with the byte b after it: 2 for its form and the byte after it, 3 for its range
+abbrev pub number : Limits → ℕ → List ℕ → Cursor → Parsed ℕ
+number r b s c = rangedAt 2 3 (r .min) (r .max) b s c
 
--- a number in its range, with the byte b after it, on line p
-abbrev pub number : Limits → ℕ → ℕ → List ℕ → Cursor → Parsed ℕ
-number r b p s c = rangedAt 2 3 (r .min) (r .max) b p s c
+-- ---- a section: "each after a line with its count", and then a line each
+
+-- its count, and an array that begins with what its lines gave
+pub record Section (A : Type 0) : Type 0 where
+  pub count : ℕ
+  pub entries : List A
+
+-- a count in its range, and as many lines; "entries beyond a count are 0 (a kind is S) after reading"
+unfoldable pub sectionAt : {A : Type 0} → Limits → ℕ → A → (List ℕ → Cursor → Parsed A) → List ℕ → Cursor → Parsed (Section A)
+sectionAt r size none line s c =
+    thenRead (number r 10 s c) (λ n c₁.
+    thenRead (lines n line s c₁) (λ xs c₂.
+    Parsed.got (record { count = n; entries = padded size none xs }) c₂))
 
 -- ---- 1. Stations, "a line each: tracks"
 
-abbrev pub stationLine : ℕ → List ℕ → Cursor → Parsed ℕ
-stationLine p s c = number tracks 10 p s c
+abbrev pub stationLine : List ℕ → Cursor → Parsed ℕ
+stationLine s c = number tracks 10 s c
+
+abbrev pub stationSection : List ℕ → Cursor → Parsed (Section ℕ)
+stationSection s c = sectionAt stationCount 12 0 stationLine s c
 
 -- ---- 2. Segments, "a line each: kind (the letter S, F or D), following gap f, opposing gap o"
 
@@ -49,39 +61,47 @@ abbrev pub onLetter : {A : Type 0} → Letter → (Kind → A) → A → A
 onLetter (Letter.Found k) f e = f k
 onLetter Letter.Other f e = e
 
--- a kind and the space after it, on line p
-unfoldable pub kindAt : ℕ → List ℕ → Cursor → Parsed Kind
-kindAt p s c =
+-- a kind and the space after it
+unfoldable pub kindAt : List ℕ → Cursor → Parsed Kind
+kindAt s c =
     onLetter (letterOf (byteAt s c))
-    (λ k. onStep (pastOf s (ahead c) 32) (λ next. Parsed.got k next) (Parsed.bad 2 p))
-    (Parsed.bad 2 p)
+    (λ k. onStep (pastOf s (ahead c) 32) (λ next. Parsed.got k next) (Parsed.bad 2 (c .line)))
+    (Parsed.bad 2 (c .line))
 
+-- what the answer for the kind at a cursor on line p tells
 abbrev pub toldKind : ℕ → KindField → Parsed Kind
 toldKind p (KindField.Value k c) = Parsed.got k c
 toldKind p KindField.Malformed = Parsed.bad 2 p
 
-unfoldable pub segmentLine : ℕ → List ℕ → Cursor → Parsed Segment
-segmentLine p s c =
-    thenRead (kindAt p s c) (λ k c₁.
-    thenRead (number gap 32 p s c₁) (λ f c₂.
-    thenRead (number gap 10 p s c₂) (λ o c₃.
+unfoldable pub segmentLine : List ℕ → Cursor → Parsed Segment
+segmentLine s c =
+    thenRead (kindAt s c) (λ k c₁.
+    thenRead (number gap 32 s c₁) (λ f c₂.
+    thenRead (number gap 10 s c₂) (λ o c₃.
     Parsed.got (record { kind = k; following = f; opposing = o }) c₃)))
+
+-- of a line with n stations: "count is stations less 1 (any other is 3)"
+abbrev pub joins : ℕ → Limits
+joins n = record { min = n - 1; max = n - 1 }
+
+abbrev pub segmentSection : ℕ → List ℕ → Cursor → Parsed (Section Segment)
+segmentSection n s c = sectionAt (joins n) 11 noSegment segmentLine s c
 
 -- ---- 3. Trains, "a line each: origin, destination, earliest, latest, weight, then .. run, stop, run, stop, .., run"
 
 -- origin and destination on a line of n stations
-unfoldable pub pathAt : ℕ → ℕ → List ℕ → Cursor → Parsed Path
-pathAt n p s c =
-    thenRead (number (station n) 32 p s c) (λ o c₁.
-    thenRead (number (station n) 32 p s c₁) (λ d c₂.
-    pick (eqb d o) (Parsed.bad 4 p) (Parsed.got (record { origin = o; destination = d }) c₂)))
+unfoldable pub pathAt : ℕ → List ℕ → Cursor → Parsed Path
+pathAt n s c =
+    thenRead (number (station n) 32 s c) (λ o c₁.
+    thenRead (number (station n) 32 s c₁) (λ d c₂.
+    pick (eqb d o) (Parsed.bad 4 (c₁ .line)) (Parsed.got (record { origin = o; destination = d }) c₂)))
 
-unfoldable pub headAt : ℕ → ℕ → List ℕ → Cursor → Parsed Head
-headAt n p s c =
-    thenRead (pathAt n p s c) (λ path c₁.
-    thenRead (number time 32 p s c₁) (λ e c₂.
-    thenRead (number time 32 p s c₂) (λ l c₃.
-    thenRead (number weight 32 p s c₃) (λ w c₄.
+unfoldable pub headAt : ℕ → List ℕ → Cursor → Parsed Head
+headAt n s c =
+    thenRead (pathAt n s c) (λ path c₁.
+    thenRead (number time 32 s c₁) (λ e c₂.
+    thenRead (number time 32 s c₂) (λ l c₃.
+    thenRead (number weight 32 s c₃) (λ w c₄.
     Parsed.got (record { origin = path .origin; destination = path .destination; earliest = e; latest = l; weight = w }) c₄))))
 
 -- the runs and stops of a path
@@ -90,12 +110,12 @@ pub record Journey : Type 0 where
   pub stops : List ℕ
 
 -- a run with a stop after it, k times, and the last run
-unfoldable pub journeyAt : ℕ → ℕ → List ℕ → Cursor → Parsed Journey
-journeyAt zero p s c = thenRead (number run 10 p s c) (λ r next. Parsed.got (record { runs = r ∷ []; stops = [] }) next)
-journeyAt (suc k) p s c =
-    thenRead (number run 32 p s c) (λ r c₁.
-    thenRead (number stop 32 p s c₁) (λ t c₂.
-    thenRead (journeyAt k p s c₂) (λ j end.
+unfoldable pub journeyAt : ℕ → List ℕ → Cursor → Parsed Journey
+journeyAt zero s c = thenRead (number run 10 s c) (λ r next. Parsed.got (record { runs = r ∷ []; stops = [] }) next)
+journeyAt (suc k) s c =
+    thenRead (number run 32 s c) (λ r c₁.
+    thenRead (number stop 32 s c₁) (λ t c₂.
+    thenRead (journeyAt k s c₂) (λ j end.
     Parsed.got (record { runs = r ∷ j .runs; stops = t ∷ j .stops }) end)))
 
 -- the train of a line's head, with its runs and stops as arrays
@@ -103,37 +123,38 @@ abbrev pub trainWith : Head → List ℕ → List ℕ → Train
 trainWith h rs ts =
     record { origin = h .origin; destination = h .destination; earliest = h .earliest; latest = h .latest; weight = h .weight; runs = rs; stops = ts }
 
-unfoldable pub trainLine : ℕ → ℕ → List ℕ → Cursor → Parsed Train
-trainLine n p s c =
-    thenRead (headAt n p s c) (λ h c₁.
-    thenRead (journeyAt (legsBetween (h .origin) (h .destination) - 1) p s c₁) (λ j c₂.
+unfoldable pub trainLine : ℕ → List ℕ → Cursor → Parsed Train
+trainLine n s c =
+    thenRead (headAt n s c) (λ h c₁.
+    thenRead (journeyAt (legsBetween (h .origin) (h .destination) - 1) s c₁) (λ j c₂.
     Parsed.got (trainWith h (padded 11 0 (j .runs)) (padded 11 0 (j .stops))) c₂))
 
--- ---- the sections in their order, each after a line with its count, and nothing after the last line
+abbrev pub trainSection : ℕ → List ℕ → Cursor → Parsed (Section Train)
+trainSection n s c = sectionAt trainCount 12 noTrain (trainLine n) s c
 
-unfoldable pub trainsPart : ℕ → List ℕ → List Segment → List ℕ → Cursor → Parsed Line
-trainsPart n ts gs s c =
-    thenRead (number trainCount 10 (n + n + 2) s c) (λ t c₁.
-    thenRead (many t (trainLine n) (n + n + 3) s c₁) (λ trs c₂.
-    pick (ltb (c₂ .at) (length s)) (Parsed.bad 2 (n + n + 3 + t))
-    (Parsed.got (record { «station_count» = n; tracks = ts; segments = gs; «train_count» = t; trains = padded 12 noTrain trs }) c₂)))
+-- ---- the file: "Three sections in this order", and no bytes after the last line
 
--- "count is stations less 1 (any other is 3)"
-unfoldable pub segmentsPart : ℕ → List ℕ → List ℕ → Cursor → Parsed Line
-segmentsPart n ts s c =
-    thenRead (number (record { min = n - 1; max = n - 1 }) 10 (n + 2) s c) (λ m c₁.
-    thenRead (many (n - 1) segmentLine (n + 3) s c₁) (λ gs c₂.
-    trainsPart n ts (padded 11 noSegment gs) s c₂))
+-- the line of its sections
+abbrev pub lineWith : Section ℕ → Section Segment → Section Train → Line
+lineWith stations segments trains =
+    record {
+      «station_count» = stations .count;
+      tracks = stations .entries;
+      segments = segments .entries;
+      «train_count» = trains .count;
+      trains = trains .entries;
+    }
 
-unfoldable pub stationsPart : List ℕ → Cursor → Parsed Line
-stationsPart s c =
-    thenRead (number stationCount 10 1 s c) (λ n c₁.
-    thenRead (many n stationLine 2 s c₁) (λ ts c₂.
-    segmentsPart n (padded 12 0 ts) s c₂))
+unfoldable pub lineAt : List ℕ → Cursor → Parsed Line
+lineAt s c =
+    thenRead (stationSection s c) (λ stations c₁.
+    thenRead (segmentSection (stations .count) s c₁) (λ segments c₂.
+    thenRead (trainSection (stations .count) s c₂) (λ trains c₃.
+    pick (ltb (c₃ .at) (length s)) (Parsed.bad 2 (c₃ .line)) (Parsed.got (lineWith stations segments trains) c₃))))
 
--- "ASCII text of at most 4,096 bytes": over that is 1 at 0; else the sections are read from position i on
+-- "ASCII text of at most 4,096 bytes": over that is 1 at 0; else the sections are read from position i on, which is on line 1
 unfoldable pub fileFrom : List ℕ → ℕ → Parsed Line
-fileFrom s i = pick (ltb 4096 (length s)) (Parsed.bad 1 0) (stationsPart s (record { at = i }))
+fileFrom s i = pick (ltb 4096 (length s)) (Parsed.bad 1 0) (lineAt s (record { at = i; line = 1 }))
 
 unfoldable pub lineFile : List ℕ → Parsed Line
 lineFile s = fileFrom s 0

@@ -48,70 +48,70 @@ letter-small Kind.D = omega arith
 pub letter-inside : (s : List ℕ) (c : Cursor) (k : Kind) → letterOf (byteAt s c) ≡ Letter.Found k → c .at < length s
 letter-inside s c k e = inside s (c .at) (omega (arith, letter-byte (byteAt s c) k e, letter-small k))
 
-module _ (p : ℕ) (s : List ℕ) (c : Cursor) where
-  pub segment-no-kind : {n q : ℕ} → kindAt p s c ≡ Parsed.bad n q → segmentLine p s c ≡ Parsed.bad n q
+module _ (s : List ℕ) (c : Cursor) where
+  pub segment-no-kind : {n q : ℕ} → kindAt s c ≡ Parsed.bad n q → segmentLine s c ≡ Parsed.bad n q
   unfolding segmentLine
   segment-no-kind e = rw e refl
 
-  module _ {k : Kind} {c₁ : Cursor} (kind : kindAt p s c ≡ Parsed.got k c₁) where
-    pub segment-no-following : {n q : ℕ} → number gap 32 p s c₁ ≡ Parsed.bad n q → segmentLine p s c ≡ Parsed.bad n q
+  module _ {k : Kind} {c₁ : Cursor} (kind : kindAt s c ≡ Parsed.got k c₁) where
+    pub segment-no-following : {n q : ℕ} → number gap 32 s c₁ ≡ Parsed.bad n q → segmentLine s c ≡ Parsed.bad n q
     unfolding segmentLine
     segment-no-following e = rw (kind, e) refl
 
-    module _ {f : ℕ} {c₂ : Cursor} (following : number gap 32 p s c₁ ≡ Parsed.got f c₂) where
-      pub segment-no-opposing : {n q : ℕ} → number gap 10 p s c₂ ≡ Parsed.bad n q → segmentLine p s c ≡ Parsed.bad n q
+    module _ {f : ℕ} {c₂ : Cursor} (following : number gap 32 s c₁ ≡ Parsed.got f c₂) where
+      pub segment-no-opposing : {n q : ℕ} → number gap 10 s c₂ ≡ Parsed.bad n q → segmentLine s c ≡ Parsed.bad n q
       unfolding segmentLine
       segment-no-opposing e = rw (kind, following, e) refl
 
-      pub segment-got : {o : ℕ} {c₃ : Cursor} → number gap 10 p s c₂ ≡ Parsed.got o c₃ →
-          segmentLine p s c ≡ Parsed.got (record { kind = k; following = f; opposing = o }) c₃
+      pub segment-got : {o : ℕ} {c₃ : Cursor} → number gap 10 s c₂ ≡ Parsed.got o c₃ →
+          segmentLine s c ≡ Parsed.got (record { kind = k; following = f; opposing = o }) c₃
       unfolding segmentLine
       segment-got e = rw (kind, following, e) refl
 
 -- ---- origin and destination on a train's line
 
-module _ (k p : ℕ) (s : List ℕ) (c : Cursor) where
-  pub path-no-origin : {n q : ℕ} → number (station k) 32 p s c ≡ Parsed.bad n q → pathAt k p s c ≡ Parsed.bad n q
+module _ (k : ℕ) (s : List ℕ) (c : Cursor) where
+  pub path-no-origin : {n q : ℕ} → number (station k) 32 s c ≡ Parsed.bad n q → pathAt k s c ≡ Parsed.bad n q
   unfolding pathAt
   path-no-origin e = rw e refl
 
-  module _ {o : ℕ} {c₁ : Cursor} (origin : number (station k) 32 p s c ≡ Parsed.got o c₁) where
-    pub path-no-destination : {n q : ℕ} → number (station k) 32 p s c₁ ≡ Parsed.bad n q → pathAt k p s c ≡ Parsed.bad n q
+  module _ {o : ℕ} {c₁ : Cursor} (origin : number (station k) 32 s c ≡ Parsed.got o c₁) where
+    pub path-no-destination : {n q : ℕ} → number (station k) 32 s c₁ ≡ Parsed.bad n q → pathAt k s c ≡ Parsed.bad n q
     unfolding pathAt
     path-no-destination e = rw (origin, e) refl
 
-    module _ {d : ℕ} {c₂ : Cursor} (destination : number (station k) 32 p s c₁ ≡ Parsed.got d c₂) where
-      pub path-nowhere : d ≡ o → pathAt k p s c ≡ Parsed.bad 4 p
+    module _ {d : ℕ} {c₂ : Cursor} (destination : number (station k) 32 s c₁ ≡ Parsed.got d c₂) where
+      pub path-nowhere : d ≡ o → pathAt k s c ≡ Parsed.bad 4 (c₁ .line)
       unfolding pathAt
       path-nowhere e = rw (origin, destination, eq-eqb _ _ e) refl
 
-      pub path-got : (d ≡ o → ⊥) → pathAt k p s c ≡ Parsed.got (record { origin = o; destination = d }) c₂
+      pub path-got : (d ≡ o → ⊥) → pathAt k s c ≡ Parsed.got (record { origin = o; destination = d }) c₂
       unfolding pathAt
       path-got apart = rw (origin, destination, ne-eqb _ _ apart) refl
 
 -- ---- a train's line up to its weight
 
-module _ (k p : ℕ) (s : List ℕ) (c : Cursor) where
-  pub head-no-path : {n q : ℕ} → pathAt k p s c ≡ Parsed.bad n q → headAt k p s c ≡ Parsed.bad n q
+module _ (k : ℕ) (s : List ℕ) (c : Cursor) where
+  pub head-no-path : {n q : ℕ} → pathAt k s c ≡ Parsed.bad n q → headAt k s c ≡ Parsed.bad n q
   unfolding headAt
   head-no-path e = rw e refl
 
-  module _ {x : Path} {c₁ : Cursor} (path : pathAt k p s c ≡ Parsed.got x c₁) where
-    pub head-no-earliest : {n q : ℕ} → number time 32 p s c₁ ≡ Parsed.bad n q → headAt k p s c ≡ Parsed.bad n q
+  module _ {x : Path} {c₁ : Cursor} (path : pathAt k s c ≡ Parsed.got x c₁) where
+    pub head-no-earliest : {n q : ℕ} → number time 32 s c₁ ≡ Parsed.bad n q → headAt k s c ≡ Parsed.bad n q
     unfolding headAt
     head-no-earliest e = rw (path, e) refl
 
-    module _ {t : ℕ} {c₂ : Cursor} (earliest : number time 32 p s c₁ ≡ Parsed.got t c₂) where
-      pub head-no-latest : {n q : ℕ} → number time 32 p s c₂ ≡ Parsed.bad n q → headAt k p s c ≡ Parsed.bad n q
+    module _ {t : ℕ} {c₂ : Cursor} (earliest : number time 32 s c₁ ≡ Parsed.got t c₂) where
+      pub head-no-latest : {n q : ℕ} → number time 32 s c₂ ≡ Parsed.bad n q → headAt k s c ≡ Parsed.bad n q
       unfolding headAt
       head-no-latest e = rw (path, earliest, e) refl
 
-      module _ {u : ℕ} {c₃ : Cursor} (latest : number time 32 p s c₂ ≡ Parsed.got u c₃) where
-        pub head-no-weight : {n q : ℕ} → number weight 32 p s c₃ ≡ Parsed.bad n q → headAt k p s c ≡ Parsed.bad n q
+      module _ {u : ℕ} {c₃ : Cursor} (latest : number time 32 s c₂ ≡ Parsed.got u c₃) where
+        pub head-no-weight : {n q : ℕ} → number weight 32 s c₃ ≡ Parsed.bad n q → headAt k s c ≡ Parsed.bad n q
         unfolding headAt
         head-no-weight e = rw (path, earliest, latest, e) refl
 
-        pub head-got : {w : ℕ} {c₄ : Cursor} → number weight 32 p s c₃ ≡ Parsed.got w c₄ →
-            headAt k p s c ≡ Parsed.got (record { origin = x .origin; destination = x .destination; earliest = t; latest = u; weight = w }) c₄
+        pub head-got : {w : ℕ} {c₄ : Cursor} → number weight 32 s c₃ ≡ Parsed.got w c₄ →
+            headAt k s c ≡ Parsed.got (record { origin = x .origin; destination = x .destination; earliest = t; latest = u; weight = w }) c₄
         unfolding headAt
         head-got e = rw (path, earliest, latest, e) refl

@@ -9,9 +9,11 @@ pub mod RecordLaws
 pub mod FileLaws
 pub mod TrainLaws
 pub mod SectionLaws
+pub mod PlaceLaws
 pub mod FaultLaws
 pub mod WithinLaws
 pub mod SpellLaws
+pub mod FaultPlaces
 pub mod LengthLaws
 pub mod Accepted
 pub mod Readable

@@ -1,5 +1,5 @@
 -- The text of a line within the limits is accepted, and gives that line: each part of the text is read as its value.
-use Prim.Native.Nat.{ℕ, suc, _+_, _-_, _<_, _≤_}
+use Prim.Native.Nat.{ℕ, suc, _-_, _<_, _≤_}
 use mathlib.Core.Path.{_≡_, refl, ap, _∙_}
 use mathlib.Core.List.{List, [], _∷_, map, map-id}
 use native.Mathlib.Omega.{arith}
@@ -8,12 +8,13 @@ use lib.ListN.{length}
 use lib.Seq.{length-take-le}
 use Rattle.text.specs.declared.Cursor.{Cursor}
 use Rattle.text.specs.declared.Limits.{Limits}
-use Rattle.text.specs.Bytes.{byteAt, from, ahead}
+use Rattle.text.specs.Bytes.{byteAt, from, ahead, passing}
 use Rattle.text.specs.BytesLaws.{from-byte, from-ahead, at-length, past-reads, space-ends, feed-ends}
 use Rattle.text.specs.Lists.{padded}
 use Rattle.text.specs.Each.{eachThen, Each}
 use Rattle.text.specs.EachLaws.{each-both, each-take}
 use Rattle.text.specs.ParsedLaws.{Reads, ranged-reads, at-end, reads-then, many-reads}
+use Rattle.text.specs.Parsed.{Parsed}
 use Rattle.line.specs.declared.Kind.{Kind}
 use Rattle.line.specs.declared.Segment.{Segment}
 use Rattle.line.specs.declared.Train.{Train}
@@ -22,24 +23,24 @@ use Rattle.line.specs.declared.reading.Letter.{Letter}
 use Rattle.line.specs.declared.reading.Head.{Head}
 use Rattle.line.specs.Ranges.{In, stationCount, tracks, gap, trainCount, station, time, weight, run, stop}
 use Rattle.line.specs.Record.{noSegment, noTrain, legsOf, runsOf, stopsOf, tracksOf, segmentsOf, trainsOf, tidyTrain, tidyLine}
-use Rattle.line.specs.File.{number, stationLine, letterOf, kindAt, segmentLine, pathAt, headAt, journeyAt, trainLine, trainsPart, segmentsPart, stationsPart, fileFrom, lineFile}
+use Rattle.line.specs.File.{number, stationLine, letterOf, kindAt, segmentLine, pathAt, headAt, journeyAt, trainLine, sectionAt, stationSection, segmentSection, trainSection, joins, lineAt, fileFrom, lineFile}
 use Rattle.line.specs.Spell.{field, stationText, letterByte, segmentText, journeyText, headText, trainText, textOf}
 use Rattle.line.specs.Within.{SegmentWithin, TrainWithin, Within, TrainArrays, Arrays}
 use Rattle.line.specs.RecordLaws.{train-path}
 
 -- ---- a number
 
-module _ (r : Limits) (p : ℕ) (s : List ℕ) (c : Cursor) (n : ℕ) (rest : List ℕ) (i : In r n) (small : r .max < 10000) where
-  before-space : from s c ≡ field n 32 rest → Reads (number r 32 p s c) n s rest
-  before-space e = ranged-reads 2 3 (r .min) (r .max) 32 p s c n rest space-ends (i .0) (i .1) small e
+module _ (r : Limits) (s : List ℕ) (c : Cursor) (n : ℕ) (rest : List ℕ) (i : In r n) (small : r .max < 10000) where
+  before-space : from s c ≡ field n 32 rest → Reads (number r 32 s c) n s rest
+  before-space e = ranged-reads 2 3 (r .min) (r .max) 32 s c n rest space-ends (i .0) (i .1) small e
 
-  before-feed : from s c ≡ field n 10 rest → Reads (number r 10 p s c) n s rest
-  before-feed e = ranged-reads 2 3 (r .min) (r .max) 10 p s c n rest feed-ends (i .0) (i .1) small e
+  before-feed : from s c ≡ field n 10 rest → Reads (number r 10 s c) n s rest
+  before-feed e = ranged-reads 2 3 (r .min) (r .max) 10 s c n rest feed-ends (i .0) (i .1) small e
 
 -- ---- stations and segments
 
-station-reads : (s : List ℕ) (p : ℕ) (c : Cursor) (t : ℕ) (rest : List ℕ) → In tracks t → from s c ≡ stationText t rest → Reads (stationLine p s c) t s rest
-station-reads s p c t rest i e = before-feed tracks p s c t rest i (omega arith) e
+station-reads : (s : List ℕ) (c : Cursor) (t : ℕ) (rest : List ℕ) → In tracks t → from s c ≡ stationText t rest → Reads (stationLine s c) t s rest
+station-reads s c t rest i e = before-feed tracks s c t rest i (omega arith) e
 
 letter-reads : (k : Kind) → letterOf (letterByte k) ≡ Letter.Found k
 unfolding letterOf
@@ -47,63 +48,63 @@ letter-reads Kind.S = refl
 letter-reads Kind.F = refl
 letter-reads Kind.D = refl
 
-kind-reads : (p : ℕ) (s : List ℕ) (c : Cursor) (k : Kind) (rest : List ℕ) → from s c ≡ letterByte k ∷ (32 ∷ rest) → Reads (kindAt p s c) k s rest
+kind-reads : (s : List ℕ) (c : Cursor) (k : Kind) (rest : List ℕ) → from s c ≡ letterByte k ∷ (32 ∷ rest) → Reads (kindAt s c) k s rest
 unfolding kindAt
-kind-reads p s c k rest e =
+kind-reads s c k rest e =
     let after : from s (ahead c) ≡ 32 ∷ rest = from-ahead s c (letterByte k) (32 ∷ rest) e in
     let found : letterOf (byteAt s c) ≡ Letter.Found k = ap letterOf (from-byte s c (letterByte k ∷ (32 ∷ rest)) e) ∙ letter-reads k in
     record {
-      next = ahead (ahead c);
+      next = passing 32 (ahead c);
       reads = simp (found, past-reads s (ahead c) 32 rest after);
       leaves = from-ahead s (ahead c) 32 rest after;
     }
 
-segment-reads : (s : List ℕ) (p : ℕ) (c : Cursor) (g : Segment) (rest : List ℕ) → SegmentWithin g → from s c ≡ segmentText g rest →
-    Reads (segmentLine p s c) g s rest
+segment-reads : (s : List ℕ) (c : Cursor) (g : Segment) (rest : List ℕ) → SegmentWithin g → from s c ≡ segmentText g rest →
+    Reads (segmentLine s c) g s rest
 unfolding segmentLine
-segment-reads s p c g rest w e =
-    reads-then _ (kind-reads p s c (g .kind) (field (g .following) 32 (field (g .opposing) 10 rest)) e)
-    (λ c₁ e₁. reads-then _ (before-space gap p s c₁ (g .following) (field (g .opposing) 10 rest) (w .following) (omega arith) e₁)
-    (λ c₂ e₂. reads-then _ (before-feed gap p s c₂ (g .opposing) rest (w .opposing) (omega arith) e₂)
+segment-reads s c g rest w e =
+    reads-then _ (kind-reads s c (g .kind) (field (g .following) 32 (field (g .opposing) 10 rest)) e)
+    (λ c₁ e₁. reads-then _ (before-space gap s c₁ (g .following) (field (g .opposing) 10 rest) (w .following) (omega arith) e₁)
+    (λ c₂ e₂. reads-then _ (before-feed gap s c₂ (g .opposing) rest (w .opposing) (omega arith) e₂)
     (λ c₃ e₃. at-end g c₃ e₃)))
 
 -- ---- trains
 
-path-reads : (n p : ℕ) (s : List ℕ) (c : Cursor) (o d : ℕ) (rest : List ℕ) → n ≤ 12 → In (station n) o → In (station n) d → (d ≡ o → ⊥) →
-    from s c ≡ field o 32 (field d 32 rest) → Reads (pathAt n p s c) (record { origin = o; destination = d }) s rest
+path-reads : (n : ℕ) (s : List ℕ) (c : Cursor) (o d : ℕ) (rest : List ℕ) → n ≤ 12 → In (station n) o → In (station n) d → (d ≡ o → ⊥) →
+    from s c ≡ field o 32 (field d 32 rest) → Reads (pathAt n s c) (record { origin = o; destination = d }) s rest
 unfolding pathAt
-path-reads n p s c o d rest few io id apart e =
-    reads-then _ (before-space (station n) p s c o (field d 32 rest) io (omega arith) e)
-    (λ c₁ e₁. reads-then _ (before-space (station n) p s c₁ d rest id (omega arith) e₁)
+path-reads n s c o d rest few io id apart e =
+    reads-then _ (before-space (station n) s c o (field d 32 rest) io (omega arith) e)
+    (λ c₁ e₁. reads-then _ (before-space (station n) s c₁ d rest id (omega arith) e₁)
     (λ c₂ e₂. rw (ne-eqb d o apart) (at-end _ c₂ e₂)))
 
 -- the head of a train's line
 abbrev headOf : Train → Head
 headOf t = record { origin = t .origin; destination = t .destination; earliest = t .earliest; latest = t .latest; weight = t .weight }
 
-head-reads : (n p : ℕ) (s : List ℕ) (c : Cursor) (t : Train) (rest : List ℕ) → n ≤ 12 → TrainWithin n t → from s c ≡ headText t rest →
-    Reads (headAt n p s c) (headOf t) s rest
+head-reads : (n : ℕ) (s : List ℕ) (c : Cursor) (t : Train) (rest : List ℕ) → n ≤ 12 → TrainWithin n t → from s c ≡ headText t rest →
+    Reads (headAt n s c) (headOf t) s rest
 unfolding headAt
-head-reads n p s c t rest few w e =
-    reads-then _ (path-reads n p s c (t .origin) (t .destination) (field (t .earliest) 32 (field (t .latest) 32 (field (t .weight) 32 rest))) few (w .origin)
+head-reads n s c t rest few w e =
+    reads-then _ (path-reads n s c (t .origin) (t .destination) (field (t .earliest) 32 (field (t .latest) 32 (field (t .weight) 32 rest))) few (w .origin)
     (w .destination) (w .apart) e)
-    (λ c₁ e₁. reads-then _ (before-space time p s c₁ (t .earliest) (field (t .latest) 32 (field (t .weight) 32 rest)) (w .earliest) (omega arith) e₁)
-    (λ c₂ e₂. reads-then _ (before-space time p s c₂ (t .latest) (field (t .weight) 32 rest) (w .latest) (omega arith) e₂)
-    (λ c₃ e₃. reads-then _ (before-space weight p s c₃ (t .weight) rest (w .weight) (omega arith) e₃)
+    (λ c₁ e₁. reads-then _ (before-space time s c₁ (t .earliest) (field (t .latest) 32 (field (t .weight) 32 rest)) (w .earliest) (omega arith) e₁)
+    (λ c₂ e₂. reads-then _ (before-space time s c₂ (t .latest) (field (t .weight) 32 rest) (w .latest) (omega arith) e₂)
+    (λ c₃ e₃. reads-then _ (before-space weight s c₃ (t .weight) rest (w .weight) (omega arith) e₃)
     (λ c₄ e₄. at-end (headOf t) c₄ e₄))))
 
-journey-reads : (ts rs : List ℕ) (p : ℕ) (s : List ℕ) (c : Cursor) (rest : List ℕ) → length rs ≡ suc (length ts) → Each (In run) rs → Each (In stop) ts →
-    from s c ≡ journeyText ts rs rest → Reads (journeyAt (length ts) p s c) (record { runs = rs; stops = ts }) s rest
+journey-reads : (ts rs : List ℕ) (s : List ℕ) (c : Cursor) (rest : List ℕ) → length rs ≡ suc (length ts) → Each (In run) rs → Each (In stop) ts →
+    from s c ≡ journeyText ts rs rest → Reads (journeyAt (length ts) s c) (record { runs = rs; stops = ts }) s rest
 unfolding journeyAt
-journey-reads [] [] p s c rest m r t e = absurd (omega arith)
-journey-reads [] (x ∷ []) p s c rest m r t e =
-    reads-then _ (before-feed run p s c x rest (r .0) (omega arith) e) (λ c₁ e₁. at-end _ c₁ e₁)
-journey-reads [] (x ∷ y ∷ rs) p s c rest m r t e = absurd (omega arith)
-journey-reads (y ∷ ts) [] p s c rest m r t e = absurd (omega arith)
-journey-reads (y ∷ ts) (x ∷ rs) p s c rest m r t e =
-    reads-then _ (before-space run p s c x (field y 32 (journeyText ts rs rest)) (r .0) (omega arith) e)
-    (λ c₁ e₁. reads-then _ (before-space stop p s c₁ y (journeyText ts rs rest) (t .0) (omega arith) e₁)
-    (λ c₂ e₂. reads-then _ (journey-reads ts rs p s c₂ rest (omega arith) (r .1) (t .1) e₂)
+journey-reads [] [] s c rest m r t e = absurd (omega arith)
+journey-reads [] (x ∷ []) s c rest m r t e =
+    reads-then _ (before-feed run s c x rest (r .0) (omega arith) e) (λ c₁ e₁. at-end _ c₁ e₁)
+journey-reads [] (x ∷ y ∷ rs) s c rest m r t e = absurd (omega arith)
+journey-reads (y ∷ ts) [] s c rest m r t e = absurd (omega arith)
+journey-reads (y ∷ ts) (x ∷ rs) s c rest m r t e =
+    reads-then _ (before-space run s c x (field y 32 (journeyText ts rs rest)) (r .0) (omega arith) e)
+    (λ c₁ e₁. reads-then _ (before-space stop s c₁ y (journeyText ts rs rest) (t .0) (omega arith) e₁)
+    (λ c₂ e₂. reads-then _ (journey-reads ts rs s c₂ rest (omega arith) (r .1) (t .1) e₂)
     (λ c₃ e₃. at-end _ c₃ e₃)))
 
 -- a train within the limits, of a record
@@ -112,80 +113,77 @@ pub record TrainWritten (n : ℕ) (t : Train) : Type 0 where
   pub arrays : TrainArrays t
 
 -- its line is read as the train with the entries beyond its path emptied
-train-reads : (n : ℕ) → n ≤ 12 → (s : List ℕ) (p : ℕ) (c : Cursor) (t : Train) (rest : List ℕ) → TrainWritten n t → from s c ≡ trainText t rest →
-    Reads (trainLine n p s c) (tidyTrain t) s rest
+train-reads : (n : ℕ) → n ≤ 12 → (s : List ℕ) (c : Cursor) (t : Train) (rest : List ℕ) → TrainWritten n t → from s c ≡ trainText t rest →
+    Reads (trainLine n s c) (tidyTrain t) s rest
 unfolding trainLine tidyTrain
-train-reads n few s p c t rest v e =
+train-reads n few s c t rest v e =
     let w = v .limits in
     let legs = train-path n few t w in
     let many-stops : length (stopsOf t) ≡ legsOf t - 1 = length-take-le (legsOf t - 1) (t .stops) (omega (arith, legs .1, v .arrays .1)) in
     let many-runs : length (runsOf t) ≡ legsOf t = length-take-le (legsOf t) (t .runs) (omega (arith, legs .1, v .arrays .0)) in
-    reads-then _ (head-reads n p s c t (journeyText (stopsOf t) (runsOf t) rest) few w e)
+    reads-then _ (head-reads n s c t (journeyText (stopsOf t) (runsOf t) rest) few w e)
     (λ c₁ e₁. reads-then _ (rw many-stops at
-    (journey-reads (stopsOf t) (runsOf t) p s c₁ rest (omega (arith, many-stops, many-runs, legs .0)) (w .runs) (w .stops) e₁))
+    (journey-reads (stopsOf t) (runsOf t) s c₁ rest (omega (arith, many-stops, many-runs, legs .0)) (w .runs) (w .stops) e₁))
     (λ c₂ e₂. at-end _ c₂ e₂))
 
 -- ---- the sections
 
+-- a section whose entries bs are read, each as f b
+section-reads : {A B : Type 0} (r : Limits) (size : ℕ) (none : A) (P : B → Type 0) (text : B → List ℕ → List ℕ) (f : B → A)
+    (line : List ℕ → Cursor → Parsed A) (s : List ℕ) →
+    ((c : Cursor) (b : B) (rest : List ℕ) → P b → from s c ≡ text b rest → Reads (line s c) (f b) s rest) →
+    (n : ℕ) (bs : List B) (c : Cursor) (rest : List ℕ) → In r n → r .max < 10000 → length bs ≡ n → Each P bs → from s c ≡ field n 10 (eachThen text bs rest) →
+    Reads (sectionAt r size none line s c) (record { count = n; entries = padded size none (map f bs) }) s rest
+unfolding sectionAt
+section-reads r size none P text f line s one n bs c rest i small many each e =
+    reads-then _ (before-feed r s c n (eachThen text bs rest) i small e)
+    (λ c₁ e₁. reads-then _ (many-reads P text f (λ left. line) s (λ left. one) n bs many c₁ rest each e₁)
+    (λ c₂ e₂. at-end _ c₂ e₂))
+
 -- a line of the record, section by section
 module _ (l : Line) (w : Within l) (a : Arrays l) (s : List ℕ) where
-  n-few : l .«station_count» ≤ 12
-  n-few = w .stations .1
+  abbrev trainsText : List ℕ
+  trainsText = field (l .«train_count») 10 (eachThen trainText (trainsOf l) [])
 
-  trains-reads : (ts : List ℕ) (gs : List Segment) (c : Cursor) → from s c ≡ field (l .«train_count») 10 (eachThen trainText (trainsOf l) []) →
-      Reads (trainsPart (l .«station_count») ts gs s c)
-      (record {
-        «station_count» = l .«station_count»;
-        tracks = ts;
-        segments = gs;
-        «train_count» = l .«train_count»;
-        trains = padded 12 noTrain (map tidyTrain (trainsOf l));
-      }) s []
-  unfolding trainsPart
-  trains-reads ts gs c e =
-      let many-trains : length (trainsOf l) ≡ l .«train_count» = length-take-le (l .«train_count») (l .trains) (omega (arith, w .trains .1, a .trains)) in
-      let each = each-both (TrainWithin (l .«station_count»)) TrainArrays (TrainWritten (l .«station_count»)) (λ t x y. record { limits = x; arrays = y })
-      (trainsOf l) (w .each-train) (each-take TrainArrays (l .«train_count») (l .trains) (a .each-train)) in
-      reads-then _ (before-feed trainCount _ s c (l .«train_count») (eachThen trainText (trainsOf l) []) (w .trains) (omega arith) e)
-      (λ c₁ e₁. reads-then _ (many-reads (TrainWritten (l .«station_count»)) trainText tidyTrain (trainLine (l .«station_count»)) s
-      (train-reads (l .«station_count») n-few s) (l .«train_count») (trainsOf l) many-trains _ c₁ [] each e₁)
-      (λ c₂ e₂. rw (le-ltb (c₂ .at) (length s) (at-length s c₂ e₂)) (at-end _ c₂ e₂)))
+  abbrev segmentsText : List ℕ
+  segmentsText = field (l .«station_count» - 1) 10 (eachThen segmentText (segmentsOf l) trainsText)
 
-  segments-reads : (ts : List ℕ) (c : Cursor) →
-      from s c ≡ field (l .«station_count» - 1) 10 (eachThen segmentText (segmentsOf l) (field (l .«train_count») 10 (eachThen trainText (trainsOf l) []))) →
-      Reads (segmentsPart (l .«station_count») ts s c)
-      (record {
-        «station_count» = l .«station_count»;
-        tracks = ts;
-        segments = padded 11 noSegment (segmentsOf l);
-        «train_count» = l .«train_count»;
-        trains = padded 12 noTrain (map tidyTrain (trainsOf l));
-      }) s []
-  unfolding segmentsPart
-  segments-reads ts c e =
-      let many-segments : length (segmentsOf l) ≡ l .«station_count» - 1 = length-take-le (l .«station_count» - 1) (l .segments)
-      (omega (arith, w .stations .1, a .segments)) in
-      let small : l .«station_count» - 1 < 10000 = omega (arith, w .stations .1) in
-      reads-then _ (before-feed (record { min = l .«station_count» - 1; max = l .«station_count» - 1 }) _ s c (l .«station_count» - 1) _
-      (omega arith, omega arith) small e)
-      (λ c₁ e₁. reads-then _ (rw (map-id (segmentsOf l)) at
-      (many-reads SegmentWithin segmentText (λ g. g) segmentLine s (segment-reads s) (l .«station_count» - 1) (segmentsOf l) many-segments
-      (l .«station_count» + 3) c₁ (field (l .«train_count») 10 (eachThen trainText (trainsOf l) [])) (w .segments) e₁))
-      (λ c₂ e₂. trains-reads ts (padded 11 noSegment (segmentsOf l)) c₂ e₂))
+  stations-read : (c : Cursor) → from s c ≡ field (l .«station_count») 10 (eachThen stationText (tracksOf l) segmentsText) →
+      Reads (stationSection s c) (record { count = l .«station_count»; entries = padded 12 0 (tracksOf l) }) s segmentsText
+  stations-read c e =
+      let many = length-take-le (l .«station_count») (l .tracks) (omega (arith, w .stations .1, a .tracks)) in
+      rw (map-id (tracksOf l)) at (section-reads stationCount 12 0 (In tracks) stationText (λ t. t) stationLine s (station-reads s) (l .«station_count»)
+      (tracksOf l) c segmentsText (w .stations) (omega arith) many (w .tracks) e)
 
-  stations-reads : (c : Cursor) → from s c ≡ textOf l → Reads (stationsPart s c) (tidyLine l) s []
-  unfolding stationsPart textOf tidyLine
-  stations-reads c e =
-      let many-stations : length (tracksOf l) ≡ l .«station_count» = length-take-le (l .«station_count») (l .tracks)
-      (omega (arith, w .stations .1, a .tracks)) in
-      reads-then _ (before-feed stationCount _ s c (l .«station_count») _ (w .stations) (omega arith) e)
-      (λ c₁ e₁. reads-then _ (rw (map-id (tracksOf l)) at
-      (many-reads (In tracks) stationText (λ t. t) stationLine s (station-reads s) (l .«station_count») (tracksOf l) many-stations 2 c₁
-      (field (l .«station_count» - 1) 10 (eachThen segmentText (segmentsOf l) (field (l .«train_count») 10 (eachThen trainText (trainsOf l) []))))
-      (w .tracks) e₁))
-      (λ c₂ e₂. segments-reads (padded 12 0 (tracksOf l)) c₂ e₂))
+  segments-read : (c : Cursor) → from s c ≡ segmentsText →
+      Reads (segmentSection (l .«station_count») s c) (record { count = l .«station_count» - 1; entries = padded 11 noSegment (segmentsOf l) }) s trainsText
+  segments-read c e =
+      let n = l .«station_count» in
+      let many = length-take-le (n - 1) (l .segments) (omega (arith, w .stations .1, a .segments)) in
+      let small : n - 1 < 10000 = omega (arith, w .stations .1) in
+      rw (map-id (segmentsOf l)) at (section-reads (joins n) 11 noSegment SegmentWithin segmentText (λ g. g) segmentLine s (segment-reads s) (n - 1)
+      (segmentsOf l) c trainsText (omega arith, omega arith) small many (w .segments) e)
+
+  trains-read : (c : Cursor) → from s c ≡ trainsText →
+      Reads (trainSection (l .«station_count») s c) (record { count = l .«train_count»; entries = padded 12 noTrain (map tidyTrain (trainsOf l)) }) s []
+  trains-read c e =
+      let n = l .«station_count» in
+      let t = l .«train_count» in
+      let many = length-take-le t (l .trains) (omega (arith, w .trains .1, a .trains)) in
+      let each = each-both (TrainWithin n) TrainArrays (TrainWritten n) (λ t x y. record { limits = x; arrays = y }) (trainsOf l) (w .each-train)
+      (each-take TrainArrays t (l .trains) (a .each-train)) in
+      section-reads trainCount 12 noTrain (TrainWritten n) trainText tidyTrain (trainLine n) s (train-reads n (w .stations .1) s) t (trainsOf l) c []
+      (w .trains) (omega arith) many each e
+
+  line-reads : (c : Cursor) → from s c ≡ textOf l → Reads (lineAt s c) (tidyLine l) s []
+  unfolding lineAt textOf tidyLine
+  line-reads c e =
+      reads-then _ (stations-read c e)
+      (λ c₁ e₁. reads-then _ (segments-read c₁ e₁)
+      (λ c₂ e₂. reads-then _ (trains-read c₂ e₂)
+      (λ c₃ e₃. rw (le-ltb (c₃ .at) (length s) (at-length s c₃ e₃)) (at-end _ c₃ e₃))))
 
 -- the text of a line within the limits is read as that line
 pub text-reads : (l : Line) → Within l → Arrays l → length (textOf l) ≤ 4096 → Reads (lineFile (textOf l)) (tidyLine l) (textOf l) []
 unfolding lineFile fileFrom
-text-reads l w a h = rw (le-ltb 4096 (length (textOf l)) h) (stations-reads l w a (textOf l) (record { at = 0 }) refl)
+text-reads l w a h = rw (le-ltb 4096 (length (textOf l)) h) (line-reads l w a (textOf l) (record { at = 0; line = 1 }) refl)

@@ -4,7 +4,7 @@ use Prim.Native.Nat.{ℕ, suc, _+_, _-_, _≤_, _<_}
 use mathlib.Core.Path.{_≡_, refl, sym, _∙_}
 use mathlib.Core.List.{List, _∷_}
 use native.Mathlib.Omega.{arith}
-use native.Mathlib.Nat.{sub-zero, add-zero}
+use native.Mathlib.Nat.{sub-zero}
 use native.Mathlib.Numerals.{add-one}
 use lib.ListN.{set, replicate}
 use lib.Seq.{sets}
@@ -27,8 +27,8 @@ abbrev laid : List ℕ → List ℕ → ℕ → Journey → Journey
 laid rs ts k x = record { runs = sets rs k (x .runs); stops = sets ts k (x .stops) }
 
 -- the runs and stops of j stations between and the last run, laid into rs and ts from index k on
-abbrev pub layJourney : ℕ → ℕ → List ℕ → Cursor → List ℕ → List ℕ → ℕ → Parsed Journey
-layJourney j p s c rs ts k = mapParsed (laid rs ts k) (journeyAt j p s c)
+abbrev pub layJourney : ℕ → List ℕ → Cursor → List ℕ → List ℕ → ℕ → Parsed Journey
+layJourney j s c rs ts k = mapParsed (laid rs ts k) (journeyAt j s c)
 
 journey-cons : (j : Parsed Journey) (rs ts : List ℕ) (k r t : ℕ) →
     mapParsed (laid rs ts k) (thenRead j (λ y end. Parsed.got (record { runs = r ∷ y .runs; stops = t ∷ y .stops }) end))
@@ -36,28 +36,28 @@ journey-cons : (j : Parsed Journey) (rs ts : List ℕ) (k r t : ℕ) →
 journey-cons (Parsed.got y end) rs ts k r t = refl
 journey-cons (Parsed.bad n p) rs ts k r t = refl
 
-module _ (m p : ℕ) (s : List ℕ) (c : Cursor) (rs ts : List ℕ) (k : ℕ) where
+module _ (m : ℕ) (s : List ℕ) (c : Cursor) (rs ts : List ℕ) (k : ℕ) where
   module _ (j : ℕ) (e : m ≡ suc j) where
-    pub journey-stop-run : (n q : ℕ) → number run 32 p s c ≡ Parsed.bad n q → layJourney m p s c rs ts k ≡ Parsed.bad n q
+    pub journey-stop-run : (n q : ℕ) → number run 32 s c ≡ Parsed.bad n q → layJourney m s c rs ts k ≡ Parsed.bad n q
     unfolding journeyAt
     journey-stop-run n q h = rw (e, h) refl
 
-    module _ (r : ℕ) (c₁ : Cursor) (h : number run 32 p s c ≡ Parsed.got r c₁) where
-      pub journey-stop-stop : (n q : ℕ) → number stop 32 p s c₁ ≡ Parsed.bad n q → layJourney m p s c rs ts k ≡ Parsed.bad n q
+    module _ (r : ℕ) (c₁ : Cursor) (h : number run 32 s c ≡ Parsed.got r c₁) where
+      pub journey-stop-stop : (n q : ℕ) → number stop 32 s c₁ ≡ Parsed.bad n q → layJourney m s c rs ts k ≡ Parsed.bad n q
       unfolding journeyAt
       journey-stop-stop n q g = rw (e, h, g) refl
 
-      pub journey-step : (t : ℕ) (c₂ : Cursor) → number stop 32 p s c₁ ≡ Parsed.got t c₂ →
-          layJourney m p s c rs ts k ≡ layJourney j p s c₂ (set rs k r) (set ts k t) (k + 1)
+      pub journey-step : (t : ℕ) (c₂ : Cursor) → number stop 32 s c₁ ≡ Parsed.got t c₂ →
+          layJourney m s c rs ts k ≡ layJourney j s c₂ (set rs k r) (set ts k t) (k + 1)
       unfolding journeyAt
-      journey-step t c₂ g = rw (e, h, g, add-one k) (journey-cons (journeyAt j p s c₂) rs ts k r t)
+      journey-step t c₂ g = rw (e, h, g, add-one k) (journey-cons (journeyAt j s c₂) rs ts k r t)
 
-  pub journey-last-read : m ≡ 0 → (r : ℕ) (next : Cursor) → number run 10 p s c ≡ Parsed.got r next →
-      layJourney m p s c rs ts k ≡ Parsed.got (record { runs = set rs k r; stops = ts }) next
+  pub journey-last-read : m ≡ 0 → (r : ℕ) (next : Cursor) → number run 10 s c ≡ Parsed.got r next →
+      layJourney m s c rs ts k ≡ Parsed.got (record { runs = set rs k r; stops = ts }) next
   unfolding journeyAt
   journey-last-read e r next h = rw (e, h) refl
 
-  pub journey-last-stop : m ≡ 0 → (n q : ℕ) → number run 10 p s c ≡ Parsed.bad n q → layJourney m p s c rs ts k ≡ Parsed.bad n q
+  pub journey-last-stop : m ≡ 0 → (n q : ℕ) → number run 10 s c ≡ Parsed.bad n q → layJourney m s c rs ts k ≡ Parsed.bad n q
   unfolding journeyAt
   journey-last-stop e n q h = rw (e, h) refl
 
@@ -74,43 +74,42 @@ unfolding padded
 train-laid h (Parsed.got x end) = refl
 train-laid h (Parsed.bad n p) = refl
 
-module _ (n p : ℕ) (s : List ℕ) (c : Cursor) where
-  pub train-stop-head : (m q : ℕ) → headAt n p s c ≡ Parsed.bad m q → trainLine n p s c ≡ Parsed.bad m q
+module _ (n : ℕ) (s : List ℕ) (c : Cursor) where
+  pub train-stop-head : (m q : ℕ) → headAt n s c ≡ Parsed.bad m q → trainLine n s c ≡ Parsed.bad m q
   unfolding trainLine
   train-stop-head m q e = rw e refl
 
-  pub train-from : (h : Head) (c₁ : Cursor) (legs : ℕ) (yet : Parsed Journey) → headAt n p s c ≡ Parsed.got h c₁ →
-      legs ≡ legsBetween (h .origin) (h .destination) → yet ≡ layJourney (legs - 1) p s c₁ (replicate 11 0) (replicate 11 0) 0 →
-      trainLine n p s c ≡ mapParsed (trainOf h) yet
+  pub train-from : (h : Head) (c₁ : Cursor) (legs : ℕ) (yet : Parsed Journey) → headAt n s c ≡ Parsed.got h c₁ →
+      legs ≡ legsBetween (h .origin) (h .destination) → yet ≡ layJourney (legs - 1) s c₁ (replicate 11 0) (replicate 11 0) 0 →
+      trainLine n s c ≡ mapParsed (trainOf h) yet
   unfolding trainLine
-  train-from h c₁ legs yet e l y = rw (e, y, l) (train-laid h (journeyAt (legsBetween (h .origin) (h .destination) - 1) p s c₁))
+  train-from h c₁ legs yet e l y = rw (e, y, l) (train-laid h (journeyAt (legsBetween (h .origin) (h .destination) - 1) s c₁))
 
 -- ---- the lines of trains
 
 -- before the first is read
-pub lines-begin : (t : Train) (count n first : ℕ) (s : List ℕ) (c : Cursor) → t ≡ noTrain →
-    layMany (count - 0) (trainLine n) (first + 0) s c (replicate 12 t) 0 ≡ layMany count (trainLine n) first s c (replicate 12 noTrain) 0
-lines-begin t count n first s c e = rw (e, sub-zero, add-zero) refl
+pub lines-begin : (t : Train) (count n : ℕ) (s : List ℕ) (c : Cursor) → t ≡ noTrain →
+    layMany (count - 0) (λ left. trainLine n) s c (replicate 12 t) 0 ≡ layMany count (λ left. trainLine n) s c (replicate 12 noTrain) 0
+lines-begin t count n s c e = rw (e, sub-zero) refl
 
 -- train i read, or refused, when the lines from its own on give `whole`
-module _ (n count first i : ℕ) (s : List ℕ) (c : Cursor) (trains : List Train) (whole : Parsed (List Train))
-    (inv : layMany (count - i) (trainLine n) (first + i) s c trains i ≡ whole) (left : i < count) where
-  pub lines-read : (x t : Train) (next : Cursor) → trainLine n (first + i) s c ≡ Parsed.got t next → x ≡ t →
-      layMany (count - (i + 1)) (trainLine n) (first + (i + 1)) s next (set trains i x) (i + 1) ≡ whole
+module _ (n count i : ℕ) (s : List ℕ) (c : Cursor) (trains : List Train) (whole : Parsed (List Train))
+    (inv : layMany (count - i) (λ left. trainLine n) s c trains i ≡ whole) (left : i < count) where
+  pub lines-read : (x t : Train) (next : Cursor) → trainLine n s c ≡ Parsed.got t next → x ≡ t →
+      layMany (count - (i + 1)) (λ left. trainLine n) s next (set trains i x) (i + 1) ≡ whole
   lines-read x t next e same =
       let k : count - i ≡ suc (count - (i + 1)) = omega arith in
-      let p : first + (i + 1) ≡ first + i + 1 = omega arith in
-      rw same (sym (lay-step (trainLine n) (count - i) (count - (i + 1)) (first + i) (first + (i + 1)) s c trains i k p t next e) ∙ inv)
+      rw same (sym (lay-step (λ left. trainLine n) (count - i) (count - (i + 1)) s c trains i k t next e) ∙ inv)
 
-  pub lines-stop : (m q : ℕ) (r : Parsed (List Train)) → trainLine n (first + i) s c ≡ Parsed.bad m q → r ≡ Parsed.bad m q → r ≡ whole
+  pub lines-stop : (m q : ℕ) (r : Parsed (List Train)) → trainLine n s c ≡ Parsed.bad m q → r ≡ Parsed.bad m q → r ≡ whole
   lines-stop m q r e b =
       let k : count - i ≡ suc (count - (i + 1)) = omega arith in
-      b ∙ sym (lay-stop (trainLine n) (count - i) (count - (i + 1)) (first + i) (first + i) s c trains i k m q e) ∙ inv
+      b ∙ sym (lay-stop (λ left. trainLine n) (count - i) (count - (i + 1)) s c trains i k m q e) ∙ inv
 
 -- ---- how many legs a head that was read has
 
-pub head-legs : (n p : ℕ) (s : List ℕ) (c : Cursor) (h : Head) (next : Cursor) → n ≤ 12 → headAt n p s c ≡ Parsed.got h next →
+pub head-legs : (n : ℕ) (s : List ℕ) (c : Cursor) (h : Head) (next : Cursor) → n ≤ 12 → headAt n s c ≡ Parsed.got h next →
     (1 ≤ legsBetween (h .origin) (h .destination)) × (legsBetween (h .origin) (h .destination) ≤ 11)
-head-legs n p s c h next few e =
-    let a = head-spelt n p s c h next e in
+head-legs n s c h next few e =
+    let a = head-spelt n s c h next e in
     path-legs n (h .origin) (h .destination) few (a .origin) (a .destination) (a .apart)

@@ -1,11 +1,12 @@
 // Reading the line file: once through the lent bytes, section by section, field by field.
 ghost use mathlib.Core.Path.{_≡_};
 ghost use Prim.Native.Nat.{_+_, _-_, _≤_, _<_};
-ghost use Rattle.text.specs.Parsed.{mapParsed, many};
+ghost use Rattle.text.specs.Lines.{Counted};
+ghost use Rattle.text.specs.Parsed.{mapParsed, lines};
 ghost use Rattle.text.specs.Told.{toldEnding};
 ghost use Rattle.text.specs.Lists.{padded};
 ghost use Rattle.line.specs.Record.{noSegment, noTrain, emptyLine};
-ghost use Rattle.line.specs.File.{faultsOn, toldKind, stationLine, letterOf, kindAt, segmentLine, pathAt, headAt, trainWith, trainLine, trainsPart, segmentsPart, fileFrom, lineFile, answered};
+ghost use Rattle.line.specs.File.{toldKind, stationLine, stationSection, letterOf, kindAt, segmentLine, segmentSection, pathAt, headAt, trainWith, trainLine, trainSection, lineAt, fileFrom, lineFile, answered};
 use crate::Answer;
 use crate::Kind;
 use crate::Line;
@@ -69,31 +70,42 @@ pub struct HeadPart {
     pub head: Head,
 }
 
+pub struct StationLines {
+    pub ending: Ending,
+    pub tracks: [u16; 12],
+}
+
+pub struct SegmentLines {
+    pub ending: Ending,
+    pub segments: [Segment; 11],
+}
+
+pub struct TrainLines {
+    pub ending: Ending,
+    pub trains: [Train; 12],
+}
+
+// Each section: the lines with their count.
 pub struct StationSection {
     pub ending: Ending,
+    pub count: u16,
     pub tracks: [u16; 12],
 }
 
 pub struct SegmentSection {
     pub ending: Ending,
+    pub count: u16,
     pub segments: [Segment; 11],
 }
 
 pub struct TrainSection {
     pub ending: Ending,
+    pub count: u16,
     pub trains: [Train; 12],
 }
 
-// The numbers of a line file's refusals, on this line.
-fn faults_on(line: usize) -> Faults
-    ensures { λ r. ⌜ r ≡ faultsOn line ⌝ }
-{
-    Faults {
-        form: 2,
-        range: 3,
-        line,
-    }
-}
+// The numbers of a line file's refusals.
+const FAULTS: Faults = Faults { form: 2, range: 3 };
 
 fn letter_of(b: u32) -> Letter
     ensures { λ r. ⌜ r ≡ letterOf b ⌝ }
@@ -110,13 +122,18 @@ fn letter_of(b: u32) -> Letter
     Letter::Other
 }
 
-fn kind_field(s: &[u8], cursor: Cursor, line: usize) -> KindField
-    ensures { λ r. ⌜ toldKind line r ≡ kindAt line (now (s .entry)) cursor ⌝ }
+fn kind_field(s: &[u8], cursor: Cursor) -> KindField
+    requires { ⌜ Counted cursor ⌝ }
+    ensures { λ r. ⌜ toldKind (cursor .line) r ≡ kindAt (now (s .entry)) cursor ⌝ }
 {
     let Letter::Found(kind) = letter_of(cursor.byte(s)) else {
         return KindField::Malformed;
     };
-    let Step::Next(next) = Cursor { at: cursor.at + 1 }.past(s, SPACE) else {
+    let after = Cursor {
+        at: cursor.at + 1,
+        line: cursor.line,
+    };
+    let Step::Next(next) = after.past(s, SPACE) else {
         return KindField::Malformed;
     };
     KindField::Value(kind, next)
@@ -133,24 +150,25 @@ fn no_segment() -> Segment
 }
 
 // A segment's line: kind, following gap, opposing gap.
-fn segment_line(s: &[u8], cursor: Cursor, line: usize) -> SegmentPart
-    ensures { λ r. ⌜ toldEnding (r .ending) (r .segment) ≡ segmentLine line (now (s .entry)) cursor ⌝ }
+fn segment_line(s: &[u8], cursor: Cursor) -> SegmentPart
+    requires { ⌜ Counted cursor ⌝ }
+    ensures { λ r. ⌜ toldEnding (r .ending) (r .segment) ≡ segmentLine (now (s .entry)) cursor ⌝ }
 {
     let none = no_segment();
-    let KindField::Value(kind, after_kind) = kind_field(s, cursor, line) else {
+    let KindField::Value(kind, after_kind) = kind_field(s, cursor) else {
         return SegmentPart {
-            ending: Ending::Refused(2, line),
+            ending: Ending::Refused(2, cursor.line),
             segment: none,
         };
     };
-    let f = after_kind.ranged(s, SPACE, Segment::GAP, faults_on(line));
+    let f = after_kind.ranged(s, SPACE, Segment::GAP, FAULTS);
     let Field::Value(following, after_following) = f else {
         return SegmentPart {
             ending: stopped(f),
             segment: none,
         };
     };
-    let o = after_following.ranged(s, LINE_FEED, Segment::GAP, faults_on(line));
+    let o = after_following.ranged(s, LINE_FEED, Segment::GAP, FAULTS);
     let Field::Value(opposing, next) = o else {
         return SegmentPart {
             ending: stopped(o),
@@ -181,19 +199,20 @@ fn no_path(ending: Ending) -> PathPart
 }
 
 // Origin and destination on a train's line.
-fn path_fields(s: &[u8], cursor: Cursor, stations: u16, line: usize) -> PathPart
-    ensures { λ r. ⌜ toldEnding (r .ending) (r .path) ≡ pathAt stations line (now (s .entry)) cursor ⌝ }
+fn path_fields(s: &[u8], cursor: Cursor, stations: u16) -> PathPart
+    requires { ⌜ Counted cursor ⌝ }
+    ensures { λ r. ⌜ toldEnding (r .ending) (r .path) ≡ pathAt stations (now (s .entry)) cursor ⌝ }
 {
-    let o = cursor.ranged(s, SPACE, Station::numbers(stations), faults_on(line));
+    let o = cursor.ranged(s, SPACE, Station::numbers(stations), FAULTS);
     let Field::Value(origin, after_origin) = o else {
         return no_path(stopped(o));
     };
-    let d = after_origin.ranged(s, SPACE, Station::numbers(stations), faults_on(line));
+    let d = after_origin.ranged(s, SPACE, Station::numbers(stations), FAULTS);
     let Field::Value(destination, next) = d else {
         return no_path(stopped(d));
     };
     if destination == origin {
-        return no_path(Ending::Refused(4, line));
+        return no_path(Ending::Refused(4, after_origin.line));
     }
     PathPart {
         ending: Ending::Done(next),
@@ -221,23 +240,24 @@ fn no_head(ending: Ending) -> HeadPart
 }
 
 // Origin, destination, earliest, latest and weight on a train's line.
-fn train_head(s: &[u8], cursor: Cursor, stations: u16, line: usize) -> HeadPart
-    ensures { λ r. ⌜ toldEnding (r .ending) (r .head) ≡ headAt stations line (now (s .entry)) cursor ⌝ }
+fn train_head(s: &[u8], cursor: Cursor, stations: u16) -> HeadPart
+    requires { ⌜ Counted cursor ⌝ }
+    ensures { λ r. ⌜ toldEnding (r .ending) (r .head) ≡ headAt stations (now (s .entry)) cursor ⌝ }
 {
-    let part = path_fields(s, cursor, stations, line);
+    let part = path_fields(s, cursor, stations);
     let ending = part.ending;
     let Ending::Done(after_path) = ending else {
         return no_head(ending);
     };
-    let e = after_path.ranged(s, SPACE, Time::LIMITS, faults_on(line));
+    let e = after_path.ranged(s, SPACE, Time::LIMITS, FAULTS);
     let Field::Value(earliest, after_earliest) = e else {
         return no_head(stopped(e));
     };
-    let l = after_earliest.ranged(s, SPACE, Time::LIMITS, faults_on(line));
+    let l = after_earliest.ranged(s, SPACE, Time::LIMITS, FAULTS);
     let Field::Value(latest, after_latest) = l else {
         return no_head(stopped(l));
     };
-    let w = after_latest.ranged(s, SPACE, Train::WEIGHT, faults_on(line));
+    let w = after_latest.ranged(s, SPACE, Train::WEIGHT, FAULTS);
     let Field::Value(weight, next) = w else {
         return no_head(stopped(w));
     };
@@ -253,10 +273,10 @@ fn train_head(s: &[u8], cursor: Cursor, stations: u16, line: usize) -> HeadPart
     }
 }
 
-// The lines of stations, from line 2 on.
-fn station_lines(s: &[u8], start: Cursor, count: usize) -> StationSection
-    requires { ⌜ count ≤ 12 ⌝ }
-    ensures { λ r. ⌜ toldEnding (r .ending) (r .tracks) ≡ mapParsed (padded 12 0) (many count stationLine 2 (now (s .entry)) start) ⌝ }
+// The lines of stations.
+fn station_lines(s: &[u8], start: Cursor, count: usize) -> StationLines
+    requires { ⌜ (count ≤ 12) × Counted start ⌝ }
+    ensures { λ r. ⌜ toldEnding (r .ending) (r .tracks) ≡ mapParsed (padded 12 0) (lines count stationLine (now (s .entry)) start) ⌝ }
 {
     let mut tracks = [0u16; 12];
     let mut cursor = start;
@@ -265,7 +285,7 @@ fn station_lines(s: &[u8], start: Cursor, count: usize) -> StationSection
         if i == count {
             break 'lines Ending::Done(cursor);
         }
-        let field = cursor.ranged(s, LINE_FEED, Station::TRACKS, faults_on(i + 2));
+        let field = cursor.ranged(s, LINE_FEED, Station::TRACKS, FAULTS);
         let Field::Value(t, next) = field else {
             break 'lines stopped(field);
         };
@@ -273,13 +293,36 @@ fn station_lines(s: &[u8], start: Cursor, count: usize) -> StationSection
         cursor = next;
         i = i + 1;
     };
-    StationSection { ending, tracks }
+    StationLines { ending, tracks }
 }
 
-// The lines of segments, from line `first` on.
-fn segment_lines(s: &[u8], start: Cursor, count: usize, first: usize) -> SegmentSection
-    requires { ⌜ (count ≤ 11) × (first ≤ 100) ⌝ }
-    ensures { λ r. ⌜ toldEnding (r .ending) (r .segments) ≡ mapParsed (padded 11 noSegment) (many count segmentLine first (now (s .entry)) start) ⌝ }
+// 1. Stations: their count and a line each.
+fn station_section(s: &[u8], start: Cursor) -> StationSection
+    requires { ⌜ Counted start ⌝ }
+    ensures { λ r. ⌜ toldEnding (r .ending) (record { count = r .count; entries = r .tracks }) ≡ stationSection (now (s .entry)) start ⌝ }
+{
+    let field = start.ranged(s, LINE_FEED, Station::COUNT, FAULTS);
+    let Field::Value(count, next) = field else {
+        return StationSection {
+            ending: stopped(field),
+            count: 0,
+            tracks: [0; 12],
+        };
+    };
+    let part = station_lines(s, next, count as usize);
+    let ending = part.ending;
+    let tracks = part.tracks;
+    StationSection {
+        ending,
+        count,
+        tracks,
+    }
+}
+
+// The lines of segments.
+fn segment_lines(s: &[u8], start: Cursor, count: usize) -> SegmentLines
+    requires { ⌜ (count ≤ 11) × Counted start ⌝ }
+    ensures { λ r. ⌜ toldEnding (r .ending) (r .segments) ≡ mapParsed (padded 11 noSegment) (lines count segmentLine (now (s .entry)) start) ⌝ }
 {
     let none = no_segment();
     let mut segments = [none; 11];
@@ -289,7 +332,7 @@ fn segment_lines(s: &[u8], start: Cursor, count: usize, first: usize) -> Segment
         if i == count {
             break 'lines Ending::Done(cursor);
         }
-        let part = segment_line(s, cursor, first + i);
+        let part = segment_line(s, cursor);
         let ended = part.ending;
         let Ending::Done(next) = ended else {
             break 'lines ended;
@@ -299,7 +342,35 @@ fn segment_lines(s: &[u8], start: Cursor, count: usize, first: usize) -> Segment
         cursor = next;
         i = i + 1;
     };
-    SegmentSection { ending, segments }
+    SegmentLines { ending, segments }
+}
+
+// 2. Segments, of a line with so many stations: their count, which is one less, and a line each.
+fn segment_section(s: &[u8], start: Cursor, stations: u16) -> SegmentSection
+    requires { ⌜ (2 ≤ stations) × (stations ≤ 12) × Counted start ⌝ }
+    ensures { λ r. ⌜ toldEnding (r .ending) (record { count = r .count; entries = r .segments }) ≡ segmentSection stations (now (s .entry)) start ⌝ }
+{
+    let none = no_segment();
+    let joins = Limits {
+        min: stations - 1,
+        max: stations - 1,
+    };
+    let field = start.ranged(s, LINE_FEED, joins, FAULTS);
+    let Field::Value(count, next) = field else {
+        return SegmentSection {
+            ending: stopped(field),
+            count: 0,
+            segments: [none; 11],
+        };
+    };
+    let part = segment_lines(s, next, count as usize);
+    let ending = part.ending;
+    let segments = part.segments;
+    SegmentSection {
+        ending,
+        count,
+        segments,
+    }
 }
 
 fn no_train() -> Train
@@ -316,10 +387,10 @@ fn no_train() -> Train
     }
 }
 
-// The lines of trains, from line `first` on. The inner loop goes through the runs and stops of a line.
-fn train_lines(s: &[u8], start: Cursor, count: usize, stations: u16, first: usize) -> TrainSection
-    requires { ⌜ (count ≤ 12) × (stations ≤ 12) × (first ≤ 100) ⌝ }
-    ensures { λ r. ⌜ toldEnding (r .ending) (r .trains) ≡ mapParsed (padded 12 noTrain) (many count (trainLine stations) first (now (s .entry)) start) ⌝ }
+// The lines of trains. The inner loop goes through the runs and stops of a line.
+fn train_lines(s: &[u8], start: Cursor, count: usize, stations: u16) -> TrainLines
+    requires { ⌜ (count ≤ 12) × (stations ≤ 12) × Counted start ⌝ }
+    ensures { λ r. ⌜ toldEnding (r .ending) (r .trains) ≡ mapParsed (padded 12 noTrain) (lines count (trainLine stations) (now (s .entry)) start) ⌝ }
 {
     let none = no_train();
     let mut trains = [none; 12];
@@ -329,8 +400,7 @@ fn train_lines(s: &[u8], start: Cursor, count: usize, stations: u16, first: usiz
         if i == count {
             break 'lines Ending::Done(cursor);
         }
-        let line = first + i;
-        let part = train_head(s, cursor, stations, line);
+        let part = train_head(s, cursor, stations);
         let ended = part.ending;
         let Ending::Done(after_head) = ended else {
             break 'lines ended;
@@ -342,11 +412,11 @@ fn train_lines(s: &[u8], start: Cursor, count: usize, stations: u16, first: usiz
         let mut stops = [0u16; 11];
         let mut k: usize = 0;
         while k + 1 < legs {
-            let r = cursor.ranged(s, SPACE, Train::RUN, faults_on(line));
+            let r = cursor.ranged(s, SPACE, Train::RUN, FAULTS);
             let Field::Value(run, after_run) = r else {
                 break 'lines stopped(r);
             };
-            let t = after_run.ranged(s, SPACE, Train::STOP, faults_on(line));
+            let t = after_run.ranged(s, SPACE, Train::STOP, FAULTS);
             let Field::Value(stop, after_stop) = t else {
                 break 'lines stopped(t);
             };
@@ -355,7 +425,7 @@ fn train_lines(s: &[u8], start: Cursor, count: usize, stations: u16, first: usiz
             cursor = after_stop;
             k = k + 1;
         }
-        let last = cursor.ranged(s, LINE_FEED, Train::RUN, faults_on(line));
+        let last = cursor.ranged(s, LINE_FEED, Train::RUN, FAULTS);
         let Field::Value(run, next) = last else {
             break 'lines stopped(last);
         };
@@ -364,7 +434,7 @@ fn train_lines(s: &[u8], start: Cursor, count: usize, stations: u16, first: usiz
         cursor = next;
         i = i + 1;
     };
-    TrainSection { ending, trains }
+    TrainLines { ending, trains }
 }
 
 fn train_of(head: Head, runs: [u16; 11], stops: [u16; 11]) -> Train
@@ -406,85 +476,77 @@ fn refused(ending: Ending) -> ReadLine
     }
 }
 
-// The count of trains, their lines, and nothing after them.
-fn train_part(
-    s: &[u8],
-    start: Cursor,
-    stations: u16,
-    tracks: [u16; 12],
-    segments: [Segment; 11],
-) -> ReadLine
-    requires { ⌜ stations ≤ 12 ⌝ }
-    ensures { λ r. ⌜ r ≡ answered (trainsPart stations tracks segments (now (s .entry)) start) ⌝ }
+// 3. Trains, of a line with so many stations: their count and a line each.
+fn train_section(s: &[u8], start: Cursor, stations: u16) -> TrainSection
+    requires { ⌜ (stations ≤ 12) × Counted start ⌝ }
+    ensures { λ r. ⌜ toldEnding (r .ending) (record { count = r .count; entries = r .trains }) ≡ trainSection stations (now (s .entry)) start ⌝ }
 {
-    let n = stations as usize;
-    let field = start.ranged(s, LINE_FEED, Train::COUNT, faults_on(n + n + 2));
+    let none = no_train();
+    let field = start.ranged(s, LINE_FEED, Train::COUNT, FAULTS);
     let Field::Value(count, next) = field else {
-        return refused(stopped(field));
+        return TrainSection {
+            ending: stopped(field),
+            count: 0,
+            trains: [none; 12],
+        };
     };
-    let section = train_lines(s, next, count as usize, stations, n + n + 3);
-    let ending = section.ending;
-    let Ending::Done(last) = ending else {
-        return refused(ending);
+    let part = train_lines(s, next, count as usize, stations);
+    let ending = part.ending;
+    let trains = part.trains;
+    TrainSection {
+        ending,
+        count,
+        trains,
+    }
+}
+
+// The three sections in their order, and nothing after the last.
+fn line_from(s: &[u8], start: Cursor) -> ReadLine
+    requires { ⌜ Counted start ⌝ }
+    ensures { λ r. ⌜ r ≡ answered (lineAt (now (s .entry)) start) ⌝ }
+{
+    let first = station_section(s, start);
+    let stations_end = first.ending;
+    let Ending::Done(after_stations) = stations_end else {
+        return refused(stations_end);
+    };
+    let stations = first.count;
+    let second = segment_section(s, after_stations, stations);
+    let segments_end = second.ending;
+    let Ending::Done(after_segments) = segments_end else {
+        return refused(segments_end);
+    };
+    let third = train_section(s, after_segments, stations);
+    let trains_end = third.ending;
+    let Ending::Done(last) = trains_end else {
+        return refused(trains_end);
     };
     if last.at < s.len() {
-        return refused(Ending::Refused(2, n + n + 3 + count as usize));
+        return refused(Ending::Refused(2, last.line));
     }
-    let trains = section.trains;
+    let tracks = first.tracks;
+    let segments = second.segments;
+    let trains = third.trains;
     ReadLine {
         answer: Answer::Accepted,
         line: Line {
             station_count: stations,
             tracks,
             segments,
-            train_count: count,
+            train_count: third.count,
             trains,
         },
     }
 }
 
-// The count of segments, their lines, and the trains.
-fn segment_part(s: &[u8], start: Cursor, stations: u16, tracks: [u16; 12]) -> ReadLine
-    requires { ⌜ (2 ≤ stations) × (stations ≤ 12) ⌝ }
-    ensures { λ r. ⌜ r ≡ answered (segmentsPart stations tracks (now (s .entry)) start) ⌝ }
-{
-    let n = stations as usize;
-    let joins = Limits {
-        min: stations - 1,
-        max: stations - 1,
-    };
-    let field = start.ranged(s, LINE_FEED, joins, faults_on(n + 2));
-    let Field::Value(_, next) = field else {
-        return refused(stopped(field));
-    };
-    let section = segment_lines(s, next, n - 1, n + 3);
-    let ending = section.ending;
-    let Ending::Done(last) = ending else {
-        return refused(ending);
-    };
-    let segments = section.segments;
-    train_part(s, last, stations, tracks, segments)
-}
-
-// The line file from a position on, where the text is not too long: the count of stations, their lines, and the segments.
+// The line file from a position on, which is on line 1, where the text is not too long.
 pub fn file_from(s: &[u8], at: usize) -> ReadLine
     ensures { λ r. ⌜ r ≡ answered (fileFrom (now (s .entry)) at) ⌝ }
 {
     if MAX_BYTES < s.len() {
         return refused(Ending::Refused(1, 0));
     }
-    let start = Cursor { at };
-    let field = start.ranged(s, LINE_FEED, Station::COUNT, faults_on(1));
-    let Field::Value(count, next) = field else {
-        return refused(stopped(field));
-    };
-    let section = station_lines(s, next, count as usize);
-    let ending = section.ending;
-    let Ending::Done(last) = ending else {
-        return refused(ending);
-    };
-    let tracks = section.tracks;
-    segment_part(s, last, count, tracks)
+    line_from(s, Cursor { at, line: 1 })
 }
 
 // Reads a line file: its line, or the number and place of its first fault.

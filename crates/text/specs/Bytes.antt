@@ -16,9 +16,13 @@ byteAt s c = getD s (c .at) 256
 abbrev pub from : List ℕ → Cursor → List ℕ
 from s c = drop (c .at) s
 
--- the cursor one byte on
+-- the cursor past a byte that is no line feed
 abbrev pub ahead : Cursor → Cursor
-ahead c = record { at = c .at + 1 }
+ahead c = record { at = c .at + 1; line = c .line }
+
+-- the cursor past the byte b: "past a line feed it is the next line"
+abbrev pub passing : ℕ → Cursor → Cursor
+passing b c = record { at = c .at + 1; line = pick (eqb b 10) (c .line + 1) (c .line) }
 
 -- what a byte is worth as a decimal digit
 unfoldable pub digitOf : ℕ → Digit
@@ -26,4 +30,4 @@ digitOf b = pick (ltb b 48) Digit.Other (pick (ltb 57 b) Digit.Other (Digit.Wort
 
 -- past the byte b
 unfoldable pub pastOf : List ℕ → Cursor → ℕ → Step
-pastOf s c b = pick (eqb (byteAt s c) b) (Step.Next (ahead c)) Step.Wrong
+pastOf s c b = pick (eqb (byteAt s c) b) (Step.Next (passing b c)) Step.Wrong

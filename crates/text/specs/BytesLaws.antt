@@ -14,7 +14,7 @@ use Rattle.text.specs.declared.Cursor.{Cursor}
 use Rattle.text.specs.declared.Digit.{Digit}
 use Rattle.text.specs.declared.Step.{Step}
 use Rattle.text.specs.Choice.{pick}
-use Rattle.text.specs.Bytes.{byteAt, from, ahead, digitOf, pastOf}
+use Rattle.text.specs.Bytes.{byteAt, from, ahead, passing, digitOf, pastOf}
 
 -- ---- the text from a cursor on
 
@@ -51,7 +51,7 @@ from-ahead s c b l e = rw add-one (tail-drop s (c .at) ∙ ap (λ (x : List ℕ)
 pub from-cons : (s : List ℕ) (c : Cursor) → c .at < length s → from s c ≡ byteAt s c ∷ from s (ahead c)
 from-cons s c h = rw add-one (drop-cons s (c .at) 256 h)
 
-pub from-skip : (s : List ℕ) (c : Cursor) (xs ys : List ℕ) → from s c ≡ xs ++ ys → from s (record { at = c .at + length xs }) ≡ ys
+pub from-skip : (s : List ℕ) (c : Cursor) (xs ys : List ℕ) → from s c ≡ xs ++ ys → from s (record { at = c .at + length xs; line = c .line }) ≡ ys
 from-skip s c xs ys e =
     sym (drop-drop (length xs) (c .at) s) ∙ ap (λ (l : List ℕ). drop (length xs) l) e ∙ drop-append-seam xs ys
 
@@ -65,15 +65,15 @@ pub past-spelt : (s : List ℕ) (c next : Cursor) (b : ℕ) → b < 256 → past
 unfolding pastOf
 past-spelt s c next b h e = go (eqb (byteAt s c) b) refl e
   where
-    go : (p : Bool) → eqb (byteAt s c) b ≡ p → pick p (Step.Next (ahead c)) Step.Wrong ≡ Step.Next next → from s c ≡ b ∷ from s next
+    go : (p : Bool) → eqb (byteAt s c) b ≡ p → pick p (Step.Next (passing b c)) Step.Wrong ≡ Step.Next next → from s c ≡ b ∷ from s next
     go true hp f =
-        let q : ahead c ≡ next = cc in
+        let q : passing b c ≡ next = cc in
         let w : byteAt s c ≡ b = eqb-true (byteAt s c) b hp in
         let k : from s c ≡ b ∷ from s (ahead c) = rw w at (from-cons s c (inside s (c .at) (omega (arith, w, h)))) in
         k ∙ ap (λ (x : Cursor). b ∷ from s x) q
     go false hp f = let z : _≡_ {A = ℕ} 0 1 = cc in absurd (omega arith)
 
-pub past-reads : (s : List ℕ) (c : Cursor) (b : ℕ) (rest : List ℕ) → from s c ≡ b ∷ rest → pastOf s c b ≡ Step.Next (ahead c)
+pub past-reads : (s : List ℕ) (c : Cursor) (b : ℕ) (rest : List ℕ) → from s c ≡ b ∷ rest → pastOf s c b ≡ Step.Next (passing b c)
 unfolding pastOf
 past-reads s c b rest e = simp (eq-eqb (byteAt s c) b (from-byte s c (b ∷ rest) e))
 

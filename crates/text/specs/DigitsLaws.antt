@@ -15,7 +15,7 @@ use Rattle.text.specs.declared.Number.{Number}
 use Rattle.text.specs.declared.Step.{Step}
 use Rattle.text.specs.declared.NumberField.{NumberField}
 use Rattle.text.specs.Choice.{pick, onDigit, onNumber, onStep}
-use Rattle.text.specs.Bytes.{byteAt, from, ahead, digitOf, pastOf}
+use Rattle.text.specs.Bytes.{byteAt, from, ahead, passing, digitOf, pastOf}
 use Rattle.text.specs.BytesLaws.{from-byte, from-ahead, from-skip, past-spelt, past-reads, digit-byte, digit-small, digit-spelt}
 use Rattle.text.specs.Numbers.{more, numberAt, fieldAt}
 use Rattle.text.specs.NumbersLaws.{number-none, number-zero, number-more, more-none, more-step, Room, room-first, room-step, room-below}
@@ -158,7 +158,7 @@ module _ (m : ℕ) (low : 1 ≤ m) (high : m ≤ 7) where
 
 -- where a text t that stands at c ends
 abbrev pub pastText : Cursor → List ℕ → Cursor
-pastText c t = record { at = c .at + length t }
+pastText c t = record { at = c .at + length t; line = c .line }
 
 -- one digit, not 0
 first-reads : (n m : ℕ) (s : List ℕ) (c : Cursor) (rest : List ℕ) → 0 < n → n < 10 → from s c ≡ (n % 10 + 48) ∷ rest →
@@ -170,7 +170,7 @@ first-reads n m s c rest l h e =
 
 -- the last digit, after those before it
 last-reads : (x n m : ℕ) (s : List ℕ) (c : Cursor) (ds rest : List ℕ) → x ≡ n / 10 → length ds + 1 ≤ m → from s c ≡ ds ++ ((n % 10 + 48) ∷ rest) →
-    numberAt m s c ≡ more (m - length ds) s (pastText c ds) x → numberAt m s c ≡ more (m - (length ds + 1)) s (record { at = c .at + (length ds + 1) }) n
+    numberAt m s c ≡ more (m - length ds) s (pastText c ds) x → numberAt m s c ≡ more (m - (length ds + 1)) s (record { at = c .at + (length ds + 1); line = c .line }) n
 last-reads x n m s c ds rest q few e before =
     let there : from s (pastText c ds) ≡ (n % 10 + 48) ∷ rest = from-skip s c ds ((n % 10 + 48) ∷ rest) e in
     let w : byteAt s (pastText c ds) ≡ n % 10 + 48 = from-byte s (pastText c ds) ((n % 10 + 48) ∷ rest) there in
@@ -217,18 +217,18 @@ module _ (m : ℕ) (s : List ℕ) (c : Cursor) (n : ℕ) (rest : List ℕ) (low 
           let w : byteAt s c ≡ 48 = from-byte s c (48 ∷ rest) (rw d at e) in
           rw (d, z) (number-zero s c m (ap digitOf w ∙ digit-byte 0 (omega arith)))
 
--- where the field of n ends
-abbrev pub pastField : Cursor → ℕ → Cursor
-pastField c n = ahead (pastText c (digits n))
+-- where the field of n ends, with the byte b after it
+abbrev pub pastField : Cursor → ℕ → ℕ → Cursor
+pastField c n b = passing b (pastText c (digits n))
 
 module _ (m : ℕ) (s : List ℕ) (c : Cursor) (n b : ℕ) (rest : List ℕ) (low : 1 ≤ m) (few : length (digits n) ≤ m) (small : n < 10000000)
     (o : digitOf b ≡ Digit.Other) (e : from s c ≡ digits n ++ (b ∷ rest)) where
   field-after : from s (pastText c (digits n)) ≡ b ∷ rest
   field-after = from-skip s c (digits n) (b ∷ rest) e
 
-  pub field-reads : fieldAt m s c b ≡ NumberField.Value n (pastField c n)
+  pub field-reads : fieldAt m s c b ≡ NumberField.Value n (pastField c n b)
   unfolding fieldAt
   field-reads = simp (number-reads m s c n (b ∷ rest) low few small e o, past-reads s (pastText c (digits n)) b rest field-after)
 
-  pub field-leaves : from s (pastField c n) ≡ rest
+  pub field-leaves : from s (pastField c n b) ≡ rest
   field-leaves = from-ahead s (pastText c (digits n)) b rest field-after

@@ -5,6 +5,7 @@ pub mod Numbers
 pub mod Digits
 pub mod Limits
 pub mod Parsed
+pub mod Lines
 pub mod Each
 pub mod EachLaws
 pub mod Told
@@ -17,6 +18,8 @@ pub mod NumbersLaws
 pub mod DigitsLaws
 pub mod ParsedLaws
 pub mod ToldLaws
+pub mod LinesLaws
+pub mod FeedsLaws
 pub mod LayLaws
 pub mod SpliceLaws
 pub mod LendLaws

@@ -1,5 +1,5 @@
 -- Laws of reading part by part: each step, what is read is its text, and a text is read as its value.
-use Prim.Native.Nat.{ℕ, zero, suc, _+_, _<_, _≤_}
+use Prim.Native.Nat.{ℕ, zero, suc, _<_, _≤_}
 use mathlib.Core.Path.{_≡_, refl, sym, ap, _∙_}
 use mathlib.Core.Bool.{Bool, true, false}
 use mathlib.Core.List.{List, [], _∷_, _++_, map}
@@ -54,29 +54,29 @@ got-is {A} Q {a} {b} {m} {n} e w =
 
 -- ---- parts in a row
 
-module _ {A : Type 0} (part : ℕ → List ℕ → Cursor → Parsed A) (k j i : ℕ) (s : List ℕ) (c : Cursor) where
-  pub many-done : k ≡ 0 → many k part i s c ≡ Parsed.got [] c
+module _ {A : Type 0} (part : ℕ → List ℕ → Cursor → Parsed A) (k j : ℕ) (s : List ℕ) (c : Cursor) where
+  pub many-done : k ≡ 0 → many k part s c ≡ Parsed.got [] c
   unfolding many
   many-done z = rw z refl
 
-  pub many-step : k ≡ suc j → (x : A) (next : Cursor) → part i s c ≡ Parsed.got x next →
-      many k part i s c ≡ thenRead (many j part (i + 1) s next) (λ xs end. Parsed.got (x ∷ xs) end)
+  pub many-step : k ≡ suc j → (x : A) (next : Cursor) → part j s c ≡ Parsed.got x next →
+      many k part s c ≡ thenRead (many j part s next) (λ xs end. Parsed.got (x ∷ xs) end)
   unfolding many
   many-step z x next e = rw (z, e) refl
 
-  pub many-stop : k ≡ suc j → (n p : ℕ) → part i s c ≡ Parsed.bad n p → many k part i s c ≡ Parsed.bad n p
+  pub many-stop : k ≡ suc j → (n p : ℕ) → part j s c ≡ Parsed.bad n p → many k part s c ≡ Parsed.bad n p
   unfolding many
   many-stop z n p e = rw (z, e) refl
 
 -- parts in a row are as many as were to be read
-pub many-length : {A : Type 0} (part : ℕ → List ℕ → Cursor → Parsed A) (k i : ℕ) (s : List ℕ) (c : Cursor) (xs : List A) (next : Cursor) →
-    many k part i s c ≡ Parsed.got xs next → length xs ≡ k
+pub many-length : {A : Type 0} (part : ℕ → List ℕ → Cursor → Parsed A) (k : ℕ) (s : List ℕ) (c : Cursor) (xs : List A) (next : Cursor) →
+    many k part s c ≡ Parsed.got xs next → length xs ≡ k
 unfolding many
-many-length part zero i s c xs next e = got-is (λ ys end. length ys ≡ 0) e refl
-many-length part (suc k) i s c xs next e =
-    let a = then-got (part i s c) _ xs next e in
-    let b = then-got (many k part (i + 1) s (a .next)) _ xs next (a .after) in
-    got-is (λ ys end. length ys ≡ suc k) (b .after) (ap suc (many-length part k (i + 1) s (a .next) (b .value) (b .next) (b .first)))
+many-length part zero s c xs next e = got-is (λ ys end. length ys ≡ 0) e refl
+many-length part (suc k) s c xs next e =
+    let a = then-got (part k s c) _ xs next e in
+    let b = then-got (many k part s (a .next)) _ xs next (a .after) in
+    got-is (λ ys end. length ys ≡ suc k) (b .after) (ap suc (many-length part k s (a .next) (b .value) (b .next) (b .first)))
 
 -- ---- a number in its range
 
@@ -99,17 +99,17 @@ pub bounded-fits : (lo hi n : ℕ) → lo ≤ n → n ≤ hi → boundedOf lo hi
 unfolding boundedOf
 bounded-fits lo hi n l h = simp (le-ltb n lo l, le-ltb hi n h)
 
-module _ (form range lo hi b p : ℕ) (s : List ℕ) (c : Cursor) where
-  pub ranged-malformed : fieldAt 4 s c b ≡ NumberField.Malformed → rangedAt form range lo hi b p s c ≡ Parsed.bad form p
+module _ (form range lo hi b : ℕ) (s : List ℕ) (c : Cursor) where
+  pub ranged-malformed : fieldAt 4 s c b ≡ NumberField.Malformed → rangedAt form range lo hi b s c ≡ Parsed.bad form (c .line)
   unfolding rangedAt
   ranged-malformed e = simp e
 
   module _ (n : ℕ) (next : Cursor) (e : fieldAt 4 s c b ≡ NumberField.Value n next) where
-    pub ranged-outside : boundedOf lo hi n ≡ Bounded.Outside → rangedAt form range lo hi b p s c ≡ Parsed.bad range p
+    pub ranged-outside : boundedOf lo hi n ≡ Bounded.Outside → rangedAt form range lo hi b s c ≡ Parsed.bad range (c .line)
     unfolding rangedAt
     ranged-outside o = simp (e, o)
 
-    pub ranged-value : (v : ℕ) → boundedOf lo hi n ≡ Bounded.Within v → rangedAt form range lo hi b p s c ≡ Parsed.got v next
+    pub ranged-value : (v : ℕ) → boundedOf lo hi n ≡ Bounded.Within v → rangedAt form range lo hi b s c ≡ Parsed.got v next
     unfolding rangedAt
     ranged-value v o = simp (e, o)
 
@@ -119,12 +119,12 @@ module _ (form range lo hi b p : ℕ) (s : List ℕ) (c : Cursor) where
     pub high : n ≤ hi
     pub text : from s c ≡ digits n ++ (b ∷ from s next)
 
-  pub ranged-spelt : (n : ℕ) (next : Cursor) → b < 256 → rangedAt form range lo hi b p s c ≡ Parsed.got n next → RangedSpelt n next
+  pub ranged-spelt : (n : ℕ) (next : Cursor) → b < 256 → rangedAt form range lo hi b s c ≡ Parsed.got n next → RangedSpelt n next
   unfolding rangedAt
   ranged-spelt n next h e = go (fieldAt 4 s c b) refl e
     where
       value : (m : ℕ) (x : Cursor) → fieldAt 4 s c b ≡ NumberField.Value m x → (a : Bounded) → boundedOf lo hi m ≡ a →
-          onBounded a (λ v. Parsed.got v x) (Parsed.bad range p) ≡ Parsed.got n next → RangedSpelt n next
+          onBounded a (λ v. Parsed.got v x) (Parsed.bad range (c .line)) ≡ Parsed.got n next → RangedSpelt n next
       value m x f Bounded.Outside o g = let z : _≡_ {A = ℕ} 0 1 = cc in absurd (omega arith)
       value m x f (Bounded.Within v) o g =
           let w = bounded-within lo hi m v o in
@@ -138,7 +138,7 @@ module _ (form range lo hi b p : ℕ) (s : List ℕ) (c : Cursor) where
           }
 
       go : (f : NumberField) → fieldAt 4 s c b ≡ f →
-          onField f (λ m x. onBounded (boundedOf lo hi m) (λ v. Parsed.got v x) (Parsed.bad range p)) (Parsed.bad form p) ≡ Parsed.got n next →
+          onField f (λ m x. onBounded (boundedOf lo hi m) (λ v. Parsed.got v x) (Parsed.bad range (c .line))) (Parsed.bad form (c .line)) ≡ Parsed.got n next →
           RangedSpelt n next
       go (NumberField.Value m x) f g = value m x f (boundedOf lo hi m) refl g
       go NumberField.Malformed f g = let z : _≡_ {A = ℕ} 0 1 = cc in absurd (omega arith)
@@ -151,14 +151,14 @@ pub record Reads {A : Type 0} (r : Parsed A) (x : A) (s rest : List ℕ) : Type 
   pub reads : r ≡ Parsed.got x next
   pub leaves : from s next ≡ rest
 
-pub ranged-reads : (form range lo hi b p : ℕ) (s : List ℕ) (c : Cursor) (n : ℕ) (rest : List ℕ) → digitOf b ≡ Digit.Other → lo ≤ n → n ≤ hi → hi < 10000 →
-    from s c ≡ digits n ++ (b ∷ rest) → Reads (rangedAt form range lo hi b p s c) n s rest
-ranged-reads form range lo hi b p s c n rest o l h small e =
+pub ranged-reads : (form range lo hi b : ℕ) (s : List ℕ) (c : Cursor) (n : ℕ) (rest : List ℕ) → digitOf b ≡ Digit.Other → lo ≤ n → n ≤ hi → hi < 10000 →
+    from s c ≡ digits n ++ (b ∷ rest) → Reads (rangedAt form range lo hi b s c) n s rest
+ranged-reads form range lo hi b s c n rest o l h small e =
     let few : length (digits n) ≤ 4 = digits-length 3 n (omega arith) in
     record {
-      next = pastField c n;
+      next = pastField c n b;
       reads =
-          ranged-value form range lo hi b p s c n (pastField c n) (field-reads 4 s c n b rest (omega arith) few (omega arith) o e) n (bounded-fits lo hi n l h);
+          ranged-value form range lo hi b s c n (pastField c n b) (field-reads 4 s c n b rest (omega arith) few (omega arith) o e) n (bounded-fits lo hi n l h);
       leaves = field-leaves 4 s c n b rest (omega arith) few (omega arith) o e;
     }
 
@@ -175,7 +175,7 @@ reads-then f a g =
 
 -- ---- a part for each element
 
-module _ {A : Type 0} (P : A → Type 0) (text : A → List ℕ → List ℕ) (part : ℕ → List ℕ → Cursor → Parsed A) (s : List ℕ) where
+module _ {A : Type 0} (P : A → Type 0) (text : A → List ℕ → List ℕ) (s : List ℕ) where
   -- a part that was read is the text of its value
   pub record PartSpelt (c : Cursor) (x : A) (next : Cursor) : Type 0 where
     pub valid : P x
@@ -186,16 +186,17 @@ module _ {A : Type 0} (P : A → Type 0) (text : A → List ℕ → List ℕ) (p
     pub valid : Each P xs
     pub spelt : from s c ≡ eachThen text xs (from s next)
 
-  pub many-spelt : ((i : ℕ) (c : Cursor) (x : A) (next : Cursor) → part i s c ≡ Parsed.got x next → PartSpelt c x next) →
-      (k i : ℕ) (c : Cursor) (xs : List A) (next : Cursor) → many k part i s c ≡ Parsed.got xs next → ManySpelt k c xs next
+  pub many-spelt : (part : ℕ → List ℕ → Cursor → Parsed A) →
+      ((left : ℕ) (c : Cursor) (x : A) (next : Cursor) → part left s c ≡ Parsed.got x next → PartSpelt c x next) →
+      (k : ℕ) (c : Cursor) (xs : List A) (next : Cursor) → many k part s c ≡ Parsed.got xs next → ManySpelt k c xs next
   unfolding many
-  many-spelt one zero i c xs next e =
+  many-spelt part one zero c xs next e =
       got-is (λ ys end. ManySpelt 0 c ys end) e (record { many = refl; valid = tt; spelt = refl })
-  many-spelt one (suc k) i c xs next e =
-      let a = then-got (part i s c) _ xs next e in
-      let b = then-got (many k part (i + 1) s (a .next)) _ xs next (a .after) in
-      let h = one i c (a .value) (a .next) (a .first) in
-      let t = many-spelt one k (i + 1) (a .next) (b .value) (b .next) (b .first) in
+  many-spelt part one (suc k) c xs next e =
+      let a = then-got (part k s c) _ xs next e in
+      let b = then-got (many k part s (a .next)) _ xs next (a .after) in
+      let h = one k c (a .value) (a .next) (a .first) in
+      let t = many-spelt part one k (a .next) (b .value) (b .next) (b .first) in
       got-is (λ ys end. ManySpelt (suc k) c ys end) (b .after) (record {
         many = ap suc (t .many);
         valid = (h .valid, t .valid);
@@ -204,15 +205,15 @@ module _ {A : Type 0} (P : A → Type 0) (text : A → List ℕ → List ℕ) (p
 
 -- an element b whose text is read as f b
 module _ {A B : Type 0} (P : B → Type 0) (text : B → List ℕ → List ℕ) (f : B → A) (part : ℕ → List ℕ → Cursor → Parsed A) (s : List ℕ)
-    (one : (i : ℕ) (c : Cursor) (b : B) (rest : List ℕ) → P b → from s c ≡ text b rest → Reads (part i s c) (f b) s rest) where
-  each-reads : (bs : List B) (i : ℕ) (c : Cursor) (rest : List ℕ) → Each P bs → from s c ≡ eachThen text bs rest →
-      Reads (many (length bs) part i s c) (map f bs) s rest
+    (one : (left : ℕ) (c : Cursor) (b : B) (rest : List ℕ) → P b → from s c ≡ text b rest → Reads (part left s c) (f b) s rest) where
+  each-reads : (bs : List B) (c : Cursor) (rest : List ℕ) → Each P bs → from s c ≡ eachThen text bs rest →
+      Reads (many (length bs) part s c) (map f bs) s rest
   unfolding many
-  each-reads [] i c rest v e = record { next = c; reads = refl; leaves = e }
-  each-reads (b ∷ bs) i c rest v e =
-      reads-then _ (one i c b (eachThen text bs rest) (v .0) e)
-      (λ next h. reads-then _ (each-reads bs (i + 1) next rest (v .1) h) (λ end l. at-end _ end l))
+  each-reads [] c rest v e = record { next = c; reads = refl; leaves = e }
+  each-reads (b ∷ bs) c rest v e =
+      reads-then _ (one (length bs) c b (eachThen text bs rest) (v .0) e)
+      (λ next h. reads-then _ (each-reads bs next rest (v .1) h) (λ end l. at-end _ end l))
 
-  pub many-reads : (k : ℕ) (bs : List B) → length bs ≡ k → (i : ℕ) (c : Cursor) (rest : List ℕ) → Each P bs → from s c ≡ eachThen text bs rest →
-      Reads (many k part i s c) (map f bs) s rest
-  many-reads k bs w i c rest v e = rw w at (each-reads bs i c rest v e)
+  pub many-reads : (k : ℕ) (bs : List B) → length bs ≡ k → (c : Cursor) (rest : List ℕ) → Each P bs → from s c ≡ eachThen text bs rest →
+      Reads (many k part s c) (map f bs) s rest
+  many-reads k bs w c rest v e = rw w at (each-reads bs c rest v e)

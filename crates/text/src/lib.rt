@@ -4,6 +4,7 @@ ghost use mathlib.Core.List.{_∷_, []};
 ghost use Prim.Native.Nat.{_+_, _-_, _≤_, _<_};
 ghost use lib.ListN.{length, take};
 ghost use Rattle.text.specs.Bytes.{byteAt, digitOf, pastOf};
+ghost use Rattle.text.specs.Lines.{Counted};
 ghost use Rattle.text.specs.Numbers.{numberAt, fieldAt};
 ghost use Rattle.text.specs.Digits.{digits, fieldText};
 ghost use Rattle.text.specs.Splice.{Put};
@@ -18,9 +19,10 @@ pub const SPACE: u8 = 32;
 // What stands past the last byte: no byte.
 const END: u32 = 256;
 
-// The reading position.
+// The reading position, and the line that it stands on, from 1.
 pub struct Cursor {
     pub at: usize,
+    pub line: usize,
 }
 
 pub enum Digit {
@@ -71,11 +73,10 @@ impl Limits {
     }
 }
 
-// The numbers with which a field is refused, and the line that it stands on.
+// The numbers with which a field is refused.
 pub struct Faults {
     pub form: u8,
     pub range: u8,
-    pub line: usize,
 }
 
 // A number field within its limits, or the refusal with its place.
@@ -123,15 +124,24 @@ impl Cursor {
         if at < s.len() { wide(s[at]) } else { END }
     }
 
-    // Past the byte b.
+    // Past the byte b; past a line feed it is the next line.
     pub fn past(self, s: &[u8], b: u8) -> Step
+        requires { ⌜ Counted self ⌝ }
         ensures { λ r. ⌜ r ≡ pastOf (now (s .entry)) self b ⌝ }
     {
-        if self.byte(s) == wide(b) {
-            Step::Next(Cursor { at: self.at + 1 })
-        } else {
-            Step::Wrong
+        if self.byte(s) != wide(b) {
+            return Step::Wrong;
         }
+        if b == LINE_FEED {
+            return Step::Next(Cursor {
+                at: self.at + 1,
+                line: self.line + 1,
+            });
+        }
+        Step::Next(Cursor {
+            at: self.at + 1,
+            line: self.line,
+        })
     }
 
     // A number of one to `most` digits, with no leading zero.
@@ -142,7 +152,10 @@ impl Cursor {
         let Digit::Worth(first) = digit_of(self.byte(s)) else {
             return Number::Malformed;
         };
-        let mut next = Cursor { at: self.at + 1 };
+        let mut next = Cursor {
+            at: self.at + 1,
+            line: self.line,
+        };
         if first == 0 {
             return Number::Value(0, next);
         }
@@ -153,7 +166,7 @@ impl Cursor {
                 break;
             };
             value = value * 10 + d;
-            next = Cursor { at: next.at + 1 };
+            next.at = next.at + 1;
             left = left - 1;
         }
         Number::Value(value, next)
@@ -161,7 +174,7 @@ impl Cursor {
 
     // A number of one to `most` digits and the byte b after it.
     pub fn number_field(self, s: &[u8], most: usize, b: u8) -> NumberField
-        requires { ⌜ (1 ≤ most) × (most ≤ 7) ⌝ }
+        requires { ⌜ (1 ≤ most) × (most ≤ 7) × Counted self ⌝ }
         ensures { λ r. ⌜ r ≡ fieldAt most (now (s .entry)) self b ⌝ }
     {
         let Number::Value(n, after) = self.number(s, most) else {
@@ -173,15 +186,17 @@ impl Cursor {
         NumberField::Value(n, next)
     }
 
-    // A number of one to four digits within its limits, with the byte b after it: form, byte after, then range.
+    // A number of one to four digits within its limits, with the byte b after it: form, byte after, then range. A fault's place is the line on
+    // which the field began.
     pub fn ranged(self, s: &[u8], b: u8, limits: Limits, faults: Faults) -> Field
-        ensures { λ r. ⌜ toldField r ≡ rangedAt (faults .form) (faults .range) (limits .min) (limits .max) b (faults .line) (now (s .entry)) self ⌝ }
+        requires { ⌜ Counted self ⌝ }
+        ensures { λ r. ⌜ toldField r ≡ rangedAt (faults .form) (faults .range) (limits .min) (limits .max) b (now (s .entry)) self ⌝ }
     {
         let NumberField::Value(n, next) = self.number_field(s, 4, b) else {
-            return Field::Refused(faults.form, faults.line);
+            return Field::Refused(faults.form, self.line);
         };
         let Bounded::Within(v) = limits.value(n) else {
-            return Field::Refused(faults.range, faults.line);
+            return Field::Refused(faults.range, self.line);
         };
         Field::Value(v, next)
     }

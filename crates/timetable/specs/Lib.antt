@@ -4,6 +4,7 @@ pub mod Told
 pub mod ReadingLaws
 pub mod ListLaws
 pub mod RestLaws
+pub mod PlaceLaws
 pub mod Spell
 pub mod Writing
 pub mod Check
@@ -15,4 +16,5 @@ pub mod SpeltLaws
 pub mod ReadsLaws
 pub mod FitsLaws
 pub mod WritingLaws
+pub mod FaultPlaces
 pub mod Exact

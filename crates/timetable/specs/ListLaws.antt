@@ -1,5 +1,5 @@
 -- Laws of reading an order list's line: each way out of its own count, and the numbers of its trains laid into an array.
-use Prim.Native.Nat.{ℕ, _-_, _≤_}
+use Prim.Native.Nat.{ℕ, _≤_}
 use mathlib.Core.Path.{_≡_, refl, sym, ap, _∙_}
 use mathlib.Core.Bool.{cond}
 use mathlib.Core.List.{List}
@@ -16,10 +16,10 @@ use Rattle.text.specs.Bytes.{pastOf}
 use Rattle.text.specs.Numbers.{numberAt}
 use Rattle.text.specs.Limits.{boundedOf}
 use Rattle.text.specs.Lists.{padded, take-padded}
-use Rattle.text.specs.Parsed.{Parsed, mapParsed, many, rangedAt}
+use Rattle.text.specs.Parsed.{Parsed, mapParsed, many}
 use Rattle.text.specs.ParsedLaws.{many-length, bounded-within}
 use Rattle.text.specs.LayLaws.{layMany}
-use Rattle.timetable.specs.Reading.{afterField, ownCountAt, listAt}
+use Rattle.timetable.specs.Reading.{ownCountAt, nameAt, listAt}
 
 -- ---- a list's own count
 
@@ -29,79 +29,75 @@ byte-none v b e h = rw (eq-eqb v 0 e) h
 pub byte-some : (v b : ℕ) → (v ≡ 0 → ⊥) → b ≡ 32 → b ≡ cond (eqb v 0) 10 32
 byte-some v b e h = rw (ne-eqb v 0 e) h
 
-module _ (n p : ℕ) (s : List ℕ) (c : Cursor) where
-  pub own-malformed : numberAt 4 s c ≡ Number.Malformed → ownCountAt n p s c ≡ Parsed.bad 8 p
+module _ (n : ℕ) (s : List ℕ) (c : Cursor) where
+  pub own-malformed : numberAt 4 s c ≡ Number.Malformed → ownCountAt n s c ≡ Parsed.bad 8 (c .line)
   unfolding ownCountAt
   own-malformed e = simp e
 
   -- v is read, and b is the byte that belongs after it
   module _ {v b : ℕ} {after : Cursor} (number : numberAt 4 s c ≡ Number.Value v after) (byte : b ≡ cond (eqb v 0) 10 32) where
-    pub own-unended : pastOf s after b ≡ Step.Wrong → ownCountAt n p s c ≡ Parsed.bad 8 p
+    pub own-unended : pastOf s after b ≡ Step.Wrong → ownCountAt n s c ≡ Parsed.bad 8 (c .line)
     unfolding ownCountAt
     own-unended e =
         let past = ap (λ (k : ℕ). pastOf s after k) (sym byte) ∙ e in
         simp (number, past)
 
     module _ {next : Cursor} (e : pastOf s after b ≡ Step.Next next) where
-      pub own-over : boundedOf 0 n v ≡ Bounded.Outside → ownCountAt n p s c ≡ Parsed.bad 9 p
+      pub own-over : boundedOf 0 n v ≡ Bounded.Outside → ownCountAt n s c ≡ Parsed.bad 9 (c .line)
       unfolding ownCountAt
       own-over o =
           let past = ap (λ (k : ℕ). pastOf s after k) (sym byte) ∙ e in
           simp (number, past, o)
 
-      pub own-value : {w : ℕ} → boundedOf 0 n v ≡ Bounded.Within w → ownCountAt n p s c ≡ Parsed.got w next
+      pub own-value : {w : ℕ} → boundedOf 0 n v ≡ Bounded.Within w → ownCountAt n s c ≡ Parsed.got w next
       unfolding ownCountAt
       own-value o =
           let past = ap (λ (k : ℕ). pastOf s after k) (sym byte) ∙ e in
           simp (number, past, o)
 
 -- a count that was read is at most the line's trains
-pub own-within : (n p : ℕ) (s : List ℕ) (c : Cursor) (v : ℕ) (next : Cursor) → ownCountAt n p s c ≡ Parsed.got v next → v ≤ n
+pub own-within : (n : ℕ) (s : List ℕ) (c : Cursor) (v : ℕ) (next : Cursor) → ownCountAt n s c ≡ Parsed.got v next → v ≤ n
 unfolding ownCountAt
-own-within n p s c v next e = number (numberAt 4 s c) e
+own-within n s c v next e = number (numberAt 4 s c) e
   where
-    bounded : (m : ℕ) (x : Cursor) (a : Bounded) → boundedOf 0 n m ≡ a → onBounded a (λ w. Parsed.got w x) (Parsed.bad 9 p) ≡ Parsed.got v next → v ≤ n
+    bounded : (m : ℕ) (x : Cursor) (a : Bounded) → boundedOf 0 n m ≡ a → onBounded a (λ w. Parsed.got w x) (Parsed.bad 9 (c .line)) ≡ Parsed.got v next → v ≤ n
     bounded m x Bounded.Outside o g = let z : _≡_ {A = ℕ} 0 1 = cc in absurd (omega arith)
     bounded m x (Bounded.Within w) o g =
         let i = bounded-within 0 n m w o in
         let q : w ≡ v = cc in
         omega (arith, i .high, i .same)
 
-    step : (m : ℕ) (a : Step) → onStep a (λ x. onBounded (boundedOf 0 n m) (λ w. Parsed.got w x) (Parsed.bad 9 p)) (Parsed.bad 8 p) ≡ Parsed.got v next → v ≤ n
+    step : (m : ℕ) (a : Step) → onStep a (λ x. onBounded (boundedOf 0 n m) (λ w. Parsed.got w x) (Parsed.bad 9 (c .line))) (Parsed.bad 8 (c .line)) ≡ Parsed.got v next → v ≤ n
     step m (Step.Next x) g = bounded m x (boundedOf 0 n m) refl g
     step m Step.Wrong g = let z : _≡_ {A = ℕ} 0 1 = cc in absurd (omega arith)
 
     number : (a : Number) → onNumber a (λ m after. onStep (pastOf s after (cond (eqb m 0) 10 32))
-        (λ x. onBounded (boundedOf 0 n m) (λ w. Parsed.got w x) (Parsed.bad 9 p)) (Parsed.bad 8 p)) (Parsed.bad 8 p) ≡ Parsed.got v next → v ≤ n
+        (λ x. onBounded (boundedOf 0 n m) (λ w. Parsed.got w x) (Parsed.bad 9 (c .line))) (Parsed.bad 8 (c .line))) (Parsed.bad 8 (c .line)) ≡ Parsed.got v next → v ≤ n
     number (Number.Value m after) g = step m (pastOf s after (cond (eqb m 0) 10 32)) g
     number Number.Malformed g = let z : _≡_ {A = ℕ} 0 1 = cc in absurd (omega arith)
 
 -- ---- the trains of a list
 
 -- laid into an array of twelve, they are its first entries
-lay-take : (part : ℕ → List ℕ → Cursor → Parsed ℕ) (k i : ℕ) (s : List ℕ) (c : Cursor) → k ≤ 12 →
-    many k part i s c ≡ mapParsed (take k) (layMany k part i s c (replicate 12 0) 0)
+lay-take : (part : ℕ → List ℕ → Cursor → Parsed ℕ) (k : ℕ) (s : List ℕ) (c : Cursor) → k ≤ 12 →
+    many k part s c ≡ mapParsed (take k) (layMany k part s c (replicate 12 0) 0)
 unfolding padded
-lay-take part k i s c few = go (many k part i s c) refl
+lay-take part k s c few = go (many k part s c) refl
   where
-    go : (r : Parsed (List ℕ)) → many k part i s c ≡ r → r ≡ mapParsed (take k) (mapParsed (padded 12 0) r)
+    go : (r : Parsed (List ℕ)) → many k part s c ≡ r → r ≡ mapParsed (take k) (mapParsed (padded 12 0) r)
     go (Parsed.got xs next) e =
-        let size = many-length part k i s c xs next e in
+        let size = many-length part k s c xs next e in
         ap (λ (l : List ℕ). Parsed.got l next) (sym (rw size at (take-padded 12 0 xs (rw size few))))
     go (Parsed.bad n p) e = refl
 
--- the number of train k in a list of v trains
-abbrev pub listPart : ℕ → ℕ → ℕ → ℕ → List ℕ → Cursor → Parsed ℕ
-listPart n v p k s c = rangedAt 8 9 1 n (afterField (v - 1 - k)) p s c
-
-module _ (n p : ℕ) (s : List ℕ) (c : Cursor) where
-  pub list-no-count : {m q : ℕ} → ownCountAt n p s c ≡ Parsed.bad m q → listAt n p s c ≡ Parsed.bad m q
+module _ (n : ℕ) (s : List ℕ) (c : Cursor) where
+  pub list-no-count : {m q : ℕ} → ownCountAt n s c ≡ Parsed.bad m q → listAt n s c ≡ Parsed.bad m q
   unfolding listAt
   list-no-count e = rw e refl
 
   -- a list from its own count and its trains laid into an array
-  pub list-from : (v : ℕ) (c₁ : Cursor) (laid : Parsed (List ℕ)) → n ≤ 12 → ownCountAt n p s c ≡ Parsed.got v c₁ →
-      laid ≡ layMany v (listPart n v p) 0 s c₁ (replicate 12 0) 0 → listAt n p s c ≡ mapParsed (take v) laid
+  pub list-from : (v : ℕ) (c₁ : Cursor) (laid : Parsed (List ℕ)) → n ≤ 12 → ownCountAt n s c ≡ Parsed.got v c₁ →
+      laid ≡ layMany v (nameAt n) s c₁ (replicate 12 0) 0 → listAt n s c ≡ mapParsed (take v) laid
   unfolding listAt
   list-from v c₁ laid few e l =
-      rw (e, l) (lay-take (listPart n v p) v 0 s c₁ (omega (arith, own-within n p s c v c₁ e)))
+      rw (e, l) (lay-take (nameAt n) v s c₁ (omega (arith, own-within n s c v c₁ e)))

@@ -13,31 +13,31 @@ use Rattle.rules.specs.Paths.{train, legs, segmentOf}
 use Rattle.timetable.specs.Reading.{afterField, timeAt, countAt, legsAt, trainsAt, minutesAt}
 
 -- a count that was read is the line's
-pub count-is : (n p : ℕ) (s : List ℕ) (c : Cursor) (v : ℕ) (next : Cursor) → countAt n p s c ≡ Parsed.got v next → v ≡ n
-count-is n p s c v next e =
-    let w = ranged-spelt 8 9 n n 10 p s c v next (omega arith) e in
+pub count-is : (n : ℕ) (s : List ℕ) (c : Cursor) (v : ℕ) (next : Cursor) → countAt n s c ≡ Parsed.got v next → v ≡ n
+count-is n s c v next e =
+    let w = ranged-spelt 8 9 n n 10 s c v next (omega arith) e in
     omega (arith, w .low, w .high)
 
 -- ---- the legs of a train
 
-module _ (n : ℕ) (t : Train) (i j p : ℕ) (m s : List ℕ) (c : Cursor) where
-  pub legs-done : n ≡ 0 → legsAt n t i j p m s c ≡ Parsed.got m c
+module _ (n : ℕ) (t : Train) (i j : ℕ) (m s : List ℕ) (c : Cursor) where
+  pub legs-done : n ≡ 0 → legsAt n t i j m s c ≡ Parsed.got m c
   unfolding legsAt
   legs-done e = rw e refl
 
   module _ (k : ℕ) (e : n ≡ suc k) where
-    pub legs-no-departure : {x q : ℕ} → timeAt 32 p s c ≡ Parsed.bad x q → legsAt n t i j p m s c ≡ Parsed.bad x q
+    pub legs-no-departure : {x q : ℕ} → timeAt 32 s c ≡ Parsed.bad x q → legsAt n t i j m s c ≡ Parsed.bad x q
     unfolding legsAt
     legs-no-departure f = rw (e, f) refl
 
-    module _ {d : ℕ} {c₁ : Cursor} (departure : timeAt 32 p s c ≡ Parsed.got d c₁) where
-      pub legs-no-arrival : {x q : ℕ} → timeAt (afterField k) p s c₁ ≡ Parsed.bad x q → legsAt n t i j p m s c ≡ Parsed.bad x q
+    module _ {d : ℕ} {c₁ : Cursor} (departure : timeAt 32 s c ≡ Parsed.got d c₁) where
+      pub legs-no-arrival : {x q : ℕ} → timeAt (afterField k) s c₁ ≡ Parsed.bad x q → legsAt n t i j m s c ≡ Parsed.bad x q
       unfolding legsAt
       legs-no-arrival f = rw (e, departure, f) refl
 
       -- g is the segment of leg j
-      pub legs-step : {a : ℕ} {c₂ : Cursor} (g : ℕ) → timeAt (afterField k) p s c₁ ≡ Parsed.got a c₂ → g ≡ segmentOf t j →
-          legsAt n t i j p m s c ≡ legsAt k t i (j + 1) p (set (set m (16 * g + i) d) (176 + (16 * g + i)) a) s c₂
+      pub legs-step : {a : ℕ} {c₂ : Cursor} (g : ℕ) → timeAt (afterField k) s c₁ ≡ Parsed.got a c₂ → g ≡ segmentOf t j →
+          legsAt n t i j m s c ≡ legsAt k t i (j + 1) (set (set m (16 * g + i) d) (176 + (16 * g + i)) a) s c₂
       unfolding legsAt
       legs-step g f h = rw (e, departure, f, h) refl
 
@@ -49,11 +49,11 @@ module _ (n : ℕ) (l : Line) (i : ℕ) (m s : List ℕ) (c : Cursor) where
   trains-done e = rw e refl
 
   module _ (k : ℕ) (e : n ≡ suc k) where
-    pub trains-refused : {x q : ℕ} → legsAt (legs l i) (train l i) i 0 (i + 2) m s c ≡ Parsed.bad x q → trainsAt n l i m s c ≡ Parsed.bad x q
+    pub trains-refused : {x q : ℕ} → legsAt (legs l i) (train l i) i 0 m s c ≡ Parsed.bad x q → trainsAt n l i m s c ≡ Parsed.bad x q
     unfolding trainsAt
     trains-refused f = rw (e, f) refl
 
-    pub trains-step : {m′ : List ℕ} {next : Cursor} → legsAt (legs l i) (train l i) i 0 (i + 2) m s c ≡ Parsed.got m′ next →
+    pub trains-step : {m′ : List ℕ} {next : Cursor} → legsAt (legs l i) (train l i) i 0 m s c ≡ Parsed.got m′ next →
         trainsAt n l i m s c ≡ trainsAt k l (i + 1) m′ s next
     unfolding trainsAt
     trains-step f = rw (e, f) refl
@@ -61,11 +61,11 @@ module _ (n : ℕ) (l : Line) (i : ℕ) (m s : List ℕ) (c : Cursor) where
 -- ---- the first part of the text
 
 module _ (l : Line) (s : List ℕ) (c : Cursor) where
-  pub minutes-no-count : {x q : ℕ} → countAt (l .«train_count») 1 s c ≡ Parsed.bad x q → minutesAt l s c ≡ Parsed.bad x q
+  pub minutes-no-count : {x q : ℕ} → countAt (l .«train_count») s c ≡ Parsed.bad x q → minutesAt l s c ≡ Parsed.bad x q
   unfolding minutesAt
   minutes-no-count e = rw e refl
 
-  pub minutes-counted : {v : ℕ} {next : Cursor} → countAt (l .«train_count») 1 s c ≡ Parsed.got v next →
+  pub minutes-counted : {v : ℕ} {next : Cursor} → countAt (l .«train_count») s c ≡ Parsed.got v next →
       minutesAt l s c ≡ trainsAt (l .«train_count») l 0 (replicate 352 0) s next
   unfolding minutesAt
-  minutes-counted {v} {next} e = rw e (ap (λ (k : ℕ). trainsAt k l 0 (replicate 352 0) s next) (count-is (l .«train_count») 1 s c v next e))
+  minutes-counted {v} {next} e = rw e (ap (λ (k : ℕ). trainsAt k l 0 (replicate 352 0) s next) (count-is (l .«train_count») s c v next e))

@@ -1,6 +1,6 @@
 -- The text of a timetable is read as its minutes, lists and total: each field is read as its value, and stored into entries of its own.
-use Prim.Native.Nat.{ℕ, zero, suc, _+_, _-_, _≤_, _<_}
-use mathlib.Core.Path.{_≡_, refl, ap, _∙_}
+use Prim.Native.Nat.{ℕ, zero, suc, _+_, _≤_, _<_}
+use mathlib.Core.Path.{_≡_, refl, _∙_}
 use mathlib.Core.Bool.{cond, true, false}
 use mathlib.Core.List.{List, [], _∷_, map-id}
 use native.Mathlib.Omega.{arith}
@@ -15,7 +15,7 @@ use Rattle.text.specs.Digits.{digits}
 use Rattle.text.specs.DigitsLaws.{digits-length, number-reads, pastText, field-reads, field-leaves, pastField}
 use Rattle.text.specs.Each.{Each, eachThen}
 use Rattle.text.specs.Below.{EachFrom, each-first}
-use Rattle.text.specs.Parsed.{Parsed, many}
+use Rattle.text.specs.Parsed.{Parsed, many, lines}
 use Rattle.text.specs.ParsedLaws.{bounded-fits, Reads, ranged-reads, at-end, reads-then, many-reads}
 use Rattle.line.specs.declared.Train.{Train}
 use Rattle.line.specs.declared.Line.{Line}
@@ -30,9 +30,9 @@ use Rattle.rules.specs.Delay.{Same}
 use Rattle.rules.specs.Orders.{listCount}
 use Rattle.rules.specs.OrdersLaws.{lists-few}
 use Rattle.rules.specs.PathsLaws.{routed-leg}
-use Rattle.timetable.specs.Reading.{afterField, withLeg, legsAt, trainsAt, minutesAt, ownCountAt, listAt, totalAt, restAt, timetableFile}
+use Rattle.timetable.specs.Reading.{afterField, withLeg, legsAt, trainsAt, minutesAt, ownCountAt, nameAt, listAt, totalAt, restAt, timetableFile}
 use Rattle.timetable.specs.ReadingLaws.{legs-step, trains-step, minutes-counted}
-use Rattle.timetable.specs.ListLaws.{own-value, listPart}
+use Rattle.timetable.specs.ListLaws.{own-value}
 use Rattle.timetable.specs.Spell.{legsText, trainsText, minutesText, namesText, listText, restText}
 use Rattle.timetable.specs.StoresLaws.{leg-stored, legs-stored, departure-stored, arrival-stored, trains-stored}
 use Rattle.timetable.specs.SpeltLaws.{DaysAt}
@@ -43,11 +43,11 @@ after-ends (suc k) = space-ends
 
 -- ---- the legs of a train, which is train i, with the minutes m
 
-module _ (t : Train) (r : 1 ≤ legsOf t → Routed t) (i : ℕ) (few : i < 16) (p : ℕ) (m s : List ℕ) where
+module _ (t : Train) (r : 1 ≤ legsOf t → Routed t) (i : ℕ) (few : i < 16) (m s : List ℕ) where
   -- k legs from leg j on are read, which makes the minutes m₀ into others with those of m for these legs
   record LegsRead (k j : ℕ) (m₀ : List ℕ) (c : Cursor) (rest : List ℕ) : Type 0 where
     minutes : List ℕ
-    reads : Reads (legsAt k t i j p m₀ s c) minutes s rest
+    reads : Reads (legsAt k t i j m₀ s c) minutes s rest
     same : EachFrom k j (λ q. (departureOf t minutes i q ≡ departureOf t m i q) × (arrivalOf t minutes i q ≡ arrivalOf t m i q))
 
   legs-read : (k j : ℕ) (m₀ : List ℕ) (c : Cursor) (rest : List ℕ) → length m₀ ≡ 352 → j + k ≤ legsOf t → ((q : ℕ) → q < legsOf t → DaysAt t m i q) →
@@ -59,17 +59,17 @@ module _ (t : Train) (r : 1 ≤ legsOf t → Routed t) (i : ℕ) (few : i < 16) 
       let a = arrivalOf t m i j in
       let others = legsText k t m i (j + 1) rest in
       let time = days j (omega arith) in
-      let first = ranged-reads 8 9 0 2879 32 p s c d (field a (afterField k) others) space-ends (omega arith) (time .0) (omega arith) e in
-      let second = ranged-reads 8 9 0 2879 (afterField k) p s (first .next) a others (after-ends k) (omega arith) (time .1) (omega arith) (first .leaves) in
+      let first = ranged-reads 8 9 0 2879 32 s c d (field a (afterField k) others) space-ends (omega arith) (time .0) (omega arith) e in
+      let second = ranged-reads 8 9 0 2879 (afterField k) s (first .next) a others (after-ends k) (omega arith) (time .1) (omega arith) (first .leaves) in
       let more = legs-read k (j + 1) (withLeg t i j d a m₀) (second .next) rest (leg-stored t i j d a m₀ .size ∙ size) (omega arith) days (second .leaves) in
       let path-ends = r (omega arith) in
-      let depart = departure-stored t i path-ends few k j p d a m₀ s (second .next) (more .minutes) (more .reads .next) size path (more .reads .reads) in
-      let arrive = arrival-stored t i path-ends few k j p d a m₀ s (second .next) (more .minutes) (more .reads .next) size path (more .reads .reads) in
+      let depart = departure-stored t i path-ends few k j d a m₀ s (second .next) (more .minutes) (more .reads .next) size path (more .reads .reads) in
+      let arrive = arrival-stored t i path-ends few k j d a m₀ s (second .next) (more .minutes) (more .reads .next) size path (more .reads .reads) in
       record {
         minutes = more .minutes;
         reads = record {
           next = more .reads .next;
-          reads = legs-step (suc k) t i j p m₀ s c k refl (first .reads) (segmentOf t j) (second .reads) refl ∙ more .reads .reads;
+          reads = legs-step (suc k) t i j m₀ s c k refl (first .reads) (segmentOf t j) (second .reads) refl ∙ more .reads .reads;
           leaves = more .reads .leaves;
         };
         same = each-first _ k j (depart, arrive) (more .same);
@@ -96,9 +96,9 @@ module _ (l : Line) (w : Within l) (m : List ℕ) (days : EachTrain l (InDays l 
       let few : i + suc k ≤ 12 = omega (arith, w .trains) in
       let path = routed-leg l i w (omega arith) in
       let others = trainsText k l m (i + 1) rest in
-      let one = legs-read t path i (omega arith) (i + 2) m s (legs l i) 0 m₀ c others size (omega arith) (days i (omega arith)) e in
+      let one = legs-read t path i (omega arith) m s (legs l i) 0 m₀ c others size (omega arith) (days i (omega arith)) e in
       let first = one .reads in
-      let long = legs-stored t i (legs l i) 0 (i + 2) m₀ s c (one .minutes) (first .next) (first .reads) .size ∙ size in
+      let long = legs-stored t i (legs l i) 0 m₀ s c (one .minutes) (first .next) (first .reads) .size ∙ size in
       let more = trains-read k (i + 1) (one .minutes) (first .next) rest long (omega arith) (first .leaves) in
       let kept = trains-stored k l (i + 1) (one .minutes) s (first .next) (more .minutes) (more .reads .next) (omega arith) (more .reads .reads) in
       record {
@@ -125,7 +125,7 @@ module _ (l : Line) (w : Within l) (m : List ℕ) (days : EachTrain l (InDays l 
   unfolding minutesText
   minutes-read c rest e =
       let n = l .«train_count» in
-      let count = ranged-reads 8 9 n n 10 1 s c n (trainsText n l m 0 rest) feed-ends (omega arith) (omega arith) (omega (arith, w .trains)) e in
+      let count = ranged-reads 8 9 n n 10 s c n (trainsText n l m 0 rest) feed-ends (omega arith) (omega arith) (omega (arith, w .trains)) e in
       let lines = trains-read n 0 (replicate 352 0) (count .next) rest (length-replicate {A = ℕ} 352 0) (omega arith) (count .leaves) in
       record {
         minutes = lines .minutes;
@@ -148,63 +148,61 @@ own-ends : (v : ℕ) → digitOf (cond (eqb v 0) 10 32) ≡ Digit.Other
 own-ends v = elim (eqb v 0) as (λ b. digitOf (cond b 10 32) ≡ Digit.Other) [ true ↦ feed-ends | false ↦ space-ends ]
 
 module _ (n : ℕ) (small : n ≤ 12) (s : List ℕ) where
-  own-reads : (p : ℕ) (c : Cursor) (v : ℕ) (rest : List ℕ) → v ≤ n → from s c ≡ field v (cond (eqb v 0) 10 32) rest → Reads (ownCountAt n p s c) v s rest
-  own-reads p c v rest h e =
+  own-reads : (c : Cursor) (v : ℕ) (rest : List ℕ) → v ≤ n → from s c ≡ field v (cond (eqb v 0) 10 32) rest → Reads (ownCountAt n s c) v s rest
+  own-reads c v rest h e =
       let b : ℕ = cond (eqb v 0) 10 32 in
       let few : length (digits v) ≤ 4 = digits-length 3 v (omega arith) in
       let number = number-reads 4 s c v (b ∷ rest) (omega arith) few (omega arith) e (own-ends v) in
       let past = past-reads s (pastText c (digits v)) b rest (from-skip s c (digits v) (b ∷ rest) e) in
       record {
-        next = pastField c v;
-        reads = own-value n p s c number refl past (bounded-fits 0 n v (omega arith) h);
+        next = pastField c v b;
+        reads = own-value n s c number refl past (bounded-fits 0 n v (omega arith) h);
         leaves = field-leaves 4 s c v b rest (omega arith) few (omega arith) (own-ends v) e;
       }
 
-  -- the trains xs from place i on of a list of v trains
-  names-read : (v p : ℕ) (xs : List ℕ) (i : ℕ) (c : Cursor) (rest : List ℕ) → i + length xs ≡ v → Each (λ x. (1 ≤ x) × (x ≤ n)) xs →
-      from s c ≡ namesText xs rest → Reads (many (length xs) (listPart n v p) i s c) xs s rest
+  -- the trains xs of a list, each with as many after it as are left
+  names-read : (xs : List ℕ) (c : Cursor) (rest : List ℕ) → Each (λ x. (1 ≤ x) × (x ≤ n)) xs → from s c ≡ namesText xs rest →
+      Reads (many (length xs) (nameAt n) s c) xs s rest
   unfolding many namesText
-  names-read v p [] i c rest all w e = at-end [] c e
-  names-read v p (x ∷ xs) i c rest all w e =
-      let left : length xs ≡ v - 1 - i = omega arith in
-      let text = e ∙ ap (λ (j : ℕ). field x (afterField j) (namesText xs rest)) left in
-      reads-then _ (ranged-reads 8 9 1 n (afterField (v - 1 - i)) p s c x (namesText xs rest) (after-ends (v - 1 - i)) (w .0 .0) (w .0 .1) (omega arith) text)
-      (λ c₁ e₁. reads-then _ (names-read v p xs (i + 1) c₁ rest (omega arith) (w .1) e₁)
+  names-read [] c rest w e = at-end [] c e
+  names-read (x ∷ xs) c rest w e =
+      reads-then _ (ranged-reads 8 9 1 n (afterField (length xs)) s c x (namesText xs rest) (after-ends (length xs)) (w .0 .0) (w .0 .1) (omega arith) e)
+      (λ c₁ e₁. reads-then _ (names-read xs c₁ rest (w .1) e₁)
       (λ c₂ e₂. at-end _ c₂ e₂))
 
-  list-reads : (p : ℕ) (c : Cursor) (xs rest : List ℕ) → ListWithin n xs → from s c ≡ listText xs rest → Reads (listAt n p s c) xs s rest
+  list-reads : (c : Cursor) (xs rest : List ℕ) → ListWithin n xs → from s c ≡ listText xs rest → Reads (listAt n s c) xs s rest
   unfolding listAt listText
-  list-reads p c xs rest w e =
-      reads-then _ (own-reads p c (length xs) (namesText xs rest) (w .few) e)
-      (λ c₁ e₁. names-read (length xs) p xs 0 c₁ rest (omega arith) (w .numbers) e₁)
+  list-reads c xs rest w e =
+      reads-then _ (own-reads c (length xs) (namesText xs rest) (w .few) e)
+      (λ c₁ e₁. names-read xs c₁ rest (w .numbers) e₁)
 
 -- ---- lists and total
 
-total-reads : (p : ℕ) (s : List ℕ) (c : Cursor) (v : ℕ) (rest : List ℕ) → v < 10000000 → from s c ≡ field v 10 rest → Reads (totalAt p s c) v s rest
+total-reads : (s : List ℕ) (c : Cursor) (v : ℕ) (rest : List ℕ) → v < 10000000 → from s c ≡ field v 10 rest → Reads (totalAt s c) v s rest
 unfolding totalAt
-total-reads p s c v rest small e =
+total-reads s c v rest small e =
     let few : length (digits v) ≤ 7 = digits-length 6 v (omega arith) in
     record {
-      next = pastField c v;
+      next = pastField c v 10;
       reads = simp (field-reads 7 s c v 10 rest (omega arith) few small feed-ends e);
       leaves = field-leaves 7 s c v 10 rest (omega arith) few small feed-ends e;
     }
 
 module _ (l : Line) (w : Within l) (ls : List (List ℕ)) (total : ℕ)
     (count : length ls ≡ listCount l) (each : Each (ListWithin (l .«train_count»)) ls) (small : total < 10000000) where
-  rest-reads : (p : ℕ) (s : List ℕ) (c : Cursor) → from s c ≡ restText l ls total → Reads (restAt l p s c) (record { lists = ls; total = total }) s []
+  rest-reads : (s : List ℕ) (c : Cursor) → from s c ≡ restText l ls total → Reads (restAt l s c) (record { lists = ls; total = total }) s []
   unfolding restAt restText
-  rest-reads p s c e =
+  rest-reads s c e =
       let n = listCount l in
       let trains = l .«train_count» in
       let one = list-reads trains (w .trains .1) s in
       let few : n < 10000 = omega (arith, lists-few l (omega (arith, w .stations))) in
       let last = field total 10 [] in
-      let lists : (c₁ : Cursor) → from s c₁ ≡ eachThen listText ls last → Reads (many n (listAt trains) (p + 1) s c₁) ls s last =
-      λ c₁ e₁. rw (map-id ls) at (many-reads (ListWithin trains) listText (λ xs. xs) (listAt trains) s one n ls count (p + 1) c₁ last each e₁) in
-      reads-then _ (ranged-reads 8 9 n n 10 p s c n _ feed-ends (omega arith) (omega arith) few e)
+      let lists : (c₁ : Cursor) → from s c₁ ≡ eachThen listText ls last → Reads (lines n (listAt trains) s c₁) ls s last =
+      λ c₁ e₁. rw (map-id ls) at (many-reads (ListWithin trains) listText (λ xs. xs) (λ left. listAt trains) s (λ left. one) n ls count c₁ last each e₁) in
+      reads-then _ (ranged-reads 8 9 n n 10 s c n _ feed-ends (omega arith) (omega arith) few e)
       (λ c₁ e₁. reads-then _ (lists c₁ e₁)
-      (λ c₂ e₂. reads-then _ (total-reads (p + 1 + n) s c₂ total [] small e₂)
+      (λ c₂ e₂. reads-then _ (total-reads s c₂ total [] small e₂)
       (λ c₃ e₃. rw (le-ltb (c₃ .at) (length s) (at-length s c₃ e₃)) (at-end _ c₃ e₃))))
 
   -- ---- the whole text
@@ -220,11 +218,11 @@ module _ (l : Line) (w : Within l) (ls : List (List ℕ)) (total : ℕ)
       TimetableReads m (minutesText l m (restText l ls total))
   timetable-reads m days short =
       let s = minutesText l m (restText l ls total) in
-      let first = minutes-read l w m days s (record { at = 0 }) (restText l ls total) refl in
+      let first = minutes-read l w m days s (record { at = 0; line = 1 }) (restText l ls total) refl in
       let whole = file-reads s (first .minutes) short (first .reads) in
       record { minutes = first .minutes; end = whole .next; reads = whole .reads; same = first .same }
     where
-      file-reads : (s m′ : List ℕ) → length s ≤ 4096 → Reads (minutesAt l s (record { at = 0 })) m′ s (restText l ls total) →
+      file-reads : (s m′ : List ℕ) → length s ≤ 4096 → Reads (minutesAt l s (record { at = 0; line = 1 })) m′ s (restText l ls total) →
           Reads (timetableFile l s) (record { minutes = m′; rest = record { lists = ls; total = total } }) s []
       file-reads s m′ h a = unfold timetableFile in
-          rw (le-ltb 4096 (length s) h) (reads-then _ a (λ c₁ e₁. reads-then _ (rest-reads (l .«train_count» + 2) s c₁ e₁) (λ c₂ e₂. at-end _ c₂ e₂)))
+          rw (le-ltb 4096 (length s) h) (reads-then _ a (λ c₁ e₁. reads-then _ (rest-reads s c₁ e₁) (λ c₂ e₂. at-end _ c₂ e₂)))

@@ -1,6 +1,6 @@
 -- What is read of a timetable's text is that text: each field that was read is its digits and the byte after it, and no later field is stored over the
 -- minutes of an earlier one.
-use Prim.Native.Nat.{ℕ, zero, suc, _+_, _-_, _≤_, _<_}
+use Prim.Native.Nat.{ℕ, zero, suc, _+_, _≤_, _<_}
 use mathlib.Core.Path.{_≡_, refl, sym, ap, _∙_}
 use mathlib.Core.Bool.{true, false, cond}
 use mathlib.Core.List.{List, [], _++_}
@@ -22,7 +22,7 @@ use Rattle.text.specs.DigitsLaws.{number-spelt, field-spelt}
 use Rattle.text.specs.Limits.{boundedOf}
 use Rattle.text.specs.Each.{eachThen}
 use Rattle.text.specs.Below.{EachFrom, each-first}
-use Rattle.text.specs.Parsed.{Parsed, many}
+use Rattle.text.specs.Parsed.{Parsed, many, lines}
 use Rattle.text.specs.ParsedLaws.{then-got, pick-got, got-is, bounded-within, ranged-spelt, PartSpelt, many-spelt, many-length}
 use Rattle.line.specs.declared.Train.{Train}
 use Rattle.line.specs.declared.Line.{Line}
@@ -35,9 +35,9 @@ use Rattle.rules.specs.Tests.{departureOf, arrivalOf}
 use Rattle.rules.specs.Rules.{InDays}
 use Rattle.rules.specs.Orders.{listCount}
 use Rattle.rules.specs.PathsLaws.{routed-leg}
-use Rattle.timetable.specs.Reading.{afterField, timeAt, countAt, withLeg, legsAt, trainsAt, minutesAt, ownCountAt, listAt, totalAt, Rest, restAt, Timetable, timetableFile}
+use Rattle.timetable.specs.Reading.{afterField, timeAt, countAt, withLeg, legsAt, trainsAt, minutesAt, ownCountAt, nameAt, listAt, totalAt, Rest, restAt, Timetable, timetableFile}
 use Rattle.timetable.specs.ReadingLaws.{count-is, minutes-counted}
-use Rattle.timetable.specs.ListLaws.{own-malformed, own-unended, own-over, own-value, listPart}
+use Rattle.timetable.specs.ListLaws.{own-malformed, own-unended, own-over, own-value}
 use Rattle.timetable.specs.Spell.{legsText, trainsText, minutesText, namesText, listText, restText}
 use Rattle.timetable.specs.SameText.{legs-same}
 use Rattle.timetable.specs.StoresLaws.{departure-stored, arrival-stored, leg-stored, legs-stored, trains-stored}
@@ -48,9 +48,9 @@ after-byte : (k : ℕ) → afterField k < 256
 after-byte zero = omega arith
 after-byte (suc k) = omega arith
 
-count-spelt : (n p : ℕ) (s : List ℕ) (c : Cursor) (v : ℕ) (next : Cursor) → countAt n p s c ≡ Parsed.got v next → from s c ≡ field n 10 (from s next)
-count-spelt n p s c v next e =
-    let w = ranged-spelt 8 9 n n 10 p s c v next (omega arith) e in
+count-spelt : (n : ℕ) (s : List ℕ) (c : Cursor) (v : ℕ) (next : Cursor) → countAt n s c ≡ Parsed.got v next → from s c ≡ field n 10 (from s next)
+count-spelt n s c v next e =
+    let w = ranged-spelt 8 9 n n 10 s c v next (omega arith) e in
     let same : v ≡ n = omega (arith, w .low, w .high) in
     rw same at (w .text)
 
@@ -60,24 +60,24 @@ count-spelt n p s c v next e =
 abbrev pub DaysAt : Train → List ℕ → ℕ → ℕ → Type 0
 DaysAt t m i q = (departureOf t m i q ≤ 2879) × (arrivalOf t m i q ≤ 2879)
 
-module _ (t : Train) (r : 1 ≤ legsOf t → Routed t) (i : ℕ) (few : i < 16) (p : ℕ) (s : List ℕ) where
+module _ (t : Train) (r : 1 ≤ legsOf t → Routed t) (i : ℕ) (few : i < 16) (s : List ℕ) where
   -- k legs from leg j on that were read
   record LegsSpelt (k j : ℕ) (c : Cursor) (m : List ℕ) (next : Cursor) : Type 0 where
     days : EachFrom k j (DaysAt t m i)
     text : from s c ≡ legsText k t m i j (from s next)
 
   legs-spelt : (k j : ℕ) (m : List ℕ) (c : Cursor) (m′ : List ℕ) (next : Cursor) → length m ≡ 352 → j + k ≤ legsOf t →
-      legsAt k t i j p m s c ≡ Parsed.got m′ next → LegsSpelt k j c m′ next
+      legsAt k t i j m s c ≡ Parsed.got m′ next → LegsSpelt k j c m′ next
   unfolding legsAt legsText
   legs-spelt zero j m c m′ next size path e = got-is (λ y end. LegsSpelt 0 j c y end) e (record { days = λ q low high. absurd (omega arith); text = refl })
   legs-spelt (suc k) j m c m′ next size path e =
-      let d = then-got (timeAt 32 p s c) _ m′ next e in
-      let a = then-got (timeAt (afterField k) p s (d .next)) _ m′ next (d .after) in
-      let w = ranged-spelt 8 9 0 2879 32 p s c (d .value) (d .next) (omega arith) (d .first) in
-      let x = ranged-spelt 8 9 0 2879 (afterField k) p s (d .next) (a .value) (a .next) (after-byte k) (a .first) in
+      let d = then-got (timeAt 32 s c) _ m′ next e in
+      let a = then-got (timeAt (afterField k) s (d .next)) _ m′ next (d .after) in
+      let w = ranged-spelt 8 9 0 2879 32 s c (d .value) (d .next) (omega arith) (d .first) in
+      let x = ranged-spelt 8 9 0 2879 (afterField k) s (d .next) (a .value) (a .next) (after-byte k) (a .first) in
       let path-ends = r (omega arith) in
-      let depart = departure-stored t i path-ends few k j p (d .value) (a .value) m s (a .next) m′ next size path (a .after) in
-      let arrive = arrival-stored t i path-ends few k j p (d .value) (a .value) m s (a .next) m′ next size path (a .after) in
+      let depart = departure-stored t i path-ends few k j (d .value) (a .value) m s (a .next) m′ next size path (a .after) in
+      let arrive = arrival-stored t i path-ends few k j (d .value) (a .value) m s (a .next) m′ next size path (a .after) in
       let long = leg-stored t i j (d .value) (a .value) m .size ∙ size in
       let others = legs-spelt k (j + 1) (withLeg t i j (d .value) (a .value) m) (a .next) m′ next long (omega arith) (a .after) in
       record {
@@ -104,9 +104,9 @@ module _ (l : Line) (w : Within l) (s : List ℕ) where
   trains-spelt (suc k) i m c m′ next size count e =
       let t = train l i in
       let few : i + suc k ≤ 12 = omega (arith, w .trains) in
-      let a = then-got (legsAt (legs l i) t i 0 (i + 2) m s c) _ m′ next e in
-      let one = legs-spelt t (routed-leg l i w (omega arith)) i (omega arith) (i + 2) s (legs l i) 0 m c (a .value) (a .next) size (omega arith) (a .first) in
-      let long = legs-stored t i (legs l i) 0 (i + 2) m s c (a .value) (a .next) (a .first) .size ∙ size in
+      let a = then-got (legsAt (legs l i) t i 0 m s c) _ m′ next e in
+      let one = legs-spelt t (routed-leg l i w (omega arith)) i (omega arith) s (legs l i) 0 m c (a .value) (a .next) size (omega arith) (a .first) in
+      let long = legs-stored t i (legs l i) 0 m s c (a .value) (a .next) (a .first) .size ∙ size in
       let kept = trains-stored k l (i + 1) (a .value) s (a .next) m′ next (omega arith) (a .after) in
       let others = trains-spelt k (i + 1) (a .value) (a .next) m′ next long (omega arith) (a .after) in
       let same : (q : ℕ) → (departureOf t (a .value) i q ≡ departureOf t m′ i q) × (arrivalOf t (a .value) i q ≡ arrivalOf t m′ i q) =
@@ -131,13 +131,13 @@ module _ (l : Line) (w : Within l) (s : List ℕ) where
   unfolding minutesText
   minutes-spelt c m next e =
       let n = l .«train_count» in
-      let count = then-got (countAt n 1 s c) (λ v c₁. trainsAt v l 0 (replicate 352 0) s c₁) m next (unfold minutesAt in e) in
+      let count = then-got (countAt n s c) (λ v c₁. trainsAt v l 0 (replicate 352 0) s c₁) m next (unfold minutesAt in e) in
       let lines = sym (minutes-counted l s c (count .first)) ∙ e in
       let read = trains-spelt n 0 (replicate 352 0) (count .next) m next (length-replicate {A = ℕ} 352 0) (omega arith) lines in
       record {
         days = λ i h. read .days i (omega arith) (omega arith);
         many = trains-stored n l 0 (replicate 352 0) s (count .next) m next (omega (arith, w .trains)) lines .size ∙ length-replicate {A = ℕ} 352 0;
-        text = count-spelt n 1 s c (count .value) (count .next) (count .first) ∙ ap (λ (y : List ℕ). field n 10 y) (read .text);
+        text = count-spelt n s c (count .value) (count .next) (count .first) ∙ ap (λ (y : List ℕ). field n 10 y) (read .text);
       }
 
 -- ---- an order list
@@ -152,62 +152,62 @@ ownField v rest = field v (ownByte v) rest
 own-byte : (v : ℕ) → ownByte v < 256
 own-byte v = elim (eqb v 0) as (λ b. cond b 10 32 < 256) [ true ↦ omega arith | false ↦ omega arith ]
 
-own-spelt : (n p : ℕ) (s : List ℕ) (c : Cursor) (v : ℕ) (next : Cursor) → ownCountAt n p s c ≡ Parsed.got v next → from s c ≡ ownField v (from s next)
-own-spelt n p s c v next e = number (numberAt 4 s c) refl
+own-spelt : (n : ℕ) (s : List ℕ) (c : Cursor) (v : ℕ) (next : Cursor) → ownCountAt n s c ≡ Parsed.got v next → from s c ≡ ownField v (from s next)
+own-spelt n s c v next e = number (numberAt 4 s c) refl
   where
     bounded : (m : ℕ) (after x : Cursor) → numberAt 4 s c ≡ Number.Value m after → pastOf s after (ownByte m) ≡ Step.Next x → (a : Bounded) →
         boundedOf 0 n m ≡ a → from s c ≡ ownField v (from s next)
-    bounded m after x f h Bounded.Outside o = let refused = sym (own-over n p s c f refl h o) ∙ e in let z : _≡_ {A = ℕ} 0 1 = cc in absurd (omega arith)
+    bounded m after x f h Bounded.Outside o = let refused = sym (own-over n s c f refl h o) ∙ e in let z : _≡_ {A = ℕ} 0 1 = cc in absurd (omega arith)
     bounded m after x f h (Bounded.Within w) o =
         let past = past-spelt s after x (ownByte m) (own-byte m) h in
         let text = number-spelt 4 (omega arith) (omega arith) s c after m f ∙ ap (λ (y : List ℕ). digits m ++ y) past in
-        got-is (λ y end. from s c ≡ ownField y (from s end)) (sym (own-value n p s c f refl h o) ∙ e) (rw (bounded-within 0 n m w o .same) text)
+        got-is (λ y end. from s c ≡ ownField y (from s end)) (sym (own-value n s c f refl h o) ∙ e) (rw (bounded-within 0 n m w o .same) text)
 
     step : (m : ℕ) (after : Cursor) → numberAt 4 s c ≡ Number.Value m after → (a : Step) → pastOf s after (ownByte m) ≡ a → from s c ≡ ownField v (from s next)
     step m after f (Step.Next x) h = bounded m after x f h (boundedOf 0 n m) refl
-    step m after f Step.Wrong h = let refused = sym (own-unended n p s c f refl h) ∙ e in let z : _≡_ {A = ℕ} 0 1 = cc in absurd (omega arith)
+    step m after f Step.Wrong h = let refused = sym (own-unended n s c f refl h) ∙ e in let z : _≡_ {A = ℕ} 0 1 = cc in absurd (omega arith)
 
     number : (a : Number) → numberAt 4 s c ≡ a → from s c ≡ ownField v (from s next)
     number (Number.Value m after) f = step m after f (pastOf s after (ownByte m)) refl
-    number Number.Malformed f = let refused = sym (own-malformed n p s c f) ∙ e in let z : _≡_ {A = ℕ} 0 1 = cc in absurd (omega arith)
+    number Number.Malformed f = let refused = sym (own-malformed n s c f) ∙ e in let z : _≡_ {A = ℕ} 0 1 = cc in absurd (omega arith)
 
--- k more of the v trains of a list, the next of them at place i
-names-spelt : (n v p : ℕ) (s : List ℕ) (k i : ℕ) (c : Cursor) (xs : List ℕ) (next : Cursor) → i + k ≡ v → many k (listPart n v p) i s c ≡ Parsed.got xs next →
+-- k trains of a list, each with as many after it as are left
+names-spelt : (n : ℕ) (s : List ℕ) (k : ℕ) (c : Cursor) (xs : List ℕ) (next : Cursor) → many k (nameAt n) s c ≡ Parsed.got xs next →
     from s c ≡ namesText xs (from s next)
 unfolding many namesText
-names-spelt n v p s zero i c xs next all e = got-is (λ ys end. from s c ≡ namesText ys (from s end)) e refl
-names-spelt n v p s (suc k) i c xs next all e =
-    let a = then-got (listPart n v p i s c) _ xs next e in
-    let b = then-got (many k (listPart n v p) (i + 1) s (a .next)) _ xs next (a .after) in
-    let one = ranged-spelt 8 9 1 n (afterField (v - 1 - i)) p s c (a .value) (a .next) (after-byte (v - 1 - i)) (a .first) in
-    let left : v - 1 - i ≡ length (b .value) = omega (arith, many-length (listPart n v p) k (i + 1) s (a .next) (b .value) (b .next) (b .first)) in
-    let others = names-spelt n v p s k (i + 1) (a .next) (b .value) (b .next) (omega arith) (b .first) in
+names-spelt n s zero c xs next e = got-is (λ ys end. from s c ≡ namesText ys (from s end)) e refl
+names-spelt n s (suc k) c xs next e =
+    let a = then-got (nameAt n k s c) _ xs next e in
+    let b = then-got (many k (nameAt n) s (a .next)) _ xs next (a .after) in
+    let one = ranged-spelt 8 9 1 n (afterField k) s c (a .value) (a .next) (after-byte k) (a .first) in
+    let left : k ≡ length (b .value) = sym (many-length (nameAt n) k s (a .next) (b .value) (b .next) (b .first)) in
+    let others = names-spelt n s k (a .next) (b .value) (b .next) (b .first) in
     got-is (λ ys end. from s c ≡ namesText ys (from s end)) (b .after) (
     one .text
     ∙ ap (λ (j : ℕ). field (a .value) (afterField j) (from s (a .next))) left
     ∙ ap (λ (y : List ℕ). field (a .value) (afterField (length (b .value))) y) others)
 
-list-spelt : (n : ℕ) (s : List ℕ) (p : ℕ) (c : Cursor) (xs : List ℕ) (next : Cursor) → listAt n p s c ≡ Parsed.got xs next →
-    PartSpelt (λ _. Unit {0}) listText (listAt n) s c xs next
+list-spelt : (n : ℕ) (s : List ℕ) (c : Cursor) (xs : List ℕ) (next : Cursor) → listAt n s c ≡ Parsed.got xs next →
+    PartSpelt (λ _. Unit {0}) listText s c xs next
 unfolding listAt listText
-list-spelt n s p c xs next e =
-    let a = then-got (ownCountAt n p s c) _ xs next e in
-    let size : a .value ≡ length xs = sym (many-length (listPart n (a .value) p) (a .value) 0 s (a .next) xs next (a .after)) in
+list-spelt n s c xs next e =
+    let a = then-got (ownCountAt n s c) _ xs next e in
+    let size : a .value ≡ length xs = sym (many-length (nameAt n) (a .value) s (a .next) xs next (a .after)) in
     record {
       valid = tt;
       spelt =
-          own-spelt n p s c (a .value) (a .next) (a .first)
+          own-spelt n s c (a .value) (a .next) (a .first)
           ∙ ap (λ (v : ℕ). ownField v (from s (a .next))) size
-          ∙ ap (λ (y : List ℕ). ownField (length xs) y) (names-spelt n (a .value) p s (a .value) 0 (a .next) xs next (omega arith) (a .after));
+          ∙ ap (λ (y : List ℕ). ownField (length xs) y) (names-spelt n s (a .value) (a .next) xs next (a .after));
     }
 
 -- ---- lists and total
 
-total-spelt : (p : ℕ) (s : List ℕ) (c : Cursor) (v : ℕ) (next : Cursor) → totalAt p s c ≡ Parsed.got v next → from s c ≡ field v 10 (from s next)
+total-spelt : (s : List ℕ) (c : Cursor) (v : ℕ) (next : Cursor) → totalAt s c ≡ Parsed.got v next → from s c ≡ field v 10 (from s next)
 unfolding totalAt
-total-spelt p s c v next e = go (fieldAt 7 s c 10) refl e
+total-spelt s c v next e = go (fieldAt 7 s c 10) refl e
   where
-    go : (a : NumberField) → fieldAt 7 s c 10 ≡ a → onField a (λ m x. Parsed.got m x) (Parsed.bad 8 p) ≡ Parsed.got v next → from s c ≡ field v 10 (from s next)
+    go : (a : NumberField) → fieldAt 7 s c 10 ≡ a → onField a (λ m x. Parsed.got m x) (Parsed.bad 8 (c .line)) ≡ Parsed.got v next → from s c ≡ field v 10 (from s next)
     go (NumberField.Value m x) f g =
         let q : m ≡ v = cc in
         let y : x ≡ next = cc in
@@ -219,25 +219,24 @@ record RestSpelt (l : Line) (s : List ℕ) (c : Cursor) (r : Rest) : Type 0 wher
   many : length (r .lists) ≡ listCount l
   text : from s c ≡ restText l (r .lists) (r .total)
 
-rest-spelt : (l : Line) (p : ℕ) (s : List ℕ) (c : Cursor) (r : Rest) (end : Cursor) → restAt l p s c ≡ Parsed.got r end → RestSpelt l s c r
+rest-spelt : (l : Line) (s : List ℕ) (c : Cursor) (r : Rest) (end : Cursor) → restAt l s c ≡ Parsed.got r end → RestSpelt l s c r
 unfolding restAt restText
-rest-spelt l p s c r end e =
+rest-spelt l s c r end e =
     let n = listCount l in
-    let count = then-got (countAt n p s c) _ r end e in
-    let part = listAt (l .«train_count») in
-    let lists = then-got (many (count .value) part (p + 1) s (count .next)) _ r end (count .after) in
-    let total = then-got (totalAt (p + 1 + count .value) s (lists .next)) _ r end (lists .after) in
-    let same = count-is n p s c (count .value) (count .next) (count .first) in
+    let count = then-got (countAt n s c) _ r end e in
+    let lists = then-got (lines (count .value) (listAt (l .«train_count»)) s (count .next)) _ r end (count .after) in
+    let total = then-got (totalAt s (lists .next)) _ r end (lists .after) in
+    let same = count-is n s c (count .value) (count .next) (count .first) in
     let one = list-spelt (l .«train_count») s in
-    let lines = many-spelt (λ _. Unit {0}) listText part s one (count .value) (p + 1) (count .next) (lists .value) (lists .next) (lists .first) in
-    let last = pick-got (ltb (total .next .at) (length s)) 8 (p + 2 + count .value) _ r end (total .after) in
+    let lines = many-spelt (λ _. Unit {0}) listText s (λ left. listAt (l .«train_count»)) (λ left. one) (count .value) (count .next) (lists .value) (lists .next) (lists .first) in
+    let last = pick-got (ltb (total .next .at) (length s)) 8 (total .next .line) _ r end (total .after) in
     let none : from s (total .next) ≡ [] = drop-of-length-le s (ltb-false (total .next .at) (length s) (last .0)) in
     got-is (λ x _. RestSpelt l s c x) (last .1) (record {
       many = lines .many ∙ same;
       text =
-          count-spelt n p s c (count .value) (count .next) (count .first)
+          count-spelt n s c (count .value) (count .next) (count .first)
           ∙ ap (λ (y : List ℕ). field n 10 y) (lines .spelt)
-          ∙ ap (λ (y : List ℕ). field n 10 (eachThen listText (lists .value) y)) (total-spelt _ s (lists .next) (total .value) (total .next) (total .first))
+          ∙ ap (λ (y : List ℕ). field n 10 (eachThen listText (lists .value) y)) (total-spelt s (lists .next) (total .value) (total .next) (total .first))
           ∙ ap (λ (y : List ℕ). field n 10 (eachThen listText (lists .value) (field (total .value) 10 y))) none;
     })
 
@@ -254,12 +253,12 @@ pub timetable-spelt : (l : Line) → Within l → (s : List ℕ) (t : Timetable)
     TimetableRead l s t
 unfolding timetableFile
 timetable-spelt l w s t end e =
-    let start : Cursor = record { at = 0 } in
+    let start : Cursor = record { at = 0; line = 1 } in
     let parts = pick-got (ltb 4096 (length s)) 7 0 _ t end e .1 in
     let a = then-got (minutesAt l s start) _ t end parts in
-    let b = then-got (restAt l (l .«train_count» + 2) s (a .next)) _ t end (a .after) in
+    let b = then-got (restAt l s (a .next)) _ t end (a .after) in
     let minutes = minutes-spelt l w s start (a .value) (a .next) (a .first) in
-    let rest = rest-spelt l (l .«train_count» + 2) s (a .next) (b .value) (b .next) (b .first) in
+    let rest = rest-spelt l s (a .next) (b .value) (b .next) (b .first) in
     got-is (λ x _. TimetableRead l s x) (b .after) (record {
       text = minutes .text ∙ ap (λ (y : List ℕ). minutesText l (a .value) y) (rest .text);
       days = minutes .days;

@@ -41,13 +41,13 @@ module _ (t : Train) (i : ℕ) where
             getD-set-other mid (arrives (segmentOf t j) i) x a 0 (here .1) ∙ getD-set-other m (departs (segmentOf t j) i) x d 0 (here .0);
       }
 
-  pub legs-stored : (k j p : ℕ) (m s : List ℕ) (c : Cursor) (m′ : List ℕ) (next : Cursor) → legsAt k t i j p m s c ≡ Parsed.got m′ next → LegsStored k j m m′
+  pub legs-stored : (k j : ℕ) (m s : List ℕ) (c : Cursor) (m′ : List ℕ) (next : Cursor) → legsAt k t i j m s c ≡ Parsed.got m′ next → LegsStored k j m m′
   unfolding legsAt
-  legs-stored zero j p m s c m′ next e = got-is (λ y _. LegsStored 0 j m y) e (record { size = refl; stays = λ x off. refl })
-  legs-stored (suc k) j p m s c m′ next e =
-      let d = then-got (timeAt 32 p s c) _ m′ next e in
-      let a = then-got (timeAt (afterField k) p s (d .next)) _ m′ next (d .after) in
-      let h = legs-stored k (j + 1) p (withLeg t i j (d .value) (a .value) m) s (a .next) m′ next (a .after) in
+  legs-stored zero j m s c m′ next e = got-is (λ y _. LegsStored 0 j m y) e (record { size = refl; stays = λ x off. refl })
+  legs-stored (suc k) j m s c m′ next e =
+      let d = then-got (timeAt 32 s c) _ m′ next e in
+      let a = then-got (timeAt (afterField k) s (d .next)) _ m′ next (d .after) in
+      let h = legs-stored k (j + 1) (withLeg t i j (d .value) (a .value) m) s (a .next) m′ next (a .after) in
       let one = leg-stored j (d .value) (a .value) m in
       record {
         size = h .size ∙ one .size;
@@ -55,8 +55,8 @@ module _ (t : Train) (i : ℕ) where
       }
 
   -- leg j stored, and then k more from the next on: the minutes of leg j are those that were stored
-  module _ (r : Routed t) (few : i < 16) (k j p : ℕ) (d a : ℕ) (m s : List ℕ) (c : Cursor) (m′ : List ℕ) (next : Cursor)
-      (size : length m ≡ 352) (path : j + suc k ≤ legsOf t) (e : legsAt k t i (j + 1) p (withLeg t i j d a m) s c ≡ Parsed.got m′ next) where
+  module _ (r : Routed t) (few : i < 16) (k j : ℕ) (d a : ℕ) (m s : List ℕ) (c : Cursor) (m′ : List ℕ) (next : Cursor)
+      (size : length m ≡ 352) (path : j + suc k ≤ legsOf t) (e : legsAt k t i (j + 1) (withLeg t i j d a m) s c ≡ Parsed.got m′ next) where
     here : segmentOf t j < 11
     here = segment-below t r j (omega arith)
 
@@ -68,14 +68,14 @@ module _ (t : Train) (i : ℕ) where
 
     pub departure-stored : departureOf t m′ i j ≡ d
     departure-stored =
-        legs-stored k (j + 1) p (withLeg t i j d a m) s c m′ next e .stays (departs (segmentOf t j) i)
+        legs-stored k (j + 1) (withLeg t i j d a m) s c m′ next e .stays (departs (segmentOf t j) i)
         (λ q low high. ((λ z. other q low high (omega arith)), (λ z. omega (arith, here))))
         ∙ getD-set-other (set m (departs (segmentOf t j) i) d) (arrives (segmentOf t j) i) (departs (segmentOf t j) i) a 0 (λ z. omega arith)
         ∙ getD-set-same m (departs (segmentOf t j) i) d 0 (omega (arith, here))
 
     pub arrival-stored : arrivalOf t m′ i j ≡ a
     arrival-stored =
-        legs-stored k (j + 1) p (withLeg t i j d a m) s c m′ next e .stays (arrives (segmentOf t j) i)
+        legs-stored k (j + 1) (withLeg t i j d a m) s c m′ next e .stays (arrives (segmentOf t j) i)
         (λ q low high. ((λ z. omega (arith, there q high)), (λ z. other q low high (omega arith))))
         ∙ getD-set-same (set m (departs (segmentOf t j) i) d) (arrives (segmentOf t j) i) a 0 (rw length-set (omega (arith, here)))
 
@@ -91,8 +91,8 @@ pub trains-stored : (k : ℕ) (l : Line) (i : ℕ) (m s : List ℕ) (c : Cursor)
 unfolding trainsAt
 trains-stored zero l i m s c m′ next few e = got-is (λ y _. TrainsStored i m y) e (record { size = refl; stays = λ x h. refl })
 trains-stored (suc k) l i m s c m′ next few e =
-    let a = then-got (legsAt (legs l i) (train l i) i 0 (i + 2) m s c) _ m′ next e in
-    let one = legs-stored (train l i) i (legs l i) 0 (i + 2) m s c (a .value) (a .next) (a .first) in
+    let a = then-got (legsAt (legs l i) (train l i) i 0 m s c) _ m′ next e in
+    let one = legs-stored (train l i) i (legs l i) 0 m s c (a .value) (a .next) (a .first) in
     let others = trains-stored k l (i + 1) (a .value) s (a .next) m′ next (omega arith) (a .after) in
     record {
       size = others .size ∙ one .size;

@@ -90,7 +90,7 @@ module _ (l : Line) (m : List ℕ) where
 
 -- ---- each part, and then what follows it
 
-legs-then : (k : ℕ) (t : Train) (m : List ℕ) (i j : ℕ) (rest : List ℕ) → legsText k t m i j rest ≡ legsText k t m i j [] ++ rest
+pub legs-then : (k : ℕ) (t : Train) (m : List ℕ) (i j : ℕ) (rest : List ℕ) → legsText k t m i j rest ≡ legsText k t m i j [] ++ rest
 unfolding legsText
 legs-then zero t m i j rest = refl
 legs-then (suc k) t m i j rest = simp (append-assoc, legs-then k t m i (j + 1) rest)

@@ -3,13 +3,14 @@ ghost use mathlib.Core.Path.{_≡_};
 ghost use Prim.Native.Nat.{_+_, _-_, _≤_, _<_};
 ghost use mathlib.Core.List.{map};
 ghost use lib.ListN.{replicate, take};
-ghost use Rattle.text.specs.Parsed.{many};
+ghost use Rattle.text.specs.Lines.{Counted};
+ghost use Rattle.text.specs.Parsed.{lines};
 ghost use Rattle.text.specs.Told.{toldField, toldEnding};
 ghost use Rattle.line.specs.Record.{legsOf};
 ghost use Rattle.line.specs.Within.{Within};
 ghost use Rattle.rules.specs.Paths.{Routed};
 ghost use Rattle.rules.specs.Orders.{listed};
-ghost use Rattle.timetable.specs.Reading.{afterField, faultsOn, legsAt, trainsAt, minutesAt, ownCountAt, listAt, restAt, timetableFile};
+ghost use Rattle.timetable.specs.Reading.{afterField, legsAt, trainsAt, minutesAt, ownCountAt, listAt, restAt, timetableFile};
 ghost use Rattle.timetable.specs.Told.{restOf, timetableOf};
 use line::Line;
 use line::MAX_BYTES;
@@ -66,16 +67,8 @@ pub struct TimetablePart {
     pub total: u32,
 }
 
-// The numbers of a timetable's refusals, on this line.
-fn faults_on(line: usize) -> Faults
-    ensures { λ r. ⌜ r ≡ faultsOn line ⌝ }
-{
-    Faults {
-        form: 8,
-        range: 9,
-        line,
-    }
-}
+// The numbers of a timetable's refusals.
+const FAULTS: Faults = Faults { form: 8, range: 9 };
 
 // The byte after a field with `left` more on its line.
 pub fn after_field(left: usize) -> u8
@@ -85,16 +78,9 @@ pub fn after_field(left: usize) -> u8
 }
 
 // The line of a train, which is train i: departure and arrival for each leg.
-fn train_line(
-    s: &[u8],
-    start: Cursor,
-    train: Train,
-    i: usize,
-    line: usize,
-    minutes: [u16; 352],
-) -> MinutesPart
-    requires { ⌜ Routed train × (i < 12) ⌝ }
-    ensures { λ r. ⌜ toldEnding (r .ending) (r .at) ≡ legsAt (legsOf train) train i 0 line minutes (now (s .entry)) start ⌝ }
+fn train_line(s: &[u8], start: Cursor, train: Train, i: usize, minutes: [u16; 352]) -> MinutesPart
+    requires { ⌜ Routed train × (i < 12) × Counted start ⌝ }
+    ensures { λ r. ⌜ toldEnding (r .ending) (r .at) ≡ legsAt (legsOf train) train i 0 minutes (now (s .entry)) start ⌝ }
 {
     let legs = legs_between(train.origin, train.destination);
     let mut at = minutes;
@@ -104,16 +90,11 @@ fn train_line(
         if j == legs {
             break 'fields Ending::Done(cursor);
         }
-        let d = cursor.ranged(s, SPACE, Time::LIMITS, faults_on(line));
+        let d = cursor.ranged(s, SPACE, Time::LIMITS, FAULTS);
         let Field::Value(departure, after_departure) = d else {
             break 'fields stopped(d);
         };
-        let a = after_departure.ranged(
-            s,
-            after_field(legs - (j + 1)),
-            Time::LIMITS,
-            faults_on(line),
-        );
+        let a = after_departure.ranged(s, after_field(legs - (j + 1)), Time::LIMITS, FAULTS);
         let Field::Value(arrival, next) = a else {
             break 'fields stopped(a);
         };
@@ -126,9 +107,9 @@ fn train_line(
     MinutesPart { ending, at }
 }
 
-// The lines of the trains, from line 2 on.
+// The lines of the trains.
 fn train_lines(s: &[u8], start: Cursor, line: Line) -> MinutesPart
-    requires { ⌜ Within line ⌝ }
+    requires { ⌜ Within line × Counted start ⌝ }
     ensures { λ r. ⌜ toldEnding (r .ending) (r .at) ≡ trainsAt (line .«train_count») line 0 (replicate 352 0) (now (s .entry)) start ⌝ }
 {
     let n = line.train_count as usize;
@@ -140,7 +121,7 @@ fn train_lines(s: &[u8], start: Cursor, line: Line) -> MinutesPart
             break 'lines Ending::Done(cursor);
         }
         let train = line.trains[i];
-        let part = train_line(s, cursor, train, i, i + 2, at);
+        let part = train_line(s, cursor, train, i, at);
         let ended = part.ending;
         let Ending::Done(next) = ended else {
             break 'lines ended;
@@ -155,14 +136,14 @@ fn train_lines(s: &[u8], start: Cursor, line: Line) -> MinutesPart
 
 // The first part of the text: the count of trains and their lines.
 pub fn read_minutes(s: &[u8], start: Cursor, line: Line) -> MinutesPart
-    requires { ⌜ Within line ⌝ }
+    requires { ⌜ Within line × Counted start ⌝ }
     ensures { λ r. ⌜ toldEnding (r .ending) (r .at) ≡ minutesAt line (now (s .entry)) start ⌝ }
 {
     let limits = Limits {
         min: line.train_count,
         max: line.train_count,
     };
-    let count = start.ranged(s, LINE_FEED, limits, faults_on(1));
+    let count = start.ranged(s, LINE_FEED, limits, FAULTS);
     let Field::Value(_, next) = count else {
         return MinutesPart {
             ending: stopped(count),
@@ -173,29 +154,30 @@ pub fn read_minutes(s: &[u8], start: Cursor, line: Line) -> MinutesPart
 }
 
 // A list's own count, of a line with n trains: a line feed after 0, a space after any other.
-fn own_count(s: &[u8], cursor: Cursor, n: u16, line: usize) -> Field
-    ensures { λ r. ⌜ toldField r ≡ ownCountAt n line (now (s .entry)) cursor ⌝ }
+fn own_count(s: &[u8], cursor: Cursor, n: u16) -> Field
+    requires { ⌜ Counted cursor ⌝ }
+    ensures { λ r. ⌜ toldField r ≡ ownCountAt n (now (s .entry)) cursor ⌝ }
 {
     let Number::Value(count, after) = cursor.number(s, 4) else {
-        return Field::Refused(8, line);
+        return Field::Refused(8, cursor.line);
     };
     let b = if count == 0 { LINE_FEED } else { SPACE };
     let Step::Next(next) = after.past(s, b) else {
-        return Field::Refused(8, line);
+        return Field::Refused(8, cursor.line);
     };
     let limits = Limits { min: 0, max: n };
     let Bounded::Within(v) = limits.value(count) else {
-        return Field::Refused(9, line);
+        return Field::Refused(9, cursor.line);
     };
     Field::Value(v, next)
 }
 
 // The line of an order list.
-fn list_line(s: &[u8], start: Cursor, n: u16, line: usize) -> ListPart
-    requires { ⌜ n ≤ 12 ⌝ }
-    ensures { λ r. ⌜ toldEnding (r .ending) (listed (r .list)) ≡ listAt n line (now (s .entry)) start ⌝ }
+fn list_line(s: &[u8], start: Cursor, n: u16) -> ListPart
+    requires { ⌜ (n ≤ 12) × Counted start ⌝ }
+    ensures { λ r. ⌜ toldEnding (r .ending) (listed (r .list)) ≡ listAt n (now (s .entry)) start ⌝ }
 {
-    let field = own_count(s, start, n, line);
+    let field = own_count(s, start, n);
     let mut trains = [0u16; 12];
     let Field::Value(own, after_count) = field else {
         return ListPart {
@@ -211,7 +193,7 @@ fn list_line(s: &[u8], start: Cursor, n: u16, line: usize) -> ListPart
         if k == count {
             break 'fields Ending::Done(cursor);
         }
-        let number = cursor.ranged(s, after_field(count - 1 - k), limits, faults_on(line));
+        let number = cursor.ranged(s, after_field(count - (k + 1)), limits, FAULTS);
         let Field::Value(train, next) = number else {
             break 'fields stopped(number);
         };
@@ -225,10 +207,10 @@ fn list_line(s: &[u8], start: Cursor, n: u16, line: usize) -> ListPart
     }
 }
 
-// The lines of the order lists, of a line with n trains, from line `first` on.
-fn list_lines(s: &[u8], start: Cursor, n: u16, count: usize, first: usize) -> ListsPart
-    requires { ⌜ (n ≤ 12) × (count ≤ 22) × (first ≤ 100) ⌝ }
-    ensures { λ r. ⌜ toldEnding (r .ending) (map listed (take count (r .lists))) ≡ many count (listAt n) first (now (s .entry)) start ⌝ }
+// The lines of the order lists, of a line with n trains.
+fn list_lines(s: &[u8], start: Cursor, n: u16, count: usize) -> ListsPart
+    requires { ⌜ (n ≤ 12) × (count ≤ 22) × Counted start ⌝ }
+    ensures { λ r. ⌜ toldEnding (r .ending) (map listed (take count (r .lists))) ≡ lines count (listAt n) (now (s .entry)) start ⌝ }
 {
     let none = no_list();
     let mut lists = [none; 22];
@@ -238,7 +220,7 @@ fn list_lines(s: &[u8], start: Cursor, n: u16, count: usize, first: usize) -> Li
         if k == count {
             break 'lines Ending::Done(cursor);
         }
-        let part = list_line(s, cursor, n, first + k);
+        let part = list_line(s, cursor, n);
         let ended = part.ending;
         let Ending::Done(next) = ended else {
             break 'lines ended;
@@ -263,28 +245,28 @@ fn no_rest(ending: Ending) -> RestPart
     }
 }
 
-// The second part of the text, which begins on line `first`: the order lists and the total, and nothing after them.
-pub fn read_rest(s: &[u8], start: Cursor, line: Line, first: usize) -> RestPart
-    requires { ⌜ Within line × (first ≤ 50) ⌝ }
-    ensures { λ r. ⌜ toldEnding (r .ending) (restOf line r) ≡ restAt line first (now (s .entry)) start ⌝ }
+// The second part of the text: the order lists and the total, and nothing after them.
+pub fn read_rest(s: &[u8], start: Cursor, line: Line) -> RestPart
+    requires { ⌜ Within line × Counted start ⌝ }
+    ensures { λ r. ⌜ toldEnding (r .ending) (restOf line r) ≡ restAt line (now (s .entry)) start ⌝ }
 {
     let own = list_count(line);
     let limits = Limits { min: own, max: own };
-    let field = start.ranged(s, LINE_FEED, limits, faults_on(first));
+    let field = start.ranged(s, LINE_FEED, limits, FAULTS);
     let Field::Value(_, next) = field else {
         return no_rest(stopped(field));
     };
     let count = own as usize;
-    let part = list_lines(s, next, line.train_count, count, first + 1);
+    let part = list_lines(s, next, line.train_count, count);
     let ended = part.ending;
     let Ending::Done(after_lists) = ended else {
         return no_rest(ended);
     };
     let NumberField::Value(total, end) = after_lists.number_field(s, 7, LINE_FEED) else {
-        return no_rest(Ending::Refused(8, first + 1 + count));
+        return no_rest(Ending::Refused(8, after_lists.line));
     };
     if end.at < s.len() {
-        return no_rest(Ending::Refused(8, first + 2 + count));
+        return no_rest(Ending::Refused(8, end.line));
     }
     let lists = part.lists;
     RestPart {
@@ -315,12 +297,12 @@ pub fn read_timetable(s: &[u8], line: Line) -> TimetablePart
     if MAX_BYTES < s.len() {
         return no_timetable(Ending::Refused(7, 0));
     }
-    let first = read_minutes(s, Cursor { at: 0 }, line);
+    let first = read_minutes(s, Cursor { at: 0, line: 1 }, line);
     let ended = first.ending;
     let Ending::Done(next) = ended else {
         return no_timetable(ended);
     };
-    let second = read_rest(s, next, line, line.train_count as usize + 2);
+    let second = read_rest(s, next, line);
     let ending = second.ending;
     let minutes = first.at;
     let lists = second.lists;

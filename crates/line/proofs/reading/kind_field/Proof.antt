@@ -32,8 +32,8 @@ returns c =
     ∙ sym (c .before .before .letter-of .ensures) ∙ c .enum-told .given .1 in
     simp letter
 
-add-t9 : tie.Need-add-t9
-add-t9 c =
+add-t8 : tie.Need-add-t8
+add-t8 c =
     let a = c .before .before .before .before .before .before .before .args in
     let k = c .before .before .kind .given in
     let letter = ap letterOf (sym (c .before .before .before .before .before .byte .ensures)) ∙ sym (c .before .before .before .before .letter-of .ensures)
@@ -41,7 +41,9 @@ add-t9 c =
     omega (arith, letter-inside (now (a .s)) (a .cursor) (k .0 .0) letter)
 
 past-requires : tie.Need-past-requires
-past-requires c κs = search needs
+past-requires c κs =
+    let start = c .before .before .before .before .before .before .before in
+    record { fits = omega (arith, start .pre .fits) }
 
 enum-known-next : tie.Need-enum-known-next
 enum-known-next c = search needs
@@ -81,7 +83,7 @@ kind-field-spec =
     enum-known-kind
     enum-told
     returns
-    add-t9
+    add-t8
     past-requires
     enum-known-next
     enum-told-2

@@ -1,7 +1,9 @@
--- `line::reading::path_fields` meets its contract: each `return` follows from the fields that led there, by the law of that case. Assumes nothing.
+-- `line::reading::path_fields` meets its contract: each `return` follows from the fields that led there, by the law of that case; after each field
+-- there are still no more lines than bytes. Assumes nothing.
 use mathlib.Core.Path.{_∙_, refl, sym, ap}
 use denote.Ref.{now}
 use Rattle.text.specs.Told.{stoppedBy}
+use Rattle.text.specs.LinesLaws.{field-counted}
 use Rattle.text.specs.ToldLaws.{ranged-told}
 use Rattle.line.specs.Ranges.{station}
 use Rattle.line.specs.FileLaws.{ended-told, path-no-origin, path-no-destination, path-nowhere, path-got}
@@ -11,9 +13,6 @@ use Rattle.line.proofs.reading.path_fields.Tie as tie
 
 numbers-requires : tie.Need-numbers-requires
 numbers-requires c κs = search needs
-
-faults-on-requires : tie.Need-faults-on-requires
-faults-on-requires c κs = search needs
 
 ranged-requires : tie.Need-ranged-requires
 ranged-requires c κs = search needs
@@ -33,20 +32,17 @@ no-path-requires c κs = search needs
 returns : tie.Need-returns
 returns c =
     let o = c .before .before in
-    let a = o .before .before .before .before .before .before .args in
+    let a = o .before .before .before .before .before .args in
     let refused = o .enum-told .given .1 in
-    let origin = ranged-told 2 3 (station (a .stations)) 32 (a .line) (now (a .s)) _ (o .before .before .before .before .numbers .ensures) refl
-    (o .before .before .before .faults-on .ensures) (o .before .before .ranged .ensures) refused in
-    ended-told _ (c .no-path .ensures ∙ c .before .stopped .ensures ∙ ap stoppedBy refused) ∙ sym (path-no-origin _ _ _ _ origin)
+    let origin = ranged-told 2 3 (station (a .stations)) 32 (now (a .s)) _ (o .before .before .before .numbers .ensures) refl
+    (o .before .before .ranged .ensures) refused in
+    ended-told _ (c .no-path .ensures ∙ c .before .stopped .ensures ∙ ap stoppedBy refused) ∙ sym (path-no-origin _ _ _ origin)
 
 numbers-requires-2 : tie.Need-numbers-requires-2
 numbers-requires-2 c κs = search needs
 
-faults-on-requires-2 : tie.Need-faults-on-requires-2
-faults-on-requires-2 c κs = search needs
-
 ranged-requires-2 : tie.Need-ranged-requires-2
-ranged-requires-2 c κs = search needs
+ranged-requires-2 c κs = field-counted _ _ _ _ _ _ (c .before .before .before .before .before .before .before .pre) (c .before .before .before .before .ranged .ensures) (c .before .before .o .given .1)
 
 enum-known-d : tie.Need-enum-known-d
 enum-known-d c = search needs
@@ -63,14 +59,14 @@ no-path-requires-2 c κs = search needs
 returns-2 : tie.Need-returns-2
 returns-2 c =
     let d = c .before .before in
-    let o = d .before .before .before .before .before .before in
-    let a = o .before .before .before .before .before .before .args in
-    let origin = ranged-told 2 3 (station (a .stations)) 32 (a .line) (now (a .s)) _ (o .before .before .before .before .numbers .ensures) refl
-    (o .before .before .before .faults-on .ensures) (o .before .before .ranged .ensures) (o .o .given .1) in
+    let o = d .before .before .before .before .before in
+    let a = o .before .before .before .before .before .args in
+    let origin = ranged-told 2 3 (station (a .stations)) 32 (now (a .s)) _ (o .before .before .before .numbers .ensures) refl
+    (o .before .before .ranged .ensures) (o .o .given .1) in
     let refused = d .enum-told2 .given .1 in
-    let destination = ranged-told 2 3 (station (a .stations)) 32 (a .line) (now (a .s)) _ (d .before .before .before .before .numbers2 .ensures) refl
-    (d .before .before .before .faults-on2 .ensures) (d .before .before .ranged2 .ensures) refused in
-    ended-told _ (c .no-path2 .ensures ∙ c .before .stopped2 .ensures ∙ ap stoppedBy refused) ∙ sym (path-no-destination _ _ _ _ origin destination)
+    let destination = ranged-told 2 3 (station (a .stations)) 32 (now (a .s)) _ (d .before .before .before .numbers2 .ensures) refl
+    (d .before .before .ranged2 .ensures) refused in
+    ended-told _ (c .no-path2 .ensures ∙ c .before .stopped2 .ensures ∙ ap stoppedBy refused) ∙ sym (path-no-destination _ _ _ origin destination)
 
 no-path-requires-3 : tie.Need-no-path-requires-3
 no-path-requires-3 c κs = search needs
@@ -78,31 +74,30 @@ no-path-requires-3 c κs = search needs
 returns-3 : tie.Need-returns-3
 returns-3 c =
     let d = c .before .before .before in
-    let o = d .before .before .before .before .before .before in
-    let a = o .before .before .before .before .before .before .args in
-    let origin = ranged-told 2 3 (station (a .stations)) 32 (a .line) (now (a .s)) _ (o .before .before .before .before .numbers .ensures) refl
-    (o .before .before .before .faults-on .ensures) (o .before .before .ranged .ensures) (o .o .given .1) in
-    let destination = ranged-told 2 3 (station (a .stations)) 32 (a .line) (now (a .s)) _ (d .before .before .before .before .numbers2 .ensures) refl
-    (d .before .before .before .faults-on2 .ensures) (d .before .before .ranged2 .ensures) (d .d .given .1) in
-    ended-told _ (c .no-path3 .ensures) ∙ sym (path-nowhere _ _ _ _ origin destination (c .before .if1 .taken))
+    let o = d .before .before .before .before .before in
+    let a = o .before .before .before .before .before .args in
+    let origin = ranged-told 2 3 (station (a .stations)) 32 (now (a .s)) _ (o .before .before .before .numbers .ensures) refl
+    (o .before .before .ranged .ensures) (o .o .given .1) in
+    let destination = ranged-told 2 3 (station (a .stations)) 32 (now (a .s)) _ (d .before .before .before .numbers2 .ensures) refl
+    (d .before .before .ranged2 .ensures) (d .d .given .1) in
+    ended-told _ (c .no-path3 .ensures) ∙ sym (path-nowhere _ _ _ origin destination (c .before .if1 .taken))
 
 returns-4 : tie.Need-returns-4
 returns-4 c =
     let d = c .before .before in
-    let o = d .before .before .before .before .before .before in
-    let a = o .before .before .before .before .before .before .args in
-    let origin = ranged-told 2 3 (station (a .stations)) 32 (a .line) (now (a .s)) _ (o .before .before .before .before .numbers .ensures) refl
-    (o .before .before .before .faults-on .ensures) (o .before .before .ranged .ensures) (o .o .given .1) in
-    let destination = ranged-told 2 3 (station (a .stations)) 32 (a .line) (now (a .s)) _ (d .before .before .before .before .numbers2 .ensures) refl
-    (d .before .before .before .faults-on2 .ensures) (d .before .before .ranged2 .ensures) (d .d .given .1) in
-    sym (path-got _ _ _ _ origin destination (c .if1 .left))
+    let o = d .before .before .before .before .before in
+    let a = o .before .before .before .before .before .args in
+    let origin = ranged-told 2 3 (station (a .stations)) 32 (now (a .s)) _ (o .before .before .before .numbers .ensures) refl
+    (o .before .before .ranged .ensures) (o .o .given .1) in
+    let destination = ranged-told 2 3 (station (a .stations)) 32 (now (a .s)) _ (d .before .before .before .numbers2 .ensures) refl
+    (d .before .before .ranged2 .ensures) (d .d .given .1) in
+    sym (path-got _ _ _ origin destination (c .if1 .left))
 
 pub path-fields-spec : {M : Type 1} → statement M
 path-fields-spec =
     tie.close
     (tie.spec
     numbers-requires
-    faults-on-requires
     ranged-requires
     enum-known-o
     enum-told
@@ -110,7 +105,6 @@ path-fields-spec =
     no-path-requires
     returns
     numbers-requires-2
-    faults-on-requires-2
     ranged-requires-2
     enum-known-d
     enum-told-2

@@ -1,11 +1,13 @@
--- `line::reading::station_lines` meets its contract. The invariant: the lines yet to read, laid into the array from here on, give what the whole gives.
--- Assumes nothing.
+-- `line::reading::station_lines` meets its contract. The invariant: the lines yet to read, laid into the array from here on, give what the whole gives,
+-- and there are no more lines than bytes. Assumes nothing.
 use Prim.Native.Nat.{suc, _≤_, _-_, _+_}
 use mathlib.Core.Path.{_≡_, _∙_, sym, ap, refl}
 use native.Mathlib.Omega.{arith}
 use native.Mathlib.Nat.{sub-zero}
 use denote.Ref.{now}
 use Rattle.text.specs.Lists.{padded}
+use Rattle.text.specs.Lines.{Counted}
+use Rattle.text.specs.LinesLaws.{field-counted}
 use Rattle.text.specs.LayLaws.{layMany, lay-done, lay-step, lay-stop}
 use Rattle.text.specs.Told.{stoppedBy}
 use Rattle.text.specs.ToldLaws.{ranged-told}
@@ -18,22 +20,16 @@ use Rattle.line.proofs.reading.station_lines.Tie as tie
 
 abbrev Inv-lines : tie.InvT-lines
 Inv-lines s count tracks₀ cursor₀ i₀ tracks cursor i =
-    (layMany (count - i) stationLine (i + 2) s cursor tracks i ≡ layMany count stationLine 2 s cursor₀ tracks₀ 0) × (i ≤ count)
+    (layMany (count - i) (λ left. stationLine) s cursor tracks i ≡ layMany count (λ left. stationLine) s cursor₀ tracks₀ 0) × (i ≤ count) × Counted cursor
 
 abbrev μ-lines : tie.MeasureT-lines
 μ-lines s count tracks₀ cursor₀ i₀ tracks cursor i = count - i
 
 lines-holds : tie.Need-lines-holds Inv-lines μ-lines
-lines-holds c = (rw sub-zero refl, omega arith)
-
-add-faults-on : tie.Need-add-faults-on Inv-lines μ-lines
-add-faults-on c = search needs
-
-faults-on-requires : tie.Need-faults-on-requires Inv-lines μ-lines
-faults-on-requires c κs = search needs
+lines-holds c = (rw sub-zero refl, omega arith, c .before .pre .1)
 
 ranged-requires : tie.Need-ranged-requires Inv-lines μ-lines
-ranged-requires c κs = search needs
+ranged-requires c κs = c .before .lines .inv .2
 
 enum-known-field : tie.Need-enum-known-field Inv-lines μ-lines
 enum-known-field c = search needs
@@ -58,13 +54,12 @@ lines-less c = search needs
 
 lines-again : tie.Need-lines-again Inv-lines μ-lines
 lines-again c =
-    let w = c .before .before .before .before .before .before .lines in
-    let a = c .before .before .before .before .before .before .before .before .args in
-    let field = ranged-told 2 3 tracks 10 (w .i + 2) (now (a .s)) _ refl refl (c .before .before .before .before .faults-on .ensures)
-    (c .before .before .before .ranged .ensures) (c .before .field .given .1) in
+    let w = c .before .before .before .before .before .lines in
+    let a = c .before .before .before .before .before .before .before .args in
+    let field = ranged-told 2 3 tracks 10 (now (a .s)) _ refl refl (c .before .before .before .ranged .ensures) (c .before .field .given .1) in
     let k : a .count - w .i ≡ suc (a .count - (w .i + 1)) = omega arith in
-    let next : w .i + 1 + 2 ≡ w .i + 2 + 1 = omega arith in
-    (sym (lay-step stationLine _ _ _ _ _ _ _ _ k next _ _ field) ∙ w .inv .0, omega arith)
+    let counted = field-counted _ _ _ _ _ _ (w .inv .2) (c .before .before .before .ranged .ensures) (c .before .field .given .1) in
+    (sym (lay-step (λ left. stationLine) _ _ _ _ _ _ k _ _ field) ∙ w .inv .0, omega arith, counted)
 
 returns : tie.Need-returns Inv-lines μ-lines
 unfolding padded
@@ -72,18 +67,17 @@ returns c =
     let w = c .before .lines in
     let a = c .before .before .before .args in
     let k : a .count - w .i ≡ 0 = omega arith in
-    sym (lay-done stationLine _ 0 _ 0 _ _ _ _ k) ∙ w .inv .0
+    sym (lay-done (λ left. stationLine) _ 0 _ _ _ _ k) ∙ w .inv .0
 
 returns-2 : tie.Need-returns-2 Inv-lines μ-lines
 unfolding padded
 returns-2 c =
-    let w = c .before .before .before .before .before .before .lines in
-    let a = c .before .before .before .before .before .before .before .before .args in
+    let w = c .before .before .before .before .before .lines in
+    let a = c .before .before .before .before .before .before .before .args in
     let refused = c .before .enum-told .given .1 in
-    let field = ranged-told 2 3 tracks 10 (w .i + 2) (now (a .s)) _ refl refl (c .before .before .before .before .faults-on .ensures)
-    (c .before .before .before .ranged .ensures) refused in
+    let field = ranged-told 2 3 tracks 10 (now (a .s)) _ refl refl (c .before .before .before .ranged .ensures) refused in
     let k : a .count - w .i ≡ suc (a .count - (w .i + 1)) = omega arith in
-    ended-told _ (c .stopped .ensures ∙ ap stoppedBy refused) ∙ sym (lay-stop stationLine _ _ _ 0 _ _ _ _ k _ _ field) ∙ w .inv .0
+    ended-told _ (c .stopped .ensures ∙ ap stoppedBy refused) ∙ sym (lay-stop (λ left. stationLine) _ _ _ _ _ _ k _ _ field) ∙ w .inv .0
 
 pub station-lines-spec : {M : Type 1} → statement M
 station-lines-spec =
@@ -92,8 +86,6 @@ station-lines-spec =
     Inv-lines
     μ-lines
     lines-holds
-    add-faults-on
-    faults-on-requires
     ranged-requires
     enum-known-field
     enum-told

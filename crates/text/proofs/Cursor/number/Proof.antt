@@ -90,8 +90,8 @@ add-value c =
     let room = room-step (w .left) (w .value) _ (c .before .before .before .before .before .loop-test .taken) small (w .inv .1) in
     omega (arith, room-below _ _ room)
 
-add-t16 : tie.Need-add-t16 Inv-loop μ-loop
-add-t16 c =
+add-next : tie.Need-add-next Inv-loop μ-loop
+add-next c =
     let e = digit-is _ _ _ _ (c .before .before .before .before .before .byte2 .ensures) (c .before .before .before .before .digit-of2 .ensures)
     (c .before .before .d .given .1) in
     omega (
@@ -163,7 +163,7 @@ number-spec =
     enum-told-2
     mul-value
     add-value
-    add-t16
+    add-next
     sub-left-2
     loop-less
     loop-again

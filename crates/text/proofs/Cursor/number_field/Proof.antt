@@ -1,7 +1,10 @@
--- `text::Cursor::number_field` meets its contract: each `return` rewrites with the answers that led there. Assumes nothing.
+-- `text::Cursor::number_field` meets its contract: each `return` rewrites with the answers that led there, and a number passes no line. Assumes
+-- nothing.
 use borrow.Author.Needs.{needs}
 use mathlib.Core.Path.{_∙_, sym}
 use Rattle.text.specs.Numbers.{fieldAt}
+use Rattle.text.specs.Lines.{Counted}
+use Rattle.text.specs.LinesLaws.{keeps-counted, number-keeps}
 use Rattle.text.proofs.Cursor.number_field.Statement.{statement}
 use Rattle.text.proofs.Cursor.number_field.Tie as tie
 
@@ -21,7 +24,9 @@ returns c =
     simp e
 
 past-requires : tie.Need-past-requires
-past-requires c κs = search needs
+past-requires c κs =
+    number-keeps _ Counted (keeps-counted _) _ _ _ _ (c .before .before .before .before .before .pre .2)
+    (sym (c .before .before .before .number .ensures) ∙ c .before .n .given .1)
 
 enum-known-next : tie.Need-enum-known-next
 enum-known-next c = search needs

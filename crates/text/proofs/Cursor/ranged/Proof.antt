@@ -15,7 +15,7 @@ enum-told : tie.Need-enum-told
 enum-told c = search needs
 
 returns : tie.Need-returns
-returns c = sym (ranged-malformed _ _ _ _ _ _ _ _ (sym (c .before .before .number-field .ensures) ∙ c .enum-told .given .1))
+returns c = sym (ranged-malformed _ _ _ _ _ _ _ (sym (c .before .before .number-field .ensures) ∙ c .enum-told .given .1))
 
 value-requires : tie.Need-value-requires
 value-requires c κs = search needs
@@ -29,13 +29,13 @@ enum-told-2 c = search needs
 returns-2 : tie.Need-returns-2
 returns-2 c =
     let field = sym (c .before .before .before .before .before .before .number-field .ensures) ∙ c .before .before .before .before .n .given .1 in
-    sym (ranged-outside _ _ _ _ _ _ _ _ _ _ field (sym (c .before .before .value .ensures) ∙ c .enum-told2 .given .1))
+    sym (ranged-outside _ _ _ _ _ _ _ _ _ field (sym (c .before .before .value .ensures) ∙ c .enum-told2 .given .1))
 
 returns-3 : tie.Need-returns-3
 returns-3 c =
     let field = sym (c .before .before .before .before .before .before .before .number-field .ensures)
     ∙ c .before .before .before .before .before .n .given .1 in
-    sym (ranged-value _ _ _ _ _ _ _ _ _ _ field _ (sym (c .before .before .before .value .ensures) ∙ c .before .v .given .1))
+    sym (ranged-value _ _ _ _ _ _ _ _ _ field _ (sym (c .before .before .before .value .ensures) ∙ c .before .v .given .1))
 
 pub ranged-spec : {M : Type 1} → statement M
 ranged-spec =

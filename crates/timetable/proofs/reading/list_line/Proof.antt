@@ -5,25 +5,29 @@ use mathlib.Core.Path.{_≡_, _∙_, sym, ap, refl}
 use native.Mathlib.Omega.{arith}
 use native.Mathlib.Nat.{sub-zero}
 use lib.ListN.{replicate}
+use Rattle.text.specs.Lines.{Counted}
+use Rattle.text.specs.LinesLaws.{field-counted}
 use Rattle.text.specs.LayLaws.{layMany, lay-done, lay-step, lay-stop}
 use Rattle.text.specs.Told.{toldField, stoppedBy}
 use Rattle.text.specs.ToldLaws.{ranged-told}
 use Rattle.line.specs.FileLaws.{ended-told}
-use Rattle.timetable.specs.ListLaws.{own-within, listPart, list-no-count, list-from}
+use Rattle.timetable.specs.Reading.{nameAt}
+use Rattle.timetable.specs.ListLaws.{own-within, list-no-count, list-from}
+use Rattle.timetable.specs.PlaceLaws.{own-counted}
 use borrow.Author.Needs.{needs}
 use Rattle.timetable.proofs.reading.list_line.Statement.{statement}
 use Rattle.timetable.proofs.reading.list_line.Tie as tie
 
 abbrev Inv-fields : tie.InvT-fields
-Inv-fields s n line trains₀ own count limits cursor₀ k₀ trains cursor k =
-    (layMany (count - k) (listPart n count line) k s cursor trains k ≡ layMany count (listPart n count line) 0 s cursor₀
-    (replicate 12 0) 0) × (k ≤ count) × (count ≤ 12)
+Inv-fields s n trains₀ own count limits cursor₀ k₀ trains cursor k =
+    (layMany (count - k) (nameAt n) s cursor trains k ≡ layMany count (nameAt n) s cursor₀ (replicate 12 0) 0) × (k ≤ count) × (count ≤ 12)
+    × Counted cursor
 
 abbrev μ-fields : tie.MeasureT-fields
-μ-fields s n line trains₀ own count limits cursor₀ k₀ trains cursor k = count - k
+μ-fields s n trains₀ own count limits cursor₀ k₀ trains cursor k = count - k
 
 own-count-requires : tie.Need-own-count-requires Inv-fields μ-fields
-own-count-requires c κs = search needs
+own-count-requires c κs = c .before .pre .1
 
 enum-known-field : tie.Need-enum-known-field Inv-fields μ-fields
 enum-known-field c = search needs
@@ -38,7 +42,7 @@ returns : tie.Need-returns Inv-fields μ-fields
 returns c =
     let refused = c .before .enum-told .given .1 in
     let own = sym (c .before .before .before .own-count .ensures) ∙ ap toldField refused in
-    ended-told _ (c .stopped .ensures ∙ ap stoppedBy refused) ∙ sym (list-no-count _ _ _ _ own)
+    ended-told _ (c .stopped .ensures ∙ ap stoppedBy refused) ∙ sym (list-no-count _ _ _ own)
 
 cast-count : tie.Need-cast-count Inv-fields μ-fields
 cast-count c = search needs
@@ -46,22 +50,21 @@ cast-count c = search needs
 fields-holds : tie.Need-fields-holds Inv-fields μ-fields
 fields-holds c =
     let own = sym (c .before .before .before .own-count .ensures) ∙ ap toldField (c .before .field .given .1) in
-    (rw sub-zero refl, omega arith, omega (arith, own-within _ _ _ _ _ _ own, c .before .before .before .before .before .pre))
+    let start = c .before .before .before .before .before .pre in
+    let counted = own-counted _ _ (start .1) (c .before .before .before .own-count .ensures) (c .before .field .given .1) in
+    (rw sub-zero refl, omega arith, omega (arith, own-within _ _ _ _ _ own, start .0), counted)
 
 sub-after-field : tie.Need-sub-after-field Inv-fields μ-fields
 sub-after-field c = search needs
 
-sub-after-field-2 : tie.Need-sub-after-field-2 Inv-fields μ-fields
-sub-after-field-2 c = search needs
+add-after-field : tie.Need-add-after-field Inv-fields μ-fields
+add-after-field c = search needs
 
 after-field-requires : tie.Need-after-field-requires Inv-fields μ-fields
 after-field-requires c κs = search needs
 
-faults-on-requires : tie.Need-faults-on-requires Inv-fields μ-fields
-faults-on-requires c κs = search needs
-
 ranged-requires : tie.Need-ranged-requires Inv-fields μ-fields
-ranged-requires c κs = search needs
+ranged-requires c κs = c .before .before .fields .inv .3
 
 enum-known-number : tie.Need-enum-known-number Inv-fields μ-fields
 enum-known-number c = search needs
@@ -86,13 +89,14 @@ fields-less c = search needs
 
 fields-again : tie.Need-fields-again Inv-fields μ-fields
 fields-again c =
-    let w = c .before .before .before .before .before .before .before .fields in
-    let a = c .before .before .before .before .before .before .before .before .before .before .before .before .before .args in
-    let count = c .before .before .before .before .before .before .before .before .before .field .given .0 .0 in
-    let number = ranged-told 8 9 (record { min = 1; max = _ }) _ _ _ _ refl (c .before .before .before .before .before .after-field .ensures)
-    (c .before .before .before .before .faults-on .ensures) (c .before .before .before .ranged .ensures) (c .before .number .given .1) in
-    let m : count - w .k ≡ suc (count - (w .k + 1)) = omega (arith, w .inv .1, c .before .before .before .before .before .before .if1 .left) in
-    (sym (lay-step (listPart (a .n) count (a .line)) _ _ _ _ _ _ _ _ m refl _ _ number) ∙ w .inv .0, omega (arith, m), w .inv .2)
+    let w = c .before .before .before .before .before .before .fields in
+    let a = c .before .before .before .before .before .before .before .before .before .before .before .before .args in
+    let count = c .before .before .before .before .before .before .before .before .field .given .0 .0 in
+    let number = ranged-told 8 9 (record { min = 1; max = _ }) _ _ _ refl (c .before .before .before .before .after-field .ensures)
+    (c .before .before .before .ranged .ensures) (c .before .number .given .1) in
+    let m : count - w .k ≡ suc (count - (w .k + 1)) = omega (arith, w .inv .1, c .before .before .before .before .before .if1 .left) in
+    let counted = field-counted _ _ _ _ _ _ (w .inv .3) (c .before .before .before .ranged .ensures) (c .before .number .given .1) in
+    (sym (lay-step (nameAt (a .n)) _ _ _ _ _ _ m _ _ number) ∙ w .inv .0, omega (arith, m), w .inv .2, counted)
 
 returns-2 : tie.Need-returns-2 Inv-fields μ-fields
 returns-2 c =
@@ -101,23 +105,22 @@ returns-2 c =
     let count = c .before .before .before .field .given .0 .0 in
     let own = sym (c .before .before .before .before .before .own-count .ensures) ∙ ap toldField (c .before .before .before .field .given .1) in
     let m : count - w .k ≡ 0 = omega (arith, c .if1 .taken) in
-    sym (list-from _ _ _ _ _ _ _ (c .before .before .before .before .before .before .before .pre) own
-    (sym (lay-done (listPart (a .n) count (a .line)) _ 0 _ 0 _ _ _ _ m) ∙ w .inv .0))
+    sym (list-from _ _ _ _ _ _ (c .before .before .before .before .before .before .before .pre .0) own
+    (sym (lay-done (nameAt (a .n)) _ 0 _ _ _ _ m) ∙ w .inv .0))
 
 returns-3 : tie.Need-returns-3 Inv-fields μ-fields
 returns-3 c =
-    let w = c .before .before .before .before .before .before .before .fields in
-    let a = c .before .before .before .before .before .before .before .before .before .before .before .before .before .args in
-    let count = c .before .before .before .before .before .before .before .before .before .field .given .0 .0 in
+    let w = c .before .before .before .before .before .before .fields in
+    let a = c .before .before .before .before .before .before .before .before .before .before .before .before .args in
+    let count = c .before .before .before .before .before .before .before .before .field .given .0 .0 in
     let refused = c .before .enum-told2 .given .1 in
-    let number = ranged-told 8 9 (record { min = 1; max = _ }) _ _ _ _ refl (c .before .before .before .before .before .after-field .ensures)
-    (c .before .before .before .before .faults-on .ensures) (c .before .before .before .ranged .ensures) refused in
-    let m : count - w .k ≡ suc (count - (w .k + 1)) = omega (arith, w .inv .1, c .before .before .before .before .before .before .if1 .left) in
-    let own = sym (c .before .before .before .before .before .before .before .before .before .before .before .own-count .ensures)
-    ∙ ap toldField (c .before .before .before .before .before .before .before .before .before .field .given .1) in
+    let number = ranged-told 8 9 (record { min = 1; max = _ }) _ _ _ refl (c .before .before .before .before .after-field .ensures)
+    (c .before .before .before .ranged .ensures) refused in
+    let m : count - w .k ≡ suc (count - (w .k + 1)) = omega (arith, w .inv .1, c .before .before .before .before .before .if1 .left) in
+    let own = sym (c .before .before .before .before .before .before .before .before .before .before .own-count .ensures) ∙ ap toldField (c .before .before .before .before .before .before .before .before .field .given .1) in
     ended-told _ (c .stopped2 .ensures ∙ ap stoppedBy refused)
-    ∙ sym (list-from _ _ _ _ _ _ _ (c .before .before .before .before .before .before .before .before .before .before .before .before .before .pre) own
-    (sym (lay-stop (listPart (a .n) count (a .line)) _ _ _ 0 _ _ _ _ m _ _ number) ∙ w .inv .0))
+    ∙ sym (list-from _ _ _ _ _ _ (c .before .before .before .before .before .before .before .before .before .before .before .before .pre .0) own
+    (sym (lay-stop (nameAt (a .n)) _ _ _ _ _ _ m _ _ number) ∙ w .inv .0))
 
 pub list-line-spec : {M : Type 1} → statement M
 list-line-spec =
@@ -132,10 +135,9 @@ list-line-spec =
     returns
     cast-count
     fields-holds
+    add-after-field
     sub-after-field
-    sub-after-field-2
     after-field-requires
-    faults-on-requires
     ranged-requires
     enum-known-number
     enum-told-2

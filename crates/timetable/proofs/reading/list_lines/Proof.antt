@@ -3,38 +3,39 @@ use Prim.Native.Nat.{ℕ, suc, _≤_, _<_, _-_, _+_}
 use mathlib.Core.Path.{_≡_, _∙_, sym, ap, refl}
 use mathlib.Core.List.{map}
 use native.Mathlib.Omega.{arith}
-use native.Mathlib.Nat.{sub-zero, add-zero}
+use native.Mathlib.Nat.{sub-zero}
 use borrow.Author.Needs.{needs}
 use lib.ListN.{length, take, length-set}
-use Rattle.text.specs.Parsed.{Parsed, many}
+use Rattle.text.specs.Parsed.{Parsed, lines}
+use Rattle.text.specs.Lines.{Counted}
+use Rattle.text.specs.LinesLaws.{keeps-counted}
+use Rattle.line.specs.PlaceLaws.{part-counted}
 use Rattle.line.specs.FileLaws.{ended-told}
 use Rattle.rules.specs.Orders.{listed}
 use Rattle.rules.specs.ListsLaws.{listed-more}
 use Rattle.timetable.specs.Reading.{listAt}
+use Rattle.timetable.specs.PlaceLaws.{stands-list}
 use Rattle.timetable.specs.RestLaws.{after, after-none, after-done, after-step, after-stop}
 use Rattle.timetable.proofs.reading.list_lines.Statement.{statement}
 use Rattle.timetable.proofs.reading.list_lines.Tie as tie
 
 abbrev Inv-lines : tie.InvT-lines
-Inv-lines s n count first lists₀ cursor₀ k₀ lists cursor k =
-    (after (map listed (take k lists)) (many (count - k) (listAt n) (first + k) s cursor) ≡ many count
-    (listAt n) first s cursor₀) × (k ≤ count) × (length lists ≡ 22)
+Inv-lines s n count lists₀ cursor₀ k₀ lists cursor k =
+    (after (map listed (take k lists)) (lines (count - k) (listAt n) s cursor) ≡ lines count (listAt n) s cursor₀) × (k ≤ count) × (length lists ≡ 22)
+    × Counted cursor
 
 abbrev μ-lines : tie.MeasureT-lines
-μ-lines s n count first lists₀ cursor₀ k₀ lists cursor k = count - k
+μ-lines s n count lists₀ cursor₀ k₀ lists cursor k = count - k
 
 no-list-requires : tie.Need-no-list-requires Inv-lines μ-lines
 no-list-requires c κs = search needs
 
 lines-holds : tie.Need-lines-holds Inv-lines μ-lines
 lines-holds c =
-    (rw (sub-zero, add-zero) (after-none _), omega arith, refl)
-
-add-list-line : tie.Need-add-list-line Inv-lines μ-lines
-add-list-line c = search needs
+    (rw sub-zero (after-none _), omega arith, refl, c .before .before .pre .2)
 
 list-line-requires : tie.Need-list-line-requires Inv-lines μ-lines
-list-line-requires c κs = search needs
+list-line-requires c κs = (c .before .before .before .before .pre .0, c .before .lines .inv .3)
 
 enum-known-ended : tie.Need-enum-known-ended Inv-lines μ-lines
 enum-known-ended c = search needs
@@ -63,10 +64,12 @@ lines-again c =
     let list = sym (c .before .before .before .before .list-line .ensures) ∙ ended-told _ (c .before .before .ended .given .1) in
     let room : w .k < length (w .lists) = omega
     (arith, w .inv .2, w .inv .1, more, c .before .before .before .before .before .before .before .before .before .pre) in (
-      sym (after-step (listAt (a .n)) _ _ (a .first + w .k) (a .first + (w .k + 1)) _ _ (map listed (take (w .k) (w .lists))) more (omega arith) _ _ list
+      sym (after-step (λ left. listAt (a .n)) _ _ _ _ (map listed (take (w .k) (w .lists))) more _ _ list
           (listed-more (w .lists) (w .k) o room)) ∙ w .inv .0,
       omega (arith, more),
       length-set (w .lists) (w .k) o ∙ w .inv .2,
+      part-counted _ _ (stands-list _ Counted (keeps-counted _) _ _ (w .inv .3)) (c .before .before .before .before .list-line .ensures)
+          (c .before .before .ended .given .1),
     )
 
 returns : tie.Need-returns Inv-lines μ-lines
@@ -76,7 +79,7 @@ returns c =
     let all : w .k ≡ a .count = omega arith in
     let none : a .count - w .k ≡ 0 = omega arith in
     ap (λ (k : ℕ). Parsed.got (map listed (take k (w .lists))) (w .cursor)) (sym all)
-    ∙ sym (after-done (listAt (a .n)) _ 0 _ 0 _ _ (map listed (take (w .k) (w .lists))) none) ∙ w .inv .0
+    ∙ sym (after-done (λ left. listAt (a .n)) _ 0 _ _ (map listed (take (w .k) (w .lists))) none) ∙ w .inv .0
 
 returns-2 : tie.Need-returns-2 Inv-lines μ-lines
 returns-2 c =
@@ -84,7 +87,7 @@ returns-2 c =
     let a = c .before .before .before .before .before .before .before .args in
     let more : a .count - w .k ≡ suc (a .count - (w .k + 1)) = omega (arith, w .inv .1, c .before .before .before .if1 .left) in
     let list = sym (c .before .before .list-line .ensures) ∙ ended-told _ (c .enum-told .given .1) in
-    ended-told _ (c .enum-told .given .1) ∙ sym (after-stop (listAt (a .n)) _ _ _ 0 _ _ (map listed (take (w .k) (w .lists))) more _ _ list) ∙ w .inv .0
+    ended-told _ (c .enum-told .given .1) ∙ sym (after-stop (λ left. listAt (a .n)) _ _ _ _ (map listed (take (w .k) (w .lists))) more _ _ list) ∙ w .inv .0
 
 pub list-lines-spec : {M : Type 1} → statement M
 list-lines-spec =
@@ -94,7 +97,6 @@ list-lines-spec =
     μ-lines
     no-list-requires
     lines-holds
-    add-list-line
     list-line-requires
     enum-known-ended
     enum-told

@@ -4,6 +4,8 @@ use mathlib.Core.Path.{_≡_, _∙_, sym}
 use mathlib.Core.Logic.{⊎-elim}
 use mathlib.Core.Bool.{cond}
 use lib.Dec.{eqb}
+use Rattle.text.specs.Lines.{Counted}
+use Rattle.text.specs.LinesLaws.{keeps-counted, number-keeps}
 use Rattle.timetable.specs.ListLaws.{byte-none, byte-some, own-malformed, own-unended, own-over, own-value}
 use borrow.Author.Needs.{needs}
 use Rattle.timetable.proofs.reading.own_count.Statement.{statement}
@@ -27,10 +29,11 @@ enum-told : tie.Need-enum-told
 enum-told c = search needs
 
 returns : tie.Need-returns
-returns c = sym (own-malformed _ _ _ _ (sym (c .before .before .number .ensures) ∙ c .enum-told .given .1))
+returns c = sym (own-malformed _ _ _ (sym (c .before .before .number .ensures) ∙ c .enum-told .given .1))
 
 past-requires : tie.Need-past-requires
-past-requires c κs = search needs
+past-requires c κs =
+    number-keeps _ Counted (keeps-counted _) _ _ _ _ (c .before .before .before .before .before .before .pre) (sym (c .before .before .before .before .number .ensures) ∙ c .before .before .count .given .1)
 
 enum-known-next : tie.Need-enum-known-next
 enum-known-next c = search needs
@@ -43,7 +46,7 @@ returns-2 c =
     let number = sym (c .before .before .before .before .before .before .before .number .ensures)
     ∙ c .before .before .before .before .before .count .given .1 in
     let byte = ends (c .before .before .before) in
-    sym (own-unended _ _ _ _ number byte (sym (c .before .before .past .ensures) ∙ c .enum-told2 .given .1))
+    sym (own-unended _ _ _ number byte (sym (c .before .before .past .ensures) ∙ c .enum-told2 .given .1))
 
 value-requires : tie.Need-value-requires
 value-requires c κs = search needs
@@ -60,7 +63,7 @@ returns-3 c =
     ∙ c .before .before .before .before .before .before .before .before .before .count .given .1 in
     let byte = ends (c .before .before .before .before .before .before .before) in
     let past = sym (c .before .before .before .before .before .before .past .ensures) ∙ c .before .before .before .before .next .given .1 in
-    sym (own-over _ _ _ _ number byte past (sym (c .before .before .value .ensures) ∙ c .enum-told3 .given .1))
+    sym (own-over _ _ _ number byte past (sym (c .before .before .value .ensures) ∙ c .enum-told3 .given .1))
 
 returns-4 : tie.Need-returns-4
 returns-4 c =
@@ -68,7 +71,7 @@ returns-4 c =
     ∙ c .before .before .before .before .before .before .before .before .before .before .count .given .1 in
     let byte = ends (c .before .before .before .before .before .before .before .before) in
     let past = sym (c .before .before .before .before .before .before .before .past .ensures) ∙ c .before .before .before .before .before .next .given .1 in
-    sym (own-value _ _ _ _ number byte past (sym (c .before .before .before .value .ensures) ∙ c .before .v .given .1))
+    sym (own-value _ _ _ number byte past (sym (c .before .before .before .value .ensures) ∙ c .before .v .given .1))
 
 pub own-count-spec : {M : Type 1} → statement M
 own-count-spec =

@@ -1,5 +1,6 @@
 -- `timetable::reading::read_minutes` meets its contract: refused at the count, or the lines of as many trains as the line has. Assumes nothing.
 use mathlib.Core.Path.{_∙_, sym, ap, refl}
+use Rattle.text.specs.LinesLaws.{field-counted}
 use Rattle.text.specs.Told.{stoppedBy}
 use Rattle.text.specs.ToldLaws.{ranged-told}
 use Rattle.line.specs.FileLaws.{ended-told}
@@ -8,11 +9,8 @@ use borrow.Author.Needs.{needs}
 use Rattle.timetable.proofs.reading.read_minutes.Statement.{statement}
 use Rattle.timetable.proofs.reading.read_minutes.Tie as tie
 
-faults-on-requires : tie.Need-faults-on-requires
-faults-on-requires c κs = search needs
-
 ranged-requires : tie.Need-ranged-requires
-ranged-requires c κs = search needs
+ranged-requires c κs = c .before .pre .1
 
 enum-known-count : tie.Need-enum-known-count
 enum-known-count c = search needs
@@ -26,16 +24,18 @@ stopped-requires c κs = search needs
 returns : tie.Need-returns
 returns c =
     let refused = c .before .enum-told .given .1 in
-    let count = ranged-told 8 9 (record { min = _; max = _ }) 10 1 _ _ refl refl (c .before .before .before .before .faults-on .ensures)
+    let count = ranged-told 8 9 (record { min = _; max = _ }) 10 _ _ refl refl
     (c .before .before .before .ranged .ensures) refused in
     ended-told _ (c .stopped .ensures ∙ ap stoppedBy refused) ∙ sym (minutes-no-count _ _ _ count)
 
 train-lines-requires : tie.Need-train-lines-requires
-train-lines-requires c κs = search needs
+train-lines-requires c κs =
+    let start = c .before .before .before .before .before .pre in
+    (start .0, field-counted _ _ _ _ _ _ (start .1) (c .before .before .before .ranged .ensures) (c .before .count .given .1))
 
 returns-2 : tie.Need-returns-2
 returns-2 c =
-    let count = ranged-told 8 9 (record { min = _; max = _ }) 10 1 _ _ refl refl (c .before .before .before .before .before .faults-on .ensures)
+    let count = ranged-told 8 9 (record { min = _; max = _ }) 10 _ _ refl refl
     (c .before .before .before .before .ranged .ensures) (c .before .before .count .given .1) in
     c .train-lines .ensures ∙ sym (minutes-counted _ _ _ count)
 
@@ -43,7 +43,6 @@ pub read-minutes-spec : {M : Type 1} → statement M
 read-minutes-spec =
     tie.close
     (tie.spec
-    faults-on-requires
     ranged-requires
     enum-known-count
     enum-told

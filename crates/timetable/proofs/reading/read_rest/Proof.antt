@@ -6,22 +6,23 @@ use native.Mathlib.Omega.{arith}
 use borrow.Author.Needs.{needs}
 use lib.ListN.{take}
 use Rattle.text.specs.Parsed.{Parsed}
+use Rattle.text.specs.Lines.{Counted}
+use Rattle.text.specs.LinesLaws.{keeps-counted, field-counted}
 use Rattle.text.specs.Told.{stoppedBy}
 use Rattle.text.specs.ToldLaws.{ranged-told}
 use Rattle.line.specs.FileLaws.{ended-told}
+use Rattle.line.specs.PlaceLaws.{part-counted}
 use Rattle.rules.specs.Orders.{listed}
+use Rattle.timetable.specs.PlaceLaws.{stands-lists}
 use Rattle.timetable.specs.RestLaws.{rest-no-count, rest-no-lists, rest-no-total, rest-more, rest-whole}
 use Rattle.timetable.proofs.reading.read_rest.Statement.{statement}
 use Rattle.timetable.proofs.reading.read_rest.Tie as tie
 
 list-count-requires : tie.Need-list-count-requires
-list-count-requires c κs = search needs
-
-faults-on-requires : tie.Need-faults-on-requires
-faults-on-requires c κs = search needs
+list-count-requires c κs = c .before .pre .0
 
 ranged-requires : tie.Need-ranged-requires
-ranged-requires c κs = search needs
+ranged-requires c κs = c .before .before .pre .1
 
 enum-known-field : tie.Need-enum-known-field
 enum-known-field c = search needs
@@ -37,25 +38,21 @@ no-rest-requires c κs = search needs
 
 returns : tie.Need-returns
 returns c =
-    let a = c .before .before .before .before .before .before .before .before .args in
     let refused = c .before .before .enum-told .given .1 in
-    let count = ranged-told 8 9 (record { min = _; max = _ }) 10 (a .first) _ _ refl refl (c .before .before .before .before .before .faults-on .ensures)
-    (c .before .before .before .before .ranged .ensures) refused in
+    let count = ranged-told 8 9 (record { min = _; max = _ }) 10 _ _ refl refl (c .before .before .before .before .ranged .ensures) refused in
     ended-told _ (c .no-rest .ensures ∙ c .before .stopped .ensures ∙ ap stoppedBy refused)
-    ∙ sym (rest-no-count _ _ _ _ (c .before .before .before .before .before .before .list-count .ensures .0) count)
+    ∙ sym (rest-no-count _ _ _ (c .before .before .before .before .before .list-count .ensures .0) count)
 
 cast-count : tie.Need-cast-count
 cast-count c = search needs
 
-add-list-lines : tie.Need-add-list-lines
-add-list-lines c = search needs
-
 list-lines-requires : tie.Need-list-lines-requires
-list-lines-requires c κs = (
-  c .before .before .before .before .before .before .before .pre .0 .trains .1,
-  c .before .before .before .before .before .list-count .ensures .1,
-  omega (arith, c .before .before .before .before .before .before .before .pre .1),
-)
+list-lines-requires c κs =
+    let start = c .before .before .before .before .before .before .pre in (
+      start .0 .trains .1,
+      c .before .before .before .before .list-count .ensures .1,
+      field-counted _ _ _ _ _ _ (start .1) (c .before .before .before .ranged .ensures) (c .before .field .given .1),
+    )
 
 enum-known-ended : tie.Need-enum-known-ended
 enum-known-ended c = search needs
@@ -68,17 +65,19 @@ no-rest-requires-2 c κs = search needs
 
 returns-2 : tie.Need-returns-2
 returns-2 c =
-    let a = c .before .before .before .before .before .before .before .before .before .before .before .args in
-    let count = ranged-told 8 9 (record { min = _; max = _ }) 10 (a .first) _ _ refl refl
-    (c .before .before .before .before .before .before .before .before .faults-on .ensures)
-    (c .before .before .before .before .before .before .before .ranged .ensures) (c .before .before .before .before .before .field .given .1) in
+    let count = ranged-told 8 9 (record { min = _; max = _ }) 10 _ _ refl refl (c .before .before .before .before .before .before .before .ranged .ensures) (c .before .before .before .before .before .field .given .1) in
     let refused = c .before .enum-told2 .given .1 in
     let lists = sym (c .before .before .before .list-lines .ensures) ∙ ended-told _ refused in
     ended-told _ (c .no-rest2 .ensures ∙ refused)
-    ∙ sym (rest-no-lists _ _ _ _ (c .before .before .before .before .before .before .before .before .before .list-count .ensures .0) count lists)
+    ∙ sym (rest-no-lists _ _ _ (c .before .before .before .before .before .before .before .before .list-count .ensures .0) count lists)
 
 number-field-requires : tie.Need-number-field-requires
-number-field-requires c κs = search needs
+number-field-requires c κs =
+    let f = c .before .before .before .before .before in
+    let after-count = field-counted _ _ _ _ _ _ (f .before .before .before .before .before .pre .1) (f .before .before .ranged .ensures) (f .field .given .1) in
+    let after-lists = part-counted _ _ (stands-lists _ Counted (keeps-counted _) _ _ _ after-count) (c .before .before .before .list-lines .ensures)
+    (c .before .ended .given .1) in
+    (omega arith, omega arith, after-lists)
 
 enum-known-total : tie.Need-enum-known-total
 enum-known-total c = search needs
@@ -86,78 +85,48 @@ enum-known-total c = search needs
 enum-told-3 : tie.Need-enum-told-3
 enum-told-3 c = search needs
 
-add-t20 : tie.Need-add-t20
-add-t20 c = search needs
-
-add-t21 : tie.Need-add-t21
-add-t21 c = search needs
-
 no-rest-requires-3 : tie.Need-no-rest-requires-3
 no-rest-requires-3 c κs = search needs
 
 returns-3 : tie.Need-returns-3
 returns-3 c =
-    let a = c .before .before .before .before .before .before .before .before .before .before .before .before .before .before .before .args in
-    let count = ranged-told 8 9 (record { min = _; max = _ }) 10 (a .first) _ _ refl refl
-    (c .before .before .before .before .before .before .before .before .before .before .before .before .faults-on .ensures)
-    (c .before .before .before .before .before .before .before .before .before .before .before .ranged .ensures)
-    (c .before .before .before .before .before .before .before .before .before .field .given .1) in
-    let lists = sym (c .before .before .before .before .before .before .before .list-lines .ensures)
-    ∙ ended-told _ (c .before .before .before .before .before .ended .given .1) in
+    let count = ranged-told 8 9 (record { min = _; max = _ }) 10 _ _ refl refl (c .before .before .before .before .before .before .before .before .before .before .before .ranged .ensures) (c .before .before .before .before .before .before .before .before .before .field .given .1) in
+    let lists = sym (c .before .before .before .before .before .before .before .list-lines .ensures) ∙ ended-told _ (c .before .before .before .before .before .ended .given .1) in
     let total = sym (c .before .before .before .number-field .ensures) ∙ c .before .enum-told3 .given .1 in
-    let own = c .before .before .before .before .before .before .before .before .before .before .before .before .before .list-count .ensures .0 in
-    ended-told _ (c .no-rest3 .ensures) ∙ sym (rest-no-total _ _ _ _ own count lists total)
-
-add-t24 : tie.Need-add-t24
-add-t24 c = search needs
-
-add-t25 : tie.Need-add-t25
-add-t25 c = search needs
+    let own = c .before .before .before .before .before .before .before .before .before .before .before .before .list-count .ensures .0 in
+    ended-told _ (c .no-rest3 .ensures) ∙ sym (rest-no-total _ _ _ own count lists total)
 
 no-rest-requires-4 : tie.Need-no-rest-requires-4
 no-rest-requires-4 c κs = search needs
 
 returns-4 : tie.Need-returns-4
 returns-4 c =
-    let a =
-    c .before .before .before .before .before .before .before .before .before .before .before .before .before .before .before .before .before .before .args in
-    let count = ranged-told 8 9 (record { min = _; max = _ }) 10 (a .first) _ _ refl refl
-    (c .before .before .before .before .before .before .before .before .before .before .before .before .before .before .before .faults-on .ensures)
+    let count = ranged-told 8 9 (record { min = _; max = _ }) 10 _ _ refl refl
     (c .before .before .before .before .before .before .before .before .before .before .before .before .before .before .ranged .ensures)
     (c .before .before .before .before .before .before .before .before .before .before .before .before .field .given .1) in
-    let lists = sym (c .before .before .before .before .before .before .before .before .before .before .list-lines .ensures)
-    ∙ ended-told _ (c .before .before .before .before .before .before .before .before .ended .given .1) in
+    let lists = sym (c .before .before .before .before .before .before .before .before .before .before .list-lines .ensures) ∙ ended-told _ (c .before .before .before .before .before .before .before .before .ended .given .1) in
     let total = sym (c .before .before .before .before .before .before .number-field .ensures) ∙ c .before .before .before .before .total .given .1 in
-    let own =
-    c .before .before .before .before .before .before .before .before .before .before .before .before .before .before .before .before .list-count .ensures .0 in
-    ended-told _ (c .no-rest4 .ensures) ∙ sym (rest-more _ _ _ _ own count lists total (c .before .if1 .taken))
+    let own = c .before .before .before .before .before .before .before .before .before .before .before .before .before .before .before .list-count .ensures .0 in
+    ended-told _ (c .no-rest4 .ensures) ∙ sym (rest-more _ _ _ own count lists total (c .before .if1 .taken))
 
 returns-5 : tie.Need-returns-5
 returns-5 c =
-    let a =
-    c .before .before .before .before .before .before .before .before .before .before .before .before .before .before .before .before .before .before .args in
-    let own =
-    c .before .before .before .before .before .before .before .before .before .before .before .before .before .before .before .before .list-count .ensures .0 in
-    let count = ranged-told 8 9 (record { min = _; max = _ }) 10 (a .first) _ _ refl refl
-    (c .before .before .before .before .before .before .before .before .before .before .before .before .before .before .before .faults-on .ensures)
+    let own = c .before .before .before .before .before .before .before .before .before .before .before .before .before .before .before .list-count .ensures .0 in
+    let count = ranged-told 8 9 (record { min = _; max = _ }) 10 _ _ refl refl
     (c .before .before .before .before .before .before .before .before .before .before .before .before .before .before .ranged .ensures)
     (c .before .before .before .before .before .before .before .before .before .before .before .before .field .given .1) in
-    let lists = sym (c .before .before .before .before .before .before .before .before .before .before .list-lines .ensures)
-    ∙ ended-told _ (c .before .before .before .before .before .before .before .before .ended .given .1) in
+    let read = c .before .before .before .before .before .before .before .before .before .before .list-lines in
+    let lists = sym (read .ensures) ∙ ended-told _ (c .before .before .before .before .before .before .before .before .ended .given .1) in
     let total = sym (c .before .before .before .before .before .before .number-field .ensures) ∙ c .before .before .before .before .total .given .1 in
-    ap (λ (k : ℕ). Parsed.got (record {
-      lists = map listed
-          (take k (c .before .before .before .before .before .before .before .before .before .before .list-lines .result .lists));
-      total = c .before .before .before .before .total .given .0 .0;
-    }) (c .before .before .before .before .total .given .0 .1 .0)) (sym own)
-    ∙ sym (rest-whole _ _ _ _ own count lists total (omega (arith, c .before .if1 .left)))
+    ap (λ (k : ℕ). Parsed.got (record { lists = map listed (take k (read .result .lists)); total = c .before .before .before .before .total .given .0 .0 })
+    (c .before .before .before .before .total .given .0 .1 .0)) (sym own)
+    ∙ sym (rest-whole _ _ _ own count lists total (omega (arith, c .before .if1 .left)))
 
 pub read-rest-spec : {M : Type 1} → statement M
 read-rest-spec =
     tie.close
     (tie.spec
     list-count-requires
-    faults-on-requires
     ranged-requires
     enum-known-field
     enum-told
@@ -165,7 +134,6 @@ read-rest-spec =
     no-rest-requires
     returns
     cast-count
-    add-list-lines
     list-lines-requires
     enum-known-ended
     enum-told-2
@@ -174,12 +142,8 @@ read-rest-spec =
     number-field-requires
     enum-known-total
     enum-told-3
-    add-t20
-    add-t21
     no-rest-requires-3
     returns-3
-    add-t24
-    add-t25
     no-rest-requires-4
     returns-4
     returns-5)

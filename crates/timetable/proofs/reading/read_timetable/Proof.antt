@@ -2,7 +2,11 @@
 use mathlib.Core.Path.{_∙_, sym}
 use native.Mathlib.Omega.{arith}
 use borrow.Author.Needs.{needs}
+use Rattle.text.specs.Lines.{Counted}
+use Rattle.text.specs.LinesLaws.{keeps-counted}
 use Rattle.line.specs.FileLaws.{ended-told}
+use Rattle.line.specs.PlaceLaws.{part-counted}
+use Rattle.timetable.specs.PlaceLaws.{stands-minutes}
 use Rattle.timetable.specs.RestLaws.{told-map, file-long, file-no-minutes, file-rest}
 use Rattle.timetable.proofs.reading.read_timetable.Statement.{statement}
 use Rattle.timetable.proofs.reading.read_timetable.Tie as tie
@@ -15,7 +19,7 @@ returns c =
     ended-told _ (c .no-timetable .ensures) ∙ sym (file-long _ _ (c .before .if1 .taken))
 
 read-minutes-requires : tie.Need-read-minutes-requires
-read-minutes-requires c κs = search needs
+read-minutes-requires c κs = (c .before .before .pre, record { fits = omega arith })
 
 enum-known-ended : tie.Need-enum-known-ended
 enum-known-ended c = search needs
@@ -32,21 +36,18 @@ returns-2 c =
     let minutes = sym (c .before .before .before .read-minutes .ensures) ∙ ended-told _ refused in
     ended-told _ (c .no-timetable2 .ensures ∙ refused) ∙ sym (file-no-minutes _ _ (omega (arith, c .before .before .before .before .if1 .left)) minutes)
 
-cast-read-rest : tie.Need-cast-read-rest
-cast-read-rest c = search needs
-
-add-read-rest : tie.Need-add-read-rest
-add-read-rest c = search needs
-
 read-rest-requires : tie.Need-read-rest-requires
 read-rest-requires c κs =
-    (c .before .before .before .before .before .before .before .pre, omega (arith, c .before .before .before .before .before .before .before .pre .trains))
+    let start = c .before .before .before .before .before .before .pre in (
+      start,
+      part-counted _ _ (stands-minutes _ Counted (keeps-counted _) _ _ (record { fits = omega arith })) (c .before .before .before .read-minutes .ensures)
+          (c .before .ended .given .1),
+    )
 
 returns-3 : tie.Need-returns-3
 returns-3 c =
-    let minutes = sym (c .before .before .before .before .before .before .before .read-minutes .ensures)
-    ∙ ended-told _ (c .before .before .before .before .before .ended .given .1) in
-    sym (file-rest _ _ (omega (arith, c .before .before .before .before .before .before .before .before .if1 .left)) minutes
+    let minutes = sym (c .before .before .before .before .before .before .read-minutes .ensures) ∙ ended-told _ (c .before .before .before .before .ended .given .1) in
+    sym (file-rest _ _ (omega (arith, c .before .before .before .before .before .before .before .if1 .left)) minutes
     (c .before .before .read-rest .ensures) ∙ told-map _ (c .before .before .read-rest .result .ending) _)
 
 pub read-timetable-spec : {M : Type 1} → statement M
@@ -60,7 +61,5 @@ read-timetable-spec =
     enum-told
     no-timetable-requires-2
     returns-2
-    cast-read-rest
-    add-read-rest
     read-rest-requires
     returns-3)

@@ -1,11 +1,13 @@
 -- `timetable::reading::train_line` meets its contract. The invariant: the legs yet to read, with the minutes as they stand, give what all of them
--- give. Assumes nothing.
+-- give, and there are no more lines than bytes. Assumes nothing.
 use Prim.Native.Nat.{suc, _≤_, _-_, _+_}
 use mathlib.Core.Path.{_≡_, _∙_, sym, ap, refl}
 use native.Mathlib.Omega.{arith}
 use native.Mathlib.Nat.{sub-zero}
 use denote.Ref.{now}
 use Rattle.text.specs.Told.{stoppedBy}
+use Rattle.text.specs.Lines.{Counted}
+use Rattle.text.specs.LinesLaws.{field-counted}
 use Rattle.text.specs.ToldLaws.{ranged-told}
 use Rattle.line.specs.Record.{legsOf}
 use Rattle.line.specs.FileLaws.{ended-told}
@@ -16,23 +18,20 @@ use Rattle.timetable.proofs.reading.train_line.Statement.{statement}
 use Rattle.timetable.proofs.reading.train_line.Tie as tie
 
 abbrev Inv-fields : tie.InvT-fields
-Inv-fields s train i line legs at₀ cursor₀ j₀ at cursor j =
-    (legsAt (legs - j) train i j line at s cursor ≡ legsAt (legsOf train) train i 0 line at₀ s cursor₀) × (j ≤ legs)
+Inv-fields s train i legs at₀ cursor₀ j₀ at cursor j =
+    (legsAt (legs - j) train i j at s cursor ≡ legsAt (legsOf train) train i 0 at₀ s cursor₀) × (j ≤ legs) × Counted cursor
 
 abbrev μ-fields : tie.MeasureT-fields
-μ-fields s train i line legs at₀ cursor₀ j₀ at cursor j = legs - j
+μ-fields s train i legs at₀ cursor₀ j₀ at cursor j = legs - j
 
 legs-between-requires : tie.Need-legs-between-requires Inv-fields μ-fields
 legs-between-requires c κs = search needs
 
 fields-holds : tie.Need-fields-holds Inv-fields μ-fields
-fields-holds c = (rw (sub-zero, c .legs-between .ensures) refl, omega arith)
-
-faults-on-requires : tie.Need-faults-on-requires Inv-fields μ-fields
-faults-on-requires c κs = search needs
+fields-holds c = (rw (sub-zero, c .legs-between .ensures) refl, omega arith, c .before .before .pre .2)
 
 ranged-requires : tie.Need-ranged-requires Inv-fields μ-fields
-ranged-requires c κs = search needs
+ranged-requires c κs = c .before .fields .inv .2
 
 enum-known-d : tie.Need-enum-known-d Inv-fields μ-fields
 enum-known-d c = search needs
@@ -52,11 +51,8 @@ sub-after-field c = search needs
 after-field-requires : tie.Need-after-field-requires Inv-fields μ-fields
 after-field-requires c κs = search needs
 
-faults-on-requires-2 : tie.Need-faults-on-requires-2 Inv-fields μ-fields
-faults-on-requires-2 c κs = search needs
-
 ranged-requires-2 : tie.Need-ranged-requires-2 Inv-fields μ-fields
-ranged-requires-2 c κs = search needs
+ranged-requires-2 c κs = field-counted _ _ _ _ _ _ (c .before .before .before .before .before .before .fields .inv .2) (c .before .before .before .before .ranged .ensures) (c .before .before .d .given .1)
 
 enum-known-a : tie.Need-enum-known-a Inv-fields μ-fields
 enum-known-a c = search needs
@@ -69,8 +65,8 @@ stopped-requires-2 c κs = search needs
 
 segment-between-requires : tie.Need-segment-between-requires Inv-fields μ-fields
 segment-between-requires c κs =
-    let r = c .before .before .before .before .before .before .before .before .before .before .before .before .before .before .before .pre .0 in
-    let w = c .before .before .before .before .before .before .before .before .before .before .before .before .fields in (
+    let r = c .before .before .before .before .before .before .before .before .before .before .before .before .before .pre .0 in
+    let w = c .before .before .before .before .before .before .before .before .before .before .fields in (
       r .origin .0,
       r .origin .1,
       r .destination .0,
@@ -78,8 +74,8 @@ segment-between-requires c κs =
       omega (
         arith,
         w .inv .1,
-        c .before .before .before .before .before .before .before .before .before .before .before .if1 .left,
-        c .before .before .before .before .before .before .before .before .before .before .before .before .before .legs-between .ensures,
+        c .before .before .before .before .before .before .before .before .before .if1 .left,
+        c .before .before .before .before .before .before .before .before .before .before .before .legs-between .ensures,
       ),
     )
 
@@ -118,54 +114,49 @@ fields-less c = search needs
 
 fields-again : tie.Need-fields-again Inv-fields μ-fields
 fields-again c =
-    let w = c .before .before .before .before .before .before .before .before .before .before .before .before .before .fields in
-    let a = c .before .before .before .before .before .before .before .before .before .before .before .before .before .before .before .before .args in
-    let legs = c .before .before .before .before .before .before .before .before .before .before .before .before .before .before .legs-between .result in
-    let k : legs - w .j ≡ suc (legs - (w .j + 1)) = omega
-    (arith, w .inv .1, c .before .before .before .before .before .before .before .before .before .before .before .before .if1 .left) in
-    let departure = ranged-told 8 9 (record { min = 0; max = 2879 }) 32 (a .line) (now (a .s)) _ refl refl
-    (c .before .before .before .before .before .before .before .before .before .before .before .faults-on .ensures)
-    (c .before .before .before .before .before .before .before .before .before .before .ranged .ensures)
-    (c .before .before .before .before .before .before .before .before .d .given .1) in
-    let arrival = ranged-told 8 9 (record { min = 0; max = 2879 }) (afterField (legs - (w .j + 1))) (a .line) (now (a .s)) _ refl
-    (c .before .before .before .before .before .before .after-field .ensures) (c .before .before .before .before .before .faults-on2 .ensures)
-    (c .before .before .before .before .ranged2 .ensures) (c .before .before .a .given .1) in
-    (sym (legs-step _ _ _ _ _ _ _ _ _ k departure _ arrival (c .segment-between .ensures .0)) ∙ w .inv .0, omega (arith, k))
+    let w = c .before .before .before .before .before .before .before .before .before .before .before .fields in
+    let a = c .before .before .before .before .before .before .before .before .before .before .before .before .before .before .args in
+    let legs = c .before .before .before .before .before .before .before .before .before .before .before .before .legs-between .result in
+    let k : legs - w .j ≡ suc (legs - (w .j + 1)) = omega (arith, w .inv .1, c .before .before .before .before .before .before .before .before .before .before .if1 .left) in
+    let first = c .before .before .before .before .before .before .before .before .before .ranged .ensures in
+    let second = c .before .before .before .before .ranged2 .ensures in
+    let departure = ranged-told 8 9 (record { min = 0; max = 2879 }) 32 (now (a .s)) _ refl refl first (c .before .before .before .before .before .before .before .d .given .1) in
+    let arrival = ranged-told 8 9 (record { min = 0; max = 2879 }) (afterField (legs - (w .j + 1))) (now (a .s)) _ refl
+    (c .before .before .before .before .before .after-field .ensures) second (c .before .before .a .given .1) in
+    let after-departure = field-counted _ _ _ _ _ _ (w .inv .2) first (c .before .before .before .before .before .before .before .d .given .1) in (
+      sym (legs-step _ _ _ _ _ _ _ _ k departure _ arrival (c .segment-between .ensures .0)) ∙ w .inv .0,
+      omega (arith, k),
+      field-counted _ _ _ _ _ _ after-departure second (c .before .before .a .given .1),
+    )
 
 returns : tie.Need-returns Inv-fields μ-fields
 returns c =
     let w = c .before .fields in
     let legs = c .before .before .legs-between .result in
     let k : legs - w .j ≡ 0 = omega arith in
-    sym (legs-done _ _ _ _ _ _ _ _ k) ∙ w .inv .0
+    sym (legs-done _ _ _ _ _ _ _ k) ∙ w .inv .0
 
 returns-2 : tie.Need-returns-2 Inv-fields μ-fields
 returns-2 c =
-    let w = c .before .before .before .before .before .before .fields in
-    let a = c .before .before .before .before .before .before .before .before .before .args in
-    let legs = c .before .before .before .before .before .before .before .legs-between .result in
-    let k : legs - w .j ≡ suc (legs - (w .j + 1)) = omega (arith, w .inv .1, c .before .before .before .before .before .if1 .left) in
+    let w = c .before .before .before .before .before .fields in
+    let a = c .before .before .before .before .before .before .before .before .args in
+    let legs = c .before .before .before .before .before .before .legs-between .result in
+    let k : legs - w .j ≡ suc (legs - (w .j + 1)) = omega (arith, w .inv .1, c .before .before .before .before .if1 .left) in
     let refused = c .before .enum-told .given .1 in
-    let departure = ranged-told 8 9 (record { min = 0; max = 2879 }) 32 (a .line) (now (a .s)) _ refl refl
-    (c .before .before .before .before .faults-on .ensures) (c .before .before .before .ranged .ensures) refused in
-    ended-told _ (c .stopped .ensures ∙ ap stoppedBy refused) ∙ sym (legs-no-departure _ _ _ _ _ _ _ _ _ k departure) ∙ w .inv .0
+    let departure = ranged-told 8 9 (record { min = 0; max = 2879 }) 32 (now (a .s)) _ refl refl (c .before .before .before .ranged .ensures) refused in
+    ended-told _ (c .stopped .ensures ∙ ap stoppedBy refused) ∙ sym (legs-no-departure _ _ _ _ _ _ _ _ k departure) ∙ w .inv .0
 
 returns-3 : tie.Need-returns-3 Inv-fields μ-fields
 returns-3 c =
-    let w = c .before .before .before .before .before .before .before .before .before .before .before .before .fields in
-    let a = c .before .before .before .before .before .before .before .before .before .before .before .before .before .before .before .args in
-    let legs = c .before .before .before .before .before .before .before .before .before .before .before .before .before .legs-between .result in
-    let k : legs - w .j ≡ suc (legs - (w .j + 1)) = omega
-    (arith, w .inv .1, c .before .before .before .before .before .before .before .before .before .before .before .if1 .left) in
+    let w = c .before .before .before .before .before .before .before .before .before .before .fields in
+    let a = c .before .before .before .before .before .before .before .before .before .before .before .before .before .args in
+    let legs = c .before .before .before .before .before .before .before .before .before .before .before .legs-between .result in
+    let k : legs - w .j ≡ suc (legs - (w .j + 1)) = omega (arith, w .inv .1, c .before .before .before .before .before .before .before .before .before .if1 .left) in
     let refused = c .before .enum-told2 .given .1 in
-    let departure = ranged-told 8 9 (record { min = 0; max = 2879 }) 32 (a .line) (now (a .s)) _ refl refl
-    (c .before .before .before .before .before .before .before .before .before .before .faults-on .ensures)
-    (c .before .before .before .before .before .before .before .before .before .ranged .ensures)
-    (c .before .before .before .before .before .before .before .d .given .1) in
-    let arrival = ranged-told 8 9 (record { min = 0; max = 2879 }) (afterField (legs - (w .j + 1))) (a .line) (now (a .s)) _ refl
-    (c .before .before .before .before .before .after-field .ensures) (c .before .before .before .before .faults-on2 .ensures)
-    (c .before .before .before .ranged2 .ensures) refused in
-    ended-told _ (c .stopped2 .ensures ∙ ap stoppedBy refused) ∙ sym (legs-no-arrival _ _ _ _ _ _ _ _ _ k departure arrival) ∙ w .inv .0
+    let departure = ranged-told 8 9 (record { min = 0; max = 2879 }) 32 (now (a .s)) _ refl refl (c .before .before .before .before .before .before .before .before .ranged .ensures) (c .before .before .before .before .before .before .d .given .1) in
+    let arrival = ranged-told 8 9 (record { min = 0; max = 2879 }) (afterField (legs - (w .j + 1))) (now (a .s)) _ refl
+    (c .before .before .before .before .after-field .ensures) (c .before .before .before .ranged2 .ensures) refused in
+    ended-told _ (c .stopped2 .ensures ∙ ap stoppedBy refused) ∙ sym (legs-no-arrival _ _ _ _ _ _ _ _ k departure arrival) ∙ w .inv .0
 
 pub train-line-spec : {M : Type 1} → statement M
 train-line-spec =
@@ -175,7 +166,6 @@ train-line-spec =
     μ-fields
     legs-between-requires
     fields-holds
-    faults-on-requires
     ranged-requires
     enum-known-d
     enum-told
@@ -183,7 +173,6 @@ train-line-spec =
     add-after-field
     sub-after-field
     after-field-requires
-    faults-on-requires-2
     ranged-requires-2
     enum-known-a
     enum-told-2

@@ -1,13 +1,17 @@
 -- `timetable::reading::train_lines` meets its contract. The invariant: the lines yet to read, with the minutes as they stand, give what all of them
--- give. Assumes nothing.
+-- give, and there are no more lines than bytes. Assumes nothing.
 use Prim.Native.Nat.{suc, _≤_, _<_, _-_, _+_}
 use mathlib.Core.Path.{_≡_, _∙_, sym, refl}
 use native.Mathlib.Omega.{arith}
 use native.Mathlib.Nat.{sub-zero}
 use lib.ListN.{length, length-map, replicate}
+use Rattle.text.specs.Lines.{Counted}
+use Rattle.text.specs.LinesLaws.{keeps-counted}
 use Rattle.line.specs.FileLaws.{ended-told}
+use Rattle.line.specs.PlaceLaws.{part-counted}
 use Rattle.rules.specs.PathsLaws.{routed}
 use Rattle.timetable.specs.Reading.{trainsAt}
+use Rattle.timetable.specs.PlaceLaws.{stands-legs}
 use Rattle.timetable.specs.ReadingLaws.{trains-done, trains-refused, trains-step}
 use borrow.Author.Needs.{needs}
 use Rattle.timetable.proofs.reading.train_lines.Statement.{statement}
@@ -15,7 +19,7 @@ use Rattle.timetable.proofs.reading.train_lines.Tie as tie
 
 abbrev Inv-lines : tie.InvT-lines
 Inv-lines s line n at₀ cursor₀ i₀ at cursor i =
-    (trainsAt (n - i) line i at s cursor ≡ trainsAt (line .«train_count») line 0 (replicate 352 0) s cursor₀) × (i ≤ n)
+    (trainsAt (n - i) line i at s cursor ≡ trainsAt (line .«train_count») line 0 (replicate 352 0) s cursor₀) × (i ≤ n) × Counted cursor
 
 abbrev μ-lines : tie.MeasureT-lines
 μ-lines s line n at₀ cursor₀ i₀ at cursor i = n - i
@@ -24,7 +28,7 @@ cast-n : tie.Need-cast-n Inv-lines μ-lines
 cast-n c = search needs
 
 lines-holds : tie.Need-lines-holds Inv-lines μ-lines
-lines-holds c = (rw sub-zero refl, omega arith)
+lines-holds c = (rw sub-zero refl, omega arith, c .before .pre .1)
 
 mul-train : tie.Need-mul-train Inv-lines μ-lines
 mul-train c = search needs
@@ -32,16 +36,13 @@ mul-train c = search needs
 element-copy-out-train : tie.Need-element-copy-out-train Inv-lines μ-lines
 element-copy-out-train c = search needs
 
-add-train-line : tie.Need-add-train-line Inv-lines μ-lines
-add-train-line c = search needs
-
 train-line-requires : tie.Need-train-line-requires Inv-lines μ-lines
 train-line-requires c κs =
     let a = c .before .before .before .before in
     let w = c .before .before .lines in
     let left : w .i < a .args .t3 .«train_count» = omega (arith, w .inv .1, c .before .if1 .left) in
     let size : length (a .args .t3 .trains) ≡ 12 = sym (length-map (a .args .t3 .trains) _) ∙ a .good .1 .1 .0 .1 .1 .1 .1 .1 .1 .0 .1 .0 .1 in
-    (routed (a .args .t3) (w .i) (a .pre) size left, omega (arith, left, a .pre .trains))
+    (routed (a .args .t3) (w .i) (a .pre .0) size left, omega (arith, left, a .pre .0 .trains), w .inv .2)
 
 enum-known-ended : tie.Need-enum-known-ended Inv-lines μ-lines
 enum-known-ended c = search needs
@@ -62,7 +63,9 @@ lines-again c =
     let k : l .«train_count» - w .i ≡ suc (l .«train_count» - (w .i + 1)) = omega
     (arith, w .inv .1, c .before .before .before .before .before .before .if1 .left) in
     let train = sym (c .before .before .before .before .train-line .ensures) ∙ ended-told _ (c .before .before .ended .given .1) in
-    (sym (trains-step _ l _ _ _ _ _ k train) ∙ w .inv .0, omega (arith, k))
+    let counted = part-counted _ _ (stands-legs _ Counted (keeps-counted _) _ _ _ _ _ _ (w .inv .2)) (c .before .before .before .before .train-line .ensures)
+    (c .before .before .ended .given .1) in
+    (sym (trains-step _ l _ _ _ _ _ k train) ∙ w .inv .0, omega (arith, k), counted)
 
 returns : tie.Need-returns Inv-lines μ-lines
 returns c =
@@ -89,7 +92,6 @@ train-lines-spec =
     lines-holds
     mul-train
     element-copy-out-train
-    add-train-line
     train-line-requires
     enum-known-ended
     enum-told
