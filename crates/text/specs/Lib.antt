@@ -7,6 +7,7 @@ pub mod Limits
 pub mod Parsed
 pub mod Lines
 pub mod Each
+pub mod Chained
 pub mod EachLaws
 pub mod Told
 pub mod Lend
@@ -19,6 +20,7 @@ pub mod DigitsLaws
 pub mod ParsedLaws
 pub mod ToldLaws
 pub mod LinesLaws
+pub mod ChainedLaws
 pub mod FeedsLaws
 pub mod LayLaws
 pub mod SpliceLaws
