@@ -109,7 +109,7 @@ module _ {A : Type 0} (range : ℕ) (none : A) (empty : A → Bool) (none-empty 
     where
       go : (b : Bool) → left s c ≡ b →
           pick b (thenRead (section s c) (λ y end. pick (empty y && not (left s end)) (Parsed.bad range (c .line)) (Parsed.got y end))) (Parsed.got none c)
-              ≡ Parsed.got x next → OptionalRead c x next
+          ≡ Parsed.got x next → OptionalRead c x next
       go false h q = record { why = inl (h, cc, cc) }
       go true h q =
           let a = then-got (section s c) _ x next q in
