@@ -8,7 +8,7 @@ use Rattle.line.specs.declared.Kind.{Kind}
 use Rattle.line.specs.declared.Segment.{Segment}
 use Rattle.line.specs.declared.Train.{Train}
 use Rattle.line.specs.declared.Line.{Line}
-use Rattle.line.specs.Record.{noSegment, noTrain}
+use Rattle.line.specs.Record.{noSegment, noTrain, lineWith}
 use Rattle.rules.specs.Paths.{train, segmentOf}
 use Rattle.rules.specs.Minutes.{departs, arrives}
 use Rattle.rules.specs.Rules.{Lawful}
@@ -27,14 +27,7 @@ givenTrain o d e l w rs ss =
 
 -- tracks, segments, trains
 abbrev pub givenLine : List ℕ → List Segment → List Train → Line
-givenLine ts gs rs =
-    record {
-      «station_count» = length ts;
-      tracks = padded 12 0 ts;
-      segments = padded 11 noSegment gs;
-      «train_count» = length rs;
-      trains = padded 12 noTrain rs;
-    }
+givenLine ts gs rs = lineWith (length ts) (padded 12 0 ts) (padded 11 noSegment gs) (length rs) (padded 12 noTrain rs)
 
 -- "departure and arrival for each segment in travel order": those of train i from its leg k on, put among the minutes m
 abbrev rowOf : Line → ℕ → ℕ → List ℕ → List ℕ → List ℕ

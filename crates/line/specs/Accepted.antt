@@ -25,8 +25,8 @@ use Rattle.line.specs.declared.reading.Letter.{Letter}
 use Rattle.line.specs.declared.reading.Path.{Path}
 use Rattle.line.specs.declared.reading.Head.{Head}
 use Rattle.line.specs.Ranges.{In, stationCount, tracks, gap, trainCount, station, time, weight, run, stop}
-use Rattle.line.specs.Record.{noSegment, noTrain, legsBetween, tidyTrain}
-use Rattle.line.specs.File.{number, stationLine, letterOf, onLetter, kindAt, segmentLine, pathAt, headAt, Journey, journeyAt, trainWith, trainLine, Section, sectionAt, stationSection, segmentSection, trainSection, joins, lineWith, lineAt, fileFrom, lineFile}
+use Rattle.line.specs.Record.{noSegment, noTrain, lineWith, legsBetween, tidyTrain}
+use Rattle.line.specs.File.{number, stationLine, letterOf, onLetter, kindAt, segmentLine, pathAt, headAt, Journey, journeyAt, trainWith, trainLine, Section, sectionAt, stationSection, segmentSection, trainSection, joins, lineFrom, lineAt, fileFrom, lineFile}
 use Rattle.line.specs.Spell.{field, stationText, letterByte, segmentText, journeyText, trainText}
 use Rattle.line.specs.RecordLaws.{path-legs}
 use Rattle.line.specs.FileLaws.{letter-byte, letter-inside}
@@ -280,7 +280,7 @@ section-spelt r size none P text line s one c x next e =
 -- the record of a line with these stations, segments and trains
 abbrev pub lineOf : ℕ → List ℕ → List Segment → ℕ → List Train → Line
 lineOf n ts gs t trs =
-    record { «station_count» = n; tracks = padded 12 0 ts; segments = padded 11 noSegment gs; «train_count» = t; trains = padded 12 noTrain trs }
+    lineWith n (padded 12 0 ts) (padded 11 noSegment gs) t (padded 12 noTrain trs)
 
 -- the whole file
 pub record LineRead (s : List ℕ) (l : Line) : Type 0 where
@@ -303,7 +303,7 @@ pub record LineRead (s : List ℕ) (l : Line) : Type 0 where
 -- the line of three sections, and nothing after them
 line-of : (s : List ℕ) (x : Section ℕ) (y : Section Segment) (z : Section Train) (c c₁ c₂ c₃ : Cursor) → from s c ≡ s →
     SectionSpelt stationCount 12 0 (In tracks) stationText s c x c₁ → SectionSpelt (joins (x .count)) 11 noSegment SegmentWithin segmentText s c₁ y c₂ →
-    SectionSpelt trainCount 12 noTrain (TrainRead (x .count)) trainText s c₂ z c₃ → length s ≤ c₃ .at → LineRead s (lineWith x y z)
+    SectionSpelt trainCount 12 noTrain (TrainRead (x .count)) trainText s c₂ z c₃ → length s ≤ c₃ .at → LineRead s (lineFrom x y z)
 line-of s x y z c c₁ c₂ c₃ start a b d end =
     let n = x .count in
     let joined : y .count ≡ n - 1 = omega (arith, b .range .0, b .range .1) in
@@ -325,13 +325,7 @@ line-of s x y z c c₁ c₂ c₃ start a b d end =
       trains = d .range;
       many-trains = d .many;
       each-train = d .each;
-      line = λ i. record {
-        «station_count» = n;
-        tracks = a .array i;
-        segments = b .array i;
-        «train_count» = z .count;
-        trains = d .array i;
-      };
+      line = λ i. lineWith n (a .array i) (b .array i) (z .count) (d .array i);
       text = sym start ∙ a .spelt ∙ ap (λ (l : List ℕ). field n 10 (eachThen stationText (a .xs) l)) segments;
     }
 

@@ -86,15 +86,15 @@ module _ {A : Type 0} (text : A → List ℕ → List ℕ) (parts : (x : A) (res
 begins-at : {s t : List ℕ} {part : List ℕ → List ℕ} {p q : ℕ} → s ≡ t → q ≡ p → Begins t part q → Begins s part p
 begins-at e same b = record { before = b .before; after = b .after; whole = e ∙ b .whole; line = sym same ∙ b .line }
 
-module _ (l : Line) (arrays : Arrays l) (few : In stationCount (l .«station_count»)) where
+module _ (l : Line) (arrays : Arrays l) (few : In stationCount (l .track .«station_count»)) where
   abbrev n : ℕ
-  n = l .«station_count»
+  n = l .track .«station_count»
 
   abbrev trainLines : List ℕ
   trainLines = eachThen trainText (trainsOf l) []
 
   abbrev segmentLines : List ℕ
-  segmentLines = eachThen segmentText (segmentsOf l) (field (l .«train_count») 10 trainLines)
+  segmentLines = eachThen segmentText (segmentsOf l) (field (l .traffic .«train_count») 10 trainLines)
 
   -- what stands before the lines of stations, of segments, before the count of trains and before their lines
   abbrev beforeStations : List ℕ
@@ -110,7 +110,7 @@ module _ (l : Line) (arrays : Arrays l) (few : In stationCount (l .«station_cou
   beforeCount = beforeSegments ++ eachThen segmentText (segmentsOf l) []
 
   abbrev beforeTrains : List ℕ
-  beforeTrains = beforeCount ++ fieldText (l .«train_count») 10
+  beforeTrains = beforeCount ++ fieldText (l .traffic .«train_count») 10
 
   from-stations : textOf l ≡ beforeStations ++ eachThen stationText (tracksOf l) (field (n - 1) 10 segmentLines)
   unfolding textOf
@@ -119,14 +119,14 @@ module _ (l : Line) (arrays : Arrays l) (few : In stationCount (l .«station_cou
   from-segments : textOf l ≡ beforeSegments ++ segmentLines
   from-segments = from-stations ∙ lines-after stationText station-then station-feed beforeStations (tracksOf l) _ ∙ field-after beforeJoins (n - 1) _
 
-  from-count : textOf l ≡ beforeCount ++ field (l .«train_count») 10 trainLines
+  from-count : textOf l ≡ beforeCount ++ field (l .traffic .«train_count») 10 trainLines
   from-count = from-segments ∙ lines-after segmentText segment-then segment-feed beforeSegments (segmentsOf l) _
 
   many-stations : length (tracksOf l) ≡ n
-  many-stations = length-take-le n (l .tracks) (omega (arith, few .1, arrays .tracks))
+  many-stations = length-take-le n (l .track .tracks) (omega (arith, few .1, arrays .tracks))
 
   many-segments : length (segmentsOf l) ≡ n - 1
-  many-segments = length-take-le (n - 1) (l .segments) (omega (arith, few .1, arrays .segments))
+  many-segments = length-take-le (n - 1) (l .track .segments) (omega (arith, few .1, arrays .segments))
 
   feeds-stations : feeds beforeStations ≡ 1
   feeds-stations = field-feeds [] n
@@ -155,13 +155,13 @@ module _ (l : Line) (arrays : Arrays l) (few : In stationCount (l .«station_cou
       (each-begins segmentText segment-then segment-feed (segmentsOf l) i noSegment beforeSegments _ (omega (arith, many-segments)))
 
   -- the count of trains on line n + n + 2
-  count-begins : Begins (textOf l) (field (l .«train_count») 10) (n + n + 2)
+  count-begins : Begins (textOf l) (field (l .traffic .«train_count») 10) (n + n + 2)
   count-begins = record { before = beforeCount; after = trainLines; whole = from-count; line = omega (arith, feeds-count) }
 
   -- the trains from line n + n + 3 on
   train-begins : (i : ℕ) → i < length (trainsOf l) → Begins (textOf l) (trainText (getD (trainsOf l) i noTrain)) (n + n + 3 + i)
   train-begins i h =
-      begins-at (from-count ∙ field-after beforeCount (l .«train_count») trainLines) (omega (arith, field-feeds beforeCount (l .«train_count»), feeds-count))
+      begins-at (from-count ∙ field-after beforeCount (l .traffic .«train_count») trainLines) (omega (arith, field-feeds beforeCount (l .traffic .«train_count»), feeds-count))
       (each-begins trainText train-then train-feed (trainsOf l) i noTrain beforeTrains [] h)
 
 -- ---- the line that a fault names
@@ -259,35 +259,35 @@ FaultBegins l m p =
     ⊎ (Faulty (textOf l) stationText trackFault m p
     ⊎ (Faulty (textOf l) segmentText segmentFault m p
     ⊎ (Faulty (textOf l) countText (countFault trainCount) m p
-    ⊎ Faulty (textOf l) trainText (trainFault (l .«station_count»)) m p)))
+    ⊎ Faulty (textOf l) trainText (trainFault (l .track .«station_count»)) m p)))
 
 module _ (l : Line) (arrays : Arrays l) (m p : ℕ) where
-  trains-faulty : In stationCount (l .«station_count») →
-      linesFault (trainsOf l) (trainFault (l .«station_count»)) (l .«station_count» + l .«station_count» + 3) ≡ Fault.At m p →
-      Faulty (textOf l) trainText (trainFault (l .«station_count»)) m p
+  trains-faulty : In stationCount (l .track .«station_count») →
+      linesFault (trainsOf l) (trainFault (l .track .«station_count»)) (l .track .«station_count» + l .track .«station_count» + 3) ≡ Fault.At m p →
+      Faulty (textOf l) trainText (trainFault (l .track .«station_count»)) m p
   trains-faulty few e =
-      lines-faulty (textOf l) trainText (trainFault (l .«station_count»)) (only-train (l .«station_count»)) (trainsOf l) noTrain _ m p
+      lines-faulty (textOf l) trainText (trainFault (l .track .«station_count»)) (only-train (l .track .«station_count»)) (trainsOf l) noTrain _ m p
       (train-begins l arrays few) e
 
-  count-faulty : In stationCount (l .«station_count») →
-      numberFault trainCount (l .«train_count») (l .«station_count» + l .«station_count» + 2) ≡ Fault.At m p →
+  count-faulty : In stationCount (l .track .«station_count») →
+      numberFault trainCount (l .traffic .«train_count») (l .track .«station_count» + l .track .«station_count» + 2) ≡ Fault.At m p →
       Faulty (textOf l) countText (countFault trainCount) m p
   count-faulty few e =
-      one-faulty (textOf l) countText (countFault trainCount) (λ q x. only-number trainCount x q) (l .«train_count») _ m p (count-begins l arrays few) e
+      one-faulty (textOf l) countText (countFault trainCount) (λ q x. only-number trainCount x q) (l .traffic .«train_count») _ m p (count-begins l arrays few) e
 
-  segments-faulty : In stationCount (l .«station_count») → linesFault (segmentsOf l) segmentFault (l .«station_count» + 3) ≡ Fault.At m p →
+  segments-faulty : In stationCount (l .track .«station_count») → linesFault (segmentsOf l) segmentFault (l .track .«station_count» + 3) ≡ Fault.At m p →
       Faulty (textOf l) segmentText segmentFault m p
   segments-faulty few e =
       lines-faulty (textOf l) segmentText segmentFault only-segment (segmentsOf l) noSegment _ m p
       (λ i h. segment-begins l arrays few i (omega (arith, many-segments l arrays few))) e
 
-  stations-faulty : In stationCount (l .«station_count») → linesFault (tracksOf l) trackFault 2 ≡ Fault.At m p →
+  stations-faulty : In stationCount (l .track .«station_count») → linesFault (tracksOf l) trackFault 2 ≡ Fault.At m p →
       Faulty (textOf l) stationText trackFault m p
   stations-faulty few e =
       lines-faulty (textOf l) stationText trackFault (λ q x. only-number tracks x q) (tracksOf l) 0 2 m p
       (λ i h. station-begins l arrays few i (omega (arith, many-stations l arrays few))) e
 
-  first-begins : Begins (textOf l) (countText (l .«station_count»)) 1
+  first-begins : Begins (textOf l) (countText (l .track .«station_count»)) 1
   unfolding textOf
   first-begins = record { before = []; after = _; whole = refl; line = refl }
 
@@ -295,9 +295,9 @@ module _ (l : Line) (arrays : Arrays l) (m p : ℕ) where
   unfolding faultOf
   fault-begins e =
       ⊎-elim
-      (λ h. inl (one-faulty (textOf l) countText (countFault stationCount) (λ q x. only-number stationCount x q) (l .«station_count») 1 m p first-begins h))
+      (λ h. inl (one-faulty (textOf l) countText (countFault stationCount) (λ q x. only-number stationCount x q) (l .track .«station_count») 1 m p first-begins h))
       (λ h.
-      let few = tells-number stationCount (l .«station_count») 1 .holds (h .0) in
+      let few = tells-number stationCount (l .track .«station_count») 1 .holds (h .0) in
       inr (⊎-elim (λ f. inl (stations-faulty few f))
       (λ f. inr (⊎-elim (λ g. inl (segments-faulty few g))
       (λ g. inr (⊎-elim (λ k. inl (count-faulty few k)) (λ k. inr (trains-faulty few (k .1)))

@@ -21,7 +21,7 @@ use Rattle.line.specs.declared.reading.Path.{Path}
 use Rattle.line.specs.declared.reading.Letter.{Letter}
 use Rattle.line.specs.declared.reading.KindField.{KindField}
 use Rattle.line.specs.Ranges.{stationCount, tracks, gap, trainCount, station, time, weight, run, stop}
-use Rattle.line.specs.Record.{noSegment, noTrain, emptyLine, legsBetween}
+use Rattle.line.specs.Record.{noSegment, noTrain, lineWith, emptyLine, legsBetween}
 
 -- a number in its range, with the byte b after it: 2 for its form and the byte after it, 3 for its range
 abbrev pub number : Limits → ℕ → List ℕ → Cursor → Parsed ℕ
@@ -135,22 +135,15 @@ trainSection n s c = sectionAt trainCount 12 noTrain (trainLine n) s c
 -- ---- the file: "Three sections in this order", and no bytes after the last line
 
 -- the line of its sections
-abbrev pub lineWith : Section ℕ → Section Segment → Section Train → Line
-lineWith stations segments trains =
-    record {
-      «station_count» = stations .count;
-      tracks = stations .entries;
-      segments = segments .entries;
-      «train_count» = trains .count;
-      trains = trains .entries;
-    }
+abbrev pub lineFrom : Section ℕ → Section Segment → Section Train → Line
+lineFrom stations segments trains = lineWith (stations .count) (stations .entries) (segments .entries) (trains .count) (trains .entries)
 
 unfoldable pub lineAt : List ℕ → Cursor → Parsed Line
 lineAt s c =
     thenRead (stationSection s c) (λ stations c₁.
     thenRead (segmentSection (stations .count) s c₁) (λ segments c₂.
     thenRead (trainSection (stations .count) s c₂) (λ trains c₃.
-    pick (ltb (c₃ .at) (length s)) (Parsed.bad 2 (c₃ .line)) (Parsed.got (lineWith stations segments trains) c₃))))
+    pick (ltb (c₃ .at) (length s)) (Parsed.bad 2 (c₃ .line)) (Parsed.got (lineFrom stations segments trains) c₃))))
 
 -- "ASCII text of at most 4,096 bytes": over that is 1 at 0; else the sections are read from position i on, which is on line 1
 unfoldable pub fileFrom : List ℕ → ℕ → Parsed Line

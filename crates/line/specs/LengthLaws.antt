@@ -78,13 +78,13 @@ module _ {A : Type 0} (P : A → Type 0) (text : A → List ℕ → List ℕ) (k
 pub text-fits : (l : Line) → Within l → length (textOf l) ≤ 4096
 unfolding textOf
 text-fits l w =
-    let n = l .«station_count» in
-    let size : length (textOf l) ≤ 0 + l .«train_count» * 130 + 5 + (n - 1) * 12 + 5 + n * 5 + 5 =
+    let n = l .track .«station_count» in
+    let size : length (textOf l) ≤ 0 + l .traffic .«train_count» * 130 + 5 + (n - 1) * 12 + 5 + n * 5 + 5 =
     field-length n 10 _ _ (omega (arith, w .stations)) (
-    each-length (In tracks) stationText 5 station-length n (l .tracks) (w .tracks) _ _ (
+    each-length (In tracks) stationText 5 station-length n (l .track .tracks) (w .tracks) _ _ (
     field-length (n - 1) 10 _ _ (omega (arith, w .stations)) (
-    each-length SegmentWithin segmentText 12 segment-length (n - 1) (l .segments) (w .segments) _ _ (
-    field-length (l .«train_count») 10 _ _ (omega (arith, w .trains)) (
-    each-length (TrainWithin n) trainText 130 (train-length n (w .stations .1)) (l .«train_count») (l .trains) (w .each-train) 0 [] (omega arith)
+    each-length SegmentWithin segmentText 12 segment-length (n - 1) (l .track .segments) (w .segments) _ _ (
+    field-length (l .traffic .«train_count») 10 _ _ (omega (arith, w .trains)) (
+    each-length (TrainWithin n) trainText 130 (train-length n (w .stations .1)) (l .traffic .«train_count») (l .traffic .trains) (w .each-train) 0 [] (omega arith)
     ))))) in
     omega (arith, w .stations, w .trains)

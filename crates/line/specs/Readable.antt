@@ -143,35 +143,35 @@ section-reads r size none P text f line s one n bs c rest i small many each e =
 -- a line of the record, section by section
 module _ (l : Line) (w : Within l) (a : Arrays l) (s : List ℕ) where
   abbrev trainsText : List ℕ
-  trainsText = field (l .«train_count») 10 (eachThen trainText (trainsOf l) [])
+  trainsText = field (l .traffic .«train_count») 10 (eachThen trainText (trainsOf l) [])
 
   abbrev segmentsText : List ℕ
-  segmentsText = field (l .«station_count» - 1) 10 (eachThen segmentText (segmentsOf l) trainsText)
+  segmentsText = field (l .track .«station_count» - 1) 10 (eachThen segmentText (segmentsOf l) trainsText)
 
-  stations-read : (c : Cursor) → from s c ≡ field (l .«station_count») 10 (eachThen stationText (tracksOf l) segmentsText) →
-      Reads (stationSection s c) (record { count = l .«station_count»; entries = padded 12 0 (tracksOf l) }) s segmentsText
+  stations-read : (c : Cursor) → from s c ≡ field (l .track .«station_count») 10 (eachThen stationText (tracksOf l) segmentsText) →
+      Reads (stationSection s c) (record { count = l .track .«station_count»; entries = padded 12 0 (tracksOf l) }) s segmentsText
   stations-read c e =
-      let many = length-take-le (l .«station_count») (l .tracks) (omega (arith, w .stations .1, a .tracks)) in
-      rw (map-id (tracksOf l)) at (section-reads stationCount 12 0 (In tracks) stationText (λ t. t) stationLine s (station-reads s) (l .«station_count»)
+      let many = length-take-le (l .track .«station_count») (l .track .tracks) (omega (arith, w .stations .1, a .tracks)) in
+      rw (map-id (tracksOf l)) at (section-reads stationCount 12 0 (In tracks) stationText (λ t. t) stationLine s (station-reads s) (l .track .«station_count»)
       (tracksOf l) c segmentsText (w .stations) (omega arith) many (w .tracks) e)
 
   segments-read : (c : Cursor) → from s c ≡ segmentsText →
-      Reads (segmentSection (l .«station_count») s c) (record { count = l .«station_count» - 1; entries = padded 11 noSegment (segmentsOf l) }) s trainsText
+      Reads (segmentSection (l .track .«station_count») s c) (record { count = l .track .«station_count» - 1; entries = padded 11 noSegment (segmentsOf l) }) s trainsText
   segments-read c e =
-      let n = l .«station_count» in
-      let many = length-take-le (n - 1) (l .segments) (omega (arith, w .stations .1, a .segments)) in
+      let n = l .track .«station_count» in
+      let many = length-take-le (n - 1) (l .track .segments) (omega (arith, w .stations .1, a .segments)) in
       let small : n - 1 < 10000 = omega (arith, w .stations .1) in
       rw (map-id (segmentsOf l)) at (section-reads (joins n) 11 noSegment SegmentWithin segmentText (λ g. g) segmentLine s (segment-reads s) (n - 1)
       (segmentsOf l) c trainsText (omega arith, omega arith) small many (w .segments) e)
 
   trains-read : (c : Cursor) → from s c ≡ trainsText →
-      Reads (trainSection (l .«station_count») s c) (record { count = l .«train_count»; entries = padded 12 noTrain (map tidyTrain (trainsOf l)) }) s []
+      Reads (trainSection (l .track .«station_count») s c) (record { count = l .traffic .«train_count»; entries = padded 12 noTrain (map tidyTrain (trainsOf l)) }) s []
   trains-read c e =
-      let n = l .«station_count» in
-      let t = l .«train_count» in
-      let many = length-take-le t (l .trains) (omega (arith, w .trains .1, a .trains)) in
+      let n = l .track .«station_count» in
+      let t = l .traffic .«train_count» in
+      let many = length-take-le t (l .traffic .trains) (omega (arith, w .trains .1, a .trains)) in
       let each = each-both (TrainWithin n) TrainArrays (TrainWritten n) (λ t x y. record { limits = x; arrays = y }) (trainsOf l) (w .each-train)
-      (each-take TrainArrays t (l .trains) (a .each-train)) in
+      (each-take TrainArrays t (l .traffic .trains) (a .each-train)) in
       section-reads trainCount 12 noTrain (TrainWritten n) trainText tidyTrain (trainLine n) s (train-reads n (w .stations .1) s) t (trainsOf l) c []
       (w .trains) (omega arith) many each e
 

@@ -16,8 +16,15 @@ noSegment = record { kind = Kind.S; following = 0; opposing = 0 }
 abbrev pub noTrain : Train
 noTrain = record { origin = 0; destination = 0; earliest = 0; latest = 0; weight = 0; runs = replicate 11 0; stops = replicate 11 0 }
 
+-- the line of these entries
+abbrev pub lineWith : ℕ → List ℕ → List Segment → ℕ → List Train → Line
+lineWith n ts gs t trs = record {
+  track = record { «station_count» = n; tracks = ts; segments = gs };
+  traffic = record { «train_count» = t; trains = trs };
+}
+
 abbrev pub emptyLine : Line
-emptyLine = record { «station_count» = 0; tracks = replicate 12 0; segments = replicate 11 noSegment; «train_count» = 0; trains = replicate 12 noTrain }
+emptyLine = lineWith 0 (replicate 12 0) (replicate 11 noSegment) 0 (replicate 12 noTrain)
 
 -- the segments of a train's path: as many as its origin and destination are apart
 abbrev pub legsBetween : ℕ → ℕ → ℕ
@@ -33,13 +40,13 @@ HasPath t = (1 ≤ legsOf t) × (legsOf t ≤ 11)
 -- ---- the used entries
 
 abbrev pub tracksOf : Line → List ℕ
-tracksOf l = take (l .«station_count») (l .tracks)
+tracksOf l = take (l .track .«station_count») (l .track .tracks)
 
 abbrev pub segmentsOf : Line → List Segment
-segmentsOf l = take (l .«station_count» - 1) (l .segments)
+segmentsOf l = take (l .track .«station_count» - 1) (l .track .segments)
 
 abbrev pub trainsOf : Line → List Train
-trainsOf l = take (l .«train_count») (l .trains)
+trainsOf l = take (l .traffic .«train_count») (l .traffic .trains)
 
 -- a run for each segment of the path, and a stop at each station between two of them
 abbrev pub runsOf : Train → List ℕ
@@ -65,13 +72,8 @@ tidyTrain t =
 
 unfoldable pub tidyLine : Line → Line
 tidyLine l =
-    record {
-      «station_count» = l .«station_count»;
-      tracks = padded 12 0 (tracksOf l);
-      segments = padded 11 noSegment (segmentsOf l);
-      «train_count» = l .«train_count»;
-      trains = padded 12 noTrain (map tidyTrain (trainsOf l));
-    }
+    lineWith (l .track .«station_count») (padded 12 0 (tracksOf l)) (padded 11 noSegment (segmentsOf l)) (l .traffic .«train_count»)
+    (padded 12 noTrain (map tidyTrain (trainsOf l)))
 
 pub record SameTrain (t u : Train) : Type 0 where
   pub origin : t .origin ≡ u .origin
@@ -89,8 +91,8 @@ SameTrains (t ∷ ts) [] = ⊥
 SameTrains (t ∷ ts) (u ∷ us) = SameTrain t u × SameTrains ts us
 
 pub record SameLine (l m : Line) : Type 0 where
-  pub stations : l .«station_count» ≡ m .«station_count»
+  pub stations : l .track .«station_count» ≡ m .track .«station_count»
   pub tracks : tracksOf l ≡ tracksOf m
   pub segments : segmentsOf l ≡ segmentsOf m
-  pub trains : l .«train_count» ≡ m .«train_count»
+  pub trains : l .traffic .«train_count» ≡ m .traffic .«train_count»
   pub each-train : SameTrains (trainsOf l) (trainsOf m)

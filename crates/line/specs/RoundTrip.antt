@@ -72,11 +72,11 @@ same-trains n few (t ∷ ts) w a = (same-train n few t (w .0) (a .0), same-train
 same-tidy : (l : Line) → Within l → Arrays l → SameLine (tidyLine l) l
 unfolding tidyLine
 same-tidy l w a =
-    let stations = length-take-le (l .«station_count») (l .tracks) (omega (arith, w .stations .1, a .tracks)) in
-    let segments = length-take-le (l .«station_count» - 1) (l .segments) (omega (arith, w .stations .1, a .segments)) in
-    let many : length (map tidyTrain (trainsOf l)) ≡ l .«train_count» = length-map (trainsOf l) tidyTrain
-    ∙ length-take-le (l .«train_count») (l .trains) (omega (arith, w .trains .1, a .trains)) in
-    let trains : take (l .«train_count») (padded 12 noTrain (map tidyTrain (trainsOf l))) ≡ map tidyTrain (trainsOf l) = rw many at
+    let stations = length-take-le (l .track .«station_count») (l .track .tracks) (omega (arith, w .stations .1, a .tracks)) in
+    let segments = length-take-le (l .track .«station_count» - 1) (l .track .segments) (omega (arith, w .stations .1, a .segments)) in
+    let many : length (map tidyTrain (trainsOf l)) ≡ l .traffic .«train_count» = length-map (trainsOf l) tidyTrain
+    ∙ length-take-le (l .traffic .«train_count») (l .traffic .trains) (omega (arith, w .trains .1, a .trains)) in
+    let trains : take (l .traffic .«train_count») (padded 12 noTrain (map tidyTrain (trainsOf l))) ≡ map tidyTrain (trainsOf l) = rw many at
     (take-padded 12 noTrain (map tidyTrain (trainsOf l)) (omega (arith, many, w .trains .1))) in
     record {
       stations = refl;
@@ -84,8 +84,8 @@ same-tidy l w a =
       segments = rw segments at (take-padded 11 noSegment (segmentsOf l) (omega (arith, segments, w .stations .1)));
       trains = refl;
       each-train =
-          rw trains (same-trains (l .«station_count») (w .stations .1) (trainsOf l) (w .each-train)
-          (each-take TrainArrays (l .«train_count») (l .trains) (a .each-train)));
+          rw trains (same-trains (l .track .«station_count») (w .stations .1) (trainsOf l) (w .each-train)
+          (each-take TrainArrays (l .traffic .«train_count») (l .traffic .trains) (a .each-train)));
     }
 
 -- ---- what is known of a line that was read

@@ -18,7 +18,7 @@ use Rattle.line.specs.declared.Line.{Line}
 use Rattle.line.specs.declared.ReadLine.{ReadLine}
 use Rattle.line.specs.Ranges.{In}
 use Rattle.line.specs.Record.{emptyLine}
-use Rattle.line.specs.File.{number, Section, sectionAt, stationSection, segmentSection, trainSection, lineWith, lineAt, fileFrom, lineFile, answered}
+use Rattle.line.specs.File.{number, Section, sectionAt, stationSection, segmentSection, trainSection, lineFrom, lineAt, fileFrom, lineFile, answered}
 
 -- ---- a section: its count, then its lines
 
@@ -76,7 +76,7 @@ module _ (s : List ℕ) (c : Cursor) where
         unfolding lineAt
         bytes-after more = rw (stations, segments, trains, lt-ltb (c₃ .at) (length s) more) refl
 
-        pub line-read : length s ≤ c₃ .at → lineAt s c ≡ Parsed.got (lineWith x y z) c₃
+        pub line-read : length s ≤ c₃ .at → lineAt s c ≡ Parsed.got (lineFrom x y z) c₃
         unfolding lineAt
         line-read done = rw (stations, segments, trains, le-ltb (c₃ .at) (length s) done) refl
 

@@ -39,6 +39,6 @@ trainText t rest = headText t (journeyText (stopsOf t) (runsOf t) rest)
 -- the whole text
 unfoldable pub textOf : Line → List ℕ
 textOf l =
-    field (l .«station_count») 10 (eachThen stationText (tracksOf l)
-    (field (l .«station_count» - 1) 10 (eachThen segmentText (segmentsOf l)
-    (field (l .«train_count») 10 (eachThen trainText (trainsOf l) [])))))
+    field (l .track .«station_count») 10 (eachThen stationText (tracksOf l)
+    (field (l .track .«station_count» - 1) 10 (eachThen segmentText (segmentsOf l)
+    (field (l .traffic .«train_count») 10 (eachThen trainText (trainsOf l) [])))))

@@ -148,26 +148,26 @@ module _ (l : Line) where
   abbrev trains-part : List ℕ
   trains-part = eachThen trainText (trainsOf l) []
 
-  pub line-parts : textOf l ≡ fieldText (l .«station_count») 10
-      ++ (stations-part ++ (fieldText (l .«station_count» - 1) 10 ++ (segments-part ++ (fieldText (l .«train_count») 10 ++ trains-part))))
+  pub line-parts : textOf l ≡ fieldText (l .track .«station_count») 10
+      ++ (stations-part ++ (fieldText (l .track .«station_count» - 1) 10 ++ (segments-part ++ (fieldText (l .traffic .«train_count») 10 ++ trains-part))))
   unfolding textOf
   line-parts =
-      let rest = digits (l .«train_count») ++ (10 ∷ trains-part) in
-      ap (λ (x : List ℕ). digits (l .«station_count») ++ (10 ∷ x)) (
-      each-then stationText station-then (tracksOf l) (digits (l .«station_count» - 1) ++ (10 ∷ eachThen segmentText (segmentsOf l) rest))
-      ∙ ap (λ (x : List ℕ). stations-part ++ (digits (l .«station_count» - 1) ++ (10 ∷ x))) (each-then segmentText segment-then (segmentsOf l) rest)
+      let rest = digits (l .traffic .«train_count») ++ (10 ∷ trains-part) in
+      ap (λ (x : List ℕ). digits (l .track .«station_count») ++ (10 ∷ x)) (
+      each-then stationText station-then (tracksOf l) (digits (l .track .«station_count» - 1) ++ (10 ∷ eachThen segmentText (segmentsOf l) rest))
+      ∙ ap (λ (x : List ℕ). stations-part ++ (digits (l .track .«station_count» - 1) ++ (10 ∷ x))) (each-then segmentText segment-then (segmentsOf l) rest)
       )
       ∙ (simp append-assoc)
 
-  pub line-size : length (textOf l) ≡ length (fieldText (l .«station_count») 10)
-      + (length stations-part + (length (fieldText (l .«station_count» - 1) 10)
-      + (length segments-part + (length (fieldText (l .«train_count») 10) + length trains-part))))
+  pub line-size : length (textOf l) ≡ length (fieldText (l .track .«station_count») 10)
+      + (length stations-part + (length (fieldText (l .track .«station_count» - 1) 10)
+      + (length segments-part + (length (fieldText (l .traffic .«train_count») 10) + length trains-part))))
   line-size =
       ap length line-parts
       ∙ (rw (
-        length-append (fieldText (l .«station_count») 10),
+        length-append (fieldText (l .track .«station_count») 10),
         length-append stations-part,
-        length-append (fieldText (l .«station_count» - 1) 10),
+        length-append (fieldText (l .track .«station_count» - 1) 10),
         length-append segments-part,
-        length-append (fieldText (l .«train_count») 10),
+        length-append (fieldText (l .traffic .«train_count») 10),
       ) refl)

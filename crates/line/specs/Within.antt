@@ -24,18 +24,18 @@ pub record TrainWithin (n : ℕ) (t : Train) : Type 0 where
   pub stops : Each (In stop) (stopsOf t)
 
 pub record Within (l : Line) : Type 0 where
-  pub stations : In stationCount (l .«station_count»)
+  pub stations : In stationCount (l .track .«station_count»)
   pub tracks : Each (In tracks) (tracksOf l)
   pub segments : Each SegmentWithin (segmentsOf l)
-  pub trains : In trainCount (l .«train_count»)
-  pub each-train : Each (TrainWithin (l .«station_count»)) (trainsOf l)
+  pub trains : In trainCount (l .traffic .«train_count»)
+  pub each-train : Each (TrainWithin (l .track .«station_count»)) (trainsOf l)
 
 -- the arrays of a record have their lengths, as every record of the program has
 abbrev pub TrainArrays : Train → Type 0
 TrainArrays t = (length (t .runs) ≡ 11) × (length (t .stops) ≡ 11)
 
 pub record Arrays (l : Line) : Type 0 where
-  pub tracks : length (l .tracks) ≡ 12
-  pub segments : length (l .segments) ≡ 11
-  pub trains : length (l .trains) ≡ 12
-  pub each-train : Each TrainArrays (l .trains)
+  pub tracks : length (l .track .tracks) ≡ 12
+  pub segments : length (l .track .segments) ≡ 11
+  pub trains : length (l .traffic .trains) ≡ 12
+  pub each-train : Each TrainArrays (l .traffic .trains)

@@ -55,14 +55,14 @@ tells-train n p t =
 tells-line : (l : Line) → Tells (faultOf l) (Within l)
 unfolding faultOf
 tells-line l =
-    let n = l .«station_count» in
+    let n = l .track .«station_count» in
     tells-as
     (λ h. record { stations = h .0; tracks = h .1 .0; segments = h .1 .1 .0; trains = h .1 .1 .1 .0; each-train = h .1 .1 .1 .1 })
     (λ w. (w .stations, (w .tracks, (w .segments, (w .trains, w .each-train)))))
     (tells-then _ _ (tells-number stationCount n 1)
     (tells-then _ _ (tells-lines trackFault (In tracks) (λ p t. tells-number tracks t p) (tracksOf l) 2)
     (tells-then _ _ (tells-lines segmentFault SegmentWithin tells-segment (segmentsOf l) (n + 3))
-    (tells-then _ _ (tells-number trainCount (l .«train_count») (n + n + 2))
+    (tells-then _ _ (tells-number trainCount (l .traffic .«train_count») (n + n + 2))
     (tells-lines (trainFault n) (TrainWithin n) (tells-train n) (trainsOf l) (n + n + 3))))))
 
 pub within-of : (l : Line) → faultOf l ≡ Fault.None → Within l

@@ -64,11 +64,11 @@ trainFault n p t =
 
 unfoldable pub faultOf : Line → Fault
 faultOf l =
-    thenFault (numberFault stationCount (l .«station_count») 1)
+    thenFault (numberFault stationCount (l .track .«station_count») 1)
     (thenFault (linesFault (tracksOf l) trackFault 2)
-    (thenFault (linesFault (segmentsOf l) segmentFault (l .«station_count» + 3))
-    (thenFault (numberFault trainCount (l .«train_count») (l .«station_count» + l .«station_count» + 2))
-    (linesFault (trainsOf l) (trainFault (l .«station_count»)) (l .«station_count» + l .«station_count» + 3)))))
+    (thenFault (linesFault (segmentsOf l) segmentFault (l .track .«station_count» + 3))
+    (thenFault (numberFault trainCount (l .traffic .«train_count») (l .track .«station_count» + l .track .«station_count» + 2))
+    (linesFault (trainsOf l) (trainFault (l .track .«station_count»)) (l .track .«station_count» + l .track .«station_count» + 3)))))
 
 abbrev pub onFault : {A : Type 0} → Fault → A → (ℕ → ℕ → A) → A
 onFault Fault.None a f = a

@@ -36,13 +36,23 @@ pub struct Train {
     pub stops: [u16; 11],
 }
 
-// Segment p joins stations p and p + 1. Entries beyond a count are 0 (a kind is S) after reading and ignored in writing.
-pub struct Line {
+// The stations with their tracks, and the segments between them: segment p joins stations p and p + 1.
+pub struct Track {
     pub station_count: u16,
     pub tracks: [u16; 12],
     pub segments: [Segment; 11],
+}
+
+// The trains.
+pub struct Traffic {
     pub train_count: u16,
     pub trains: [Train; 12],
+}
+
+// Entries beyond a count are 0 (a kind is S) after reading and ignored in writing.
+pub struct Line {
+    pub track: Track,
+    pub traffic: Traffic,
 }
 
 pub enum Answer {

@@ -15,6 +15,8 @@ use crate::ReadLine;
 use crate::Segment;
 use crate::Station;
 use crate::Time;
+use crate::Track;
+use crate::Traffic;
 use crate::Train;
 use crate::legs_between;
 use crate::reader::open;
@@ -458,11 +460,15 @@ fn refused(ending: Ending) -> ReadLine
     let segment = no_segment();
     let train = no_train();
     let line = Line {
-        station_count: 0,
-        tracks: [0; 12],
-        segments: [segment; 11],
-        train_count: 0,
-        trains: [train; 12],
+        track: Track {
+            station_count: 0,
+            tracks: [0; 12],
+            segments: [segment; 11],
+        },
+        traffic: Traffic {
+            train_count: 0,
+            trains: [train; 12],
+        },
     };
     match ending {
         Ending::Refused(number, place) => ReadLine {
@@ -530,11 +536,15 @@ fn line_from(s: &[u8], start: Cursor) -> ReadLine
     ReadLine {
         answer: Answer::Accepted,
         line: Line {
-            station_count: stations,
-            tracks,
-            segments,
-            train_count: third.count,
-            trains,
+            track: Track {
+                station_count: stations,
+                tracks,
+                segments,
+            },
+            traffic: Traffic {
+                train_count: third.count,
+                trains,
+            },
         },
     }
 }

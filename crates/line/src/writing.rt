@@ -174,28 +174,33 @@ fn train_faults(trains: [Train; 12], count: usize, stations: u16, first: usize) 
 pub fn fault_of(line: Line) -> Fault
     ensures { λ r. ⌜ r ≡ faultOf line ⌝ }
 {
-    let stations = line.station_count;
+    let stations = line.track.station_count;
     let count = number_fault(stations, Station::COUNT, 1);
     let Fault::None = count else {
         return count;
     };
     let n = stations as usize;
-    let tracks = line.tracks;
+    let tracks = line.track.tracks;
     let fault = station_faults(tracks, n);
     let Fault::None = fault else {
         return fault;
     };
-    let segments = line.segments;
+    let segments = line.track.segments;
     let joins = segment_faults(segments, n - 1, n + 3);
     let Fault::None = joins else {
         return joins;
     };
-    let number = number_fault(line.train_count, Train::COUNT, n + n + 2);
+    let number = number_fault(line.traffic.train_count, Train::COUNT, n + n + 2);
     let Fault::None = number else {
         return number;
     };
-    let trains = line.trains;
-    train_faults(trains, line.train_count as usize, stations, n + n + 3)
+    let trains = line.traffic.trains;
+    train_faults(
+        trains,
+        line.traffic.train_count as usize,
+        stations,
+        n + n + 3,
+    )
 }
 
 fn put_stations(out: &mut [u8], start: usize, tracks: [u16; 12], count: usize) -> usize
@@ -308,17 +313,22 @@ fn put_line(out: &mut [u8], line: Line) -> usize
     requires { ⌜ Within line × (length (textOf line) ≤ length (now out)) ⌝ }
     ensures { λ r. ⌜ Put (now (out .entry)) (now (out .exit)) 0 (textOf line) r ⌝ }
 {
-    let stations = line.station_count;
+    let stations = line.track.station_count;
     let n = stations as usize;
-    let tracks = line.tracks;
-    let segments = line.segments;
-    let trains = line.trains;
+    let tracks = line.track.tracks;
+    let segments = line.track.segments;
+    let trains = line.traffic.trains;
     let after_count = put_field(out, 0, stations as u32, LINE_FEED);
     let after_stations = put_stations(out, after_count, tracks, n);
     let after_joins = put_field(out, after_stations, (stations - 1) as u32, LINE_FEED);
     let after_segments = put_segments(out, after_joins, segments, n - 1);
-    let after_number = put_field(out, after_segments, line.train_count as u32, LINE_FEED);
-    put_trains(out, after_number, trains, line.train_count as usize)
+    let after_number = put_field(
+        out,
+        after_segments,
+        line.traffic.train_count as u32,
+        LINE_FEED,
+    );
+    put_trains(out, after_number, trains, line.traffic.train_count as usize)
 }
 
 pub fn refused_by(fault: Fault) -> Written

@@ -13,8 +13,8 @@ pub data Choice : Type 0 where
 
 -- it is about a segment or a station and trains of the line
 abbrev pub Of : Line → Choice → Type 0
-Of l (onSegment p i j) = (p < segmentCount l) × (i < l .«train_count») × (j < l .«train_count»)
-Of l (atStation s a b) = (s < l .«station_count») × (a < l .«train_count») × (b < l .«train_count»)
+Of l (onSegment p i j) = (p < segmentCount l) × (i < l .traffic .«train_count») × (j < l .traffic .«train_count»)
+Of l (atStation s a b) = (s < l .track .«station_count») × (a < l .traffic .«train_count») × (b < l .traffic .«train_count»)
 
 -- both trains go over the segment; both have the station as a middle one
 abbrev pub Shared : Line → Choice → Type 0

@@ -30,12 +30,12 @@ module _ (l : Line) (w : Within l) (r : Arrays l) (m : List ℕ) where
   no-cost : (e : ℕ) → weightIn (tablesOf l) e ≡ 0 → legCost e ≡ 0
   no-cost e h = rw h (zero-mul _)
 
-  cost-past : (i : ℕ) → l .«train_count» + i < 16 → trainCost (l .«train_count» + i) ≡ 0
+  cost-past : (i : ℕ) → l .traffic .«train_count» + i < 16 → trainCost (l .traffic .«train_count» + i) ≡ 0
   cost-past i b =
-      sum-none (λ p. legCost (departs p (l .«train_count» + i))) 11
+      sum-none (λ p. legCost (departs p (l .traffic .«train_count» + i))) 11
       (λ p low. no-cost _ (weight-else l w r _ (omega arith) (λ j k n last q. omega (arith, w .trains .1))))
 
-  cost-of : (i : ℕ) → i < l .«train_count» → trainCost i ≡ train l i .weight * delay l m i
+  cost-of : (i : ℕ) → i < l .traffic .«train_count» → trainCost i ≡ train l i .weight * delay l m i
   cost-of i n =
       let path = routed l i w (r .trains) n in
       let some = legs-few (train l i) path .0 in
@@ -47,7 +47,7 @@ module _ (l : Line) (w : Within l) (r : Arrays l) (m : List ℕ) where
       rw (weight-last l w r i k n inside last, free-last l w r i k n inside last) refl
     where
       -- train i has one last leg
-      same-end : (j x : ℕ) → j < l .«train_count» → x + 1 ≡ legs l j → (p : ℕ) → departs p i ≡ departs (segmentOf (train l j) x) j →
+      same-end : (j x : ℕ) → j < l .traffic .«train_count» → x + 1 ≡ legs l j → (p : ℕ) → departs p i ≡ departs (segmentOf (train l j) x) j →
           p ≡ segmentOf (train l i) (legs l i - 1)
       same-end j x b end p q =
           let same : j ≡ i = omega (arith, w .trains .1) in
@@ -58,7 +58,7 @@ module _ (l : Line) (w : Within l) (r : Arrays l) (m : List ℕ) where
   pub cost-is : costIn (tablesOf l) m ≡ weightedDelay l m
   unfolding costIn
   cost-is =
-      let n = l .«train_count» in
+      let n = l .traffic .«train_count» in
       let all : n + (16 - n) ≡ 16 = omega (arith, w .trains .1) in
       sum-columns legCost 16 11 ∙ ap (sum trainCost) (sym all) ∙ sum-parts trainCost n (16 - n) ∙
       rw (sum-none (λ i. trainCost (n + i)) (16 - n) (λ i b. cost-past i (omega arith)), sum-same trainCost (cost l m) n cost-of)

@@ -69,11 +69,11 @@ minutes-size : (l : Line) → length (freeMinutes l) ≡ 352
 unfolding freeMinutes
 minutes-size l = table-size (freeEntry l) 352
 
-module _ (l : Line) (w : Within l) (size : length (l .trains) ≡ 12) where
-  within : (i : ℕ) → i < l .«train_count» → TrainWithin 12 (train l i)
+module _ (l : Line) (w : Within l) (size : length (l .traffic .trains) ≡ 12) where
+  within : (i : ℕ) → i < l .traffic .«train_count» → TrainWithin 12 (train l i)
   within i h = within-any _ _ (train-within l i w size h) (w .stations .1)
 
-  module _ (i k : ℕ) (h : i < l .«train_count») (b : k < legs l i) where
+  module _ (i k : ℕ) (h : i < l .traffic .«train_count») (b : k < legs l i) where
     below : segmentOf (train l i) k < 11
     below = segment-below (train l i) (on-path _ (within i h)) k b
 
@@ -97,9 +97,9 @@ module _ (l : Line) (w : Within l) (size : length (l .trains) ≡ 12) where
 
   -- what bounds the minutes of every leg bounds all
   module _ (b : ℕ → ℕ)
-      (low : (i k : ℕ) → i < l .«train_count» → k < legs l i → freeAfter (train l i) k - runOf l i k ≤ b (departs (segmentOf (train l i) k) i))
-      (high : (i k : ℕ) → i < l .«train_count» → k < legs l i → freeAfter (train l i) k ≤ b (arrives (segmentOf (train l i) k) i)) where
-    bounded-leg : (x i k : ℕ) → x < 352 → (h : i < l .«train_count») → k < legs l i → x % 176 ≡ departs (segmentOf (train l i) k) i →
+      (low : (i k : ℕ) → i < l .traffic .«train_count» → k < legs l i → freeAfter (train l i) k - runOf l i k ≤ b (departs (segmentOf (train l i) k) i))
+      (high : (i k : ℕ) → i < l .traffic .«train_count» → k < legs l i → freeAfter (train l i) k ≤ b (arrives (segmentOf (train l i) k) i)) where
+    bounded-leg : (x i k : ℕ) → x < 352 → (h : i < l .traffic .«train_count») → k < legs l i → x % 176 ≡ departs (segmentOf (train l i) k) i →
         getD (freeMinutes l) x 0 ≤ b x
     bounded-leg x i k c h n e = elim (decLt x 176) [
       | yes y ↦
@@ -141,14 +141,14 @@ module _ (l : Line) (w : Within l) (size : length (l .trains) ≡ 12) where
         choices = λ c o s t. absurd (free-marked c t);
       }
 
-  last-free : (i : ℕ) (h : i < l .«train_count») → arrival l (freeMinutes l) i (legs l i - 1) ≡ freeArrival (train l i)
+  last-free : (i : ℕ) (h : i < l .traffic .«train_count») → arrival l (freeMinutes l) i (legs l i - 1) ≡ freeArrival (train l i)
   last-free i h = arrives-free i (legs l i - 1) h (omega (arith, legs-few (train l i) (on-path _ (within i h)) .0))
 
   module _ (ends : FreeInTime l) where
     free-fit : Fit 352 (freeMinutes l)
     free-fit = record { size = minutes-size l; within = bounded (λ _. 2879) (λ i k h b. omega (arith, days i k h b)) days }
       where
-        days : (i k : ℕ) → i < l .«train_count» → k < legs l i → freeAfter (train l i) k ≤ 2879
+        days : (i k : ℕ) → i < l .traffic .«train_count» → k < legs l i → freeAfter (train l i) k ≤ 2879
         days i k h b = omega (arith, free-last (train l i) k b, ends i h, within i h .latest .1)
 
     free-least : IsLeast 352 (Keeps l free) (replicate 352 0) (freeMinutes l)
@@ -158,7 +158,7 @@ module _ (l : Line) (w : Within l) (size : length (l .trains) ≡ 12) where
           keeps = free-keeps;
           above = λ e. rw (zeros 352 e) (omega arith);
           first = λ m′ f k s.
-              let at : (i j : ℕ) → i < l .«train_count» → j < legs l i → freeAfter (train l i) j ≤ arrival l m′ i j =
+              let at : (i j : ℕ) → i < l .traffic .«train_count» → j < legs l i → freeAfter (train l i) j ≤ arrival l m′ i j =
               λ i j h b. no-earlier l m′ i (k .trains i h) j b in
               bounded (λ x. getD m′ x 0) (λ i j h b. omega (arith, at i j h b, k .trains i h .rule11 j b)) at;
         }
@@ -209,8 +209,8 @@ module _ (l : Line) (i : ℕ) where
     pub ends-more : EndsBelow → a ≤ train l i .latest → EachBelow (i + 1) (λ j. freeArrival (train l j) ≤ train l j .latest)
     ends-more h b = rw add-one (each-more (λ j. freeArrival (train l j) ≤ train l j .latest) i h (omega arith))
 
-    pub ends-late : i < l .«train_count» → train l i .latest < a → Decides (FreeInTime l) false
+    pub ends-late : i < l .traffic .«train_count» → train l i .latest < a → Decides (FreeInTime l) false
     ends-late h b = record { yea = λ z. absurd (false≢true z); nay = λ z f. omega (arith, f i h) }
 
-  pub ends-all : EndsBelow → i ≡ l .«train_count» → Decides (FreeInTime l) true
+  pub ends-all : EndsBelow → i ≡ l .traffic .«train_count» → Decides (FreeInTime l) true
   ends-all h e = record { yea = λ z j b. h j (omega arith); nay = λ z f. true≢false z }

@@ -18,14 +18,14 @@ use Rattle.orders.specs.LegGraph.{wayIn}
 
 -- entry e is a leg of train e % 16
 abbrev pub Leg : Line → ℕ → Type 0
-Leg l e = (e % 16 < l .«train_count») × Uses (train l (e % 16)) (e / 16)
+Leg l e = (e % 16 < l .traffic .«train_count») × Uses (train l (e % 16)) (e / 16)
 
 module _ (l : Line) (e : ℕ) where
-  pub leg-test : Decides (Leg l e) (ltb (e % 16) (l .«train_count») && usesBetween (train l (e % 16) .origin) (train l (e % 16) .destination) (e / 16))
+  pub leg-test : Decides (Leg l e) (ltb (e % 16) (l .traffic .«train_count») && usesBetween (train l (e % 16) .origin) (train l (e % 16) .destination) (e / 16))
   leg-test = decides-and (decides-lt _ _) (decides-between _ _ _)
 
   -- the table of directions tells whether it is one
-  module _ (ds : List ℕ) (few : l .«train_count» ≤ 12) (b : e < 176) (made : ds ≡ directionsOf l) where
+  module _ (ds : List ℕ) (few : l .traffic .«train_count» ≤ 12) (b : e < 176) (made : ds ≡ directionsOf l) where
     same : wayIn ds e ≡ wayIn (directionsOf l) (16 * (e / 16) + e % 16)
     same =
         let place : 16 * (e / 16) + e % 16 ≡ e = omega arith in
@@ -33,7 +33,7 @@ module _ (l : Line) (e : ℕ) where
 
     pub leg-is : (wayIn ds e ≡ 0 → ⊥) → Leg l e
     leg-is h =
-        let known : e % 16 < l .«train_count» = elim (decLt (e % 16) (l .«train_count»)) [
+        let known : e % 16 < l .traffic .«train_count» = elim (decLt (e % 16) (l .traffic .«train_count»)) [
           | yes k ↦ k
           | no k ↦ absurd (h (same ∙ way-past l (16 * (e / 16) + e % 16) (omega arith) (omega arith)))
         ] in
@@ -49,7 +49,7 @@ LegOf l e = (e < 176) × (wayIn (directionsOf l) e ≡ 0 → ⊥)
 module _ (l : Line) (w : Within l) (r : Arrays l) where
   -- ---- from the train to the leg
 
-  module _ (i : ℕ) (n : i < l .«train_count») where
+  module _ (i : ℕ) (n : i < l .traffic .«train_count») where
     pub over-few : (p : ℕ) → Uses (train l i) p → p < 11
     over-few p u = uses-few (train l i) (routed l i w (r .trains) n) p u
 
@@ -79,7 +79,7 @@ module _ (l : Line) (w : Within l) (r : Arrays l) where
   leg-train e u = leg-is l e (directionsOf l) (w .trains .1) (u .0) refl (u .1)
 
   -- what holds of every train's legs holds of every leg
-  pub by-leg : (P : ℕ → Type 0) → ((i k : ℕ) → i < l .«train_count» → k < legs l i → P (departs (segmentOf (train l i) k) i)) → (e : ℕ) → LegOf l e → P e
+  pub by-leg : (P : ℕ → Type 0) → ((i k : ℕ) → i < l .traffic .«train_count» → k < legs l i → P (departs (segmentOf (train l i) k) i)) → (e : ℕ) → LegOf l e → P e
   by-leg P h e u =
       let t = leg-train e u in
       let k = uses-leg (train l (e % 16)) (e / 16) (t .1) in

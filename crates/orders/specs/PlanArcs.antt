@@ -73,13 +73,13 @@ chosenArcs l q c = cond (marked q c && shared l c) (choiceArcs l c) []
 
 -- for each of the first n numbers, and each pair of trains
 abbrev pub forPairs : Line → ℕ → (ℕ → ℕ → ℕ → List Arc) → List Arc
-forPairs l n f = gather (λ p. gather (λ i. gather (λ j. f p i j) (l .«train_count»)) (l .«train_count»)) n
+forPairs l n f = gather (λ p. gather (λ i. gather (λ j. f p i j) (l .traffic .«train_count»)) (l .traffic .«train_count»)) n
 
 unfoldable pub arcs : Line → Plan → List Arc
 arcs l q =
-    gather (trainArcs l) (l .«train_count»)
+    gather (trainArcs l) (l .traffic .«train_count»)
     ++ (forPairs l (segmentCount l) (λ p i j. chosenArcs l q (onSegment p i j))
-    ++ forPairs l (l .«station_count») (λ s a b. chosenArcs l q (atStation s a b)))
+    ++ forPairs l (l .track .«station_count») (λ s a b. chosenArcs l q (atStation s a b)))
 
 -- more than any slack
 unfoldable pub rounds : ℕ

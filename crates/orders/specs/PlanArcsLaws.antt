@@ -141,10 +141,10 @@ module _ (P : Arc → Type 0) (l : Line) (n : ℕ) (f : ℕ → ℕ → ℕ → 
 
   pairs-each : EachPair → Each P (forPairs l n f)
   pairs-each h =
-      gather-each P _ n (λ p a. gather-each P _ (l .«train_count») (λ i b. gather-each P (f p i) (l .«train_count») (λ j c. h p a i b j c)))
+      gather-each P _ n (λ p a. gather-each P _ (l .traffic .«train_count») (λ i b. gather-each P (f p i) (l .traffic .«train_count») (λ j c. h p a i b j c)))
 
   each-pairs : Each P (forPairs l n f) → EachPair
-  each-pairs h p a i b j c = gather-parts P (f p i) (l .«train_count») (gather-parts P _ (l .«train_count») (gather-parts P _ n h p a) i b) j c
+  each-pairs h p a i b j c = gather-parts P (f p i) (l .traffic .«train_count») (gather-parts P _ (l .traffic .«train_count») (gather-parts P _ n h p a) i b) j c
 
 module _ (l : Line) (q : Plan) where
   abbrev segmentArcs : ℕ → ℕ → ℕ → List Arc
@@ -154,32 +154,32 @@ module _ (l : Line) (q : Plan) where
   stationArcs s a b = chosenArcs l q (atStation s a b)
 
   abbrev fromTrains : List Arc
-  fromTrains = gather (trainArcs l) (l .«train_count»)
+  fromTrains = gather (trainArcs l) (l .traffic .«train_count»)
 
   abbrev fromSegments : List Arc
   fromSegments = forPairs l (segmentCount l) segmentArcs
 
   abbrev fromStations : List Arc
-  fromStations = forPairs l (l .«station_count») stationArcs
+  fromStations = forPairs l (l .track .«station_count») stationArcs
 
   each-arcs : (P : Arc → Type 0) → EachTrain l (λ i. Each P (trainArcs l i)) → ((c : Choice) → Of l c → Each P (chosenArcs l q c)) → Each P (arcs l q)
   unfolding arcs
   each-arcs P h k =
-      each-append P fromTrains (fromSegments ++ fromStations) (gather-each P (trainArcs l) (l .«train_count») h)
+      each-append P fromTrains (fromSegments ++ fromStations) (gather-each P (trainArcs l) (l .traffic .«train_count») h)
       (each-append P fromSegments fromStations
       (pairs-each P l (segmentCount l) segmentArcs (λ p a i b j c. k (onSegment p i j) (a, b, c)))
-      (pairs-each P l (l .«station_count») stationArcs (λ p a i b j c. k (atStation p i j) (a, b, c))))
+      (pairs-each P l (l .track .«station_count») stationArcs (λ p a i b j c. k (atStation p i j) (a, b, c))))
 
   arcs-each : (P : Arc → Type 0) → Each P (arcs l q) → EachTrain l (λ i. Each P (trainArcs l i)) × ((c : Choice) → Of l c → Each P (chosenArcs l q c))
   unfolding arcs
   arcs-each P h =
       let a = each-parts P fromTrains (fromSegments ++ fromStations) h in
       let b = each-parts P fromSegments fromStations (a .1) in
-      (gather-parts P (trainArcs l) (l .«train_count») (a .0), go (b .0) (b .1))
+      (gather-parts P (trainArcs l) (l .traffic .«train_count») (a .0), go (b .0) (b .1))
     where
       go : Each P fromSegments → Each P fromStations → (c : Choice) → Of l c → Each P (chosenArcs l q c)
       go x y (onSegment p i j) o = each-pairs P l (segmentCount l) segmentArcs x p (o .0) i (o .1) j (o .2)
-      go x y (atStation s a b) o = each-pairs P l (l .«station_count») stationArcs y s (o .0) a (o .1) b (o .2)
+      go x y (atStation s a b) o = each-pairs P l (l .track .«station_count») stationArcs y s (o .0) a (o .1) b (o .2)
 
   -- to keep the plan is to keep its arcs
   keeps-arcs : (m : List ℕ) → Fit 352 m → Keeps l q m → KeepsArcs (arcs l q) m

@@ -61,7 +61,7 @@ module _ (l : Line) (w : Within l) (r : Arrays l) where
       let t = within-any _ _ (train-within l i w (r .trains) n) (w .stations .1) in
       omega (arith, rest-at l w r i k n h, tables.rest-most (train l i) t (legs l i - 1 - k) (omega arith), legs-few (train l i) (on-path _ t) .1))
 
-  rest-ends : (i k : ℕ) (n : i < l .«train_count») (h : k < legs l i) → k + 1 ≡ legs l i → Ends (tablesOf l) (departs (segmentOf (train l i) k) i)
+  rest-ends : (i k : ℕ) (n : i < l .traffic .«train_count») (h : k < legs l i) → k + 1 ≡ legs l i → Ends (tablesOf l) (departs (segmentOf (train l i) k) i)
   rest-ends i k n h m =
       let none : legs l i - 1 - k ≡ 0 = omega arith in
       let last : legs l i - 1 ≡ k = omega arith in (
@@ -70,7 +70,7 @@ module _ (l : Line) (w : Within l) (r : Arrays l) where
         last-at l w r i k n h ∙ ap (λ (x : ℕ). departs (segmentOf (train l i) x) i) last,
       )
 
-  rest-goes : (i k : ℕ) (n : i < l .«train_count») (h : k < legs l i) (m : k + 1 < legs l i) →
+  rest-goes : (i k : ℕ) (n : i < l .traffic .«train_count») (h : k < legs l i) (m : k + 1 < legs l i) →
       GoesOn (tablesOf l) (departs (segmentOf (train l i) k) i) (departs (segmentOf (train l i) (k + 1)) i)
   rest-goes i k n h m = (
     omega (arith, run-at l w r i (k + 1) n m, run-in l w r i (k + 1) n m .0),

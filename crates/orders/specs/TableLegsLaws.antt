@@ -98,7 +98,7 @@ leg-back t r k h = elim (decLt (t .origin) (t .destination)) [
 ]
 
 module _ (l : Line) (f : Train → ℕ → ℕ) (z : ℕ) where
-  pub on-leg : (i k : ℕ) → i < l .«train_count» → i < 16 → Routed (train l i) → k < legs l i →
+  pub on-leg : (i k : ℕ) → i < l .traffic .«train_count» → i < 16 → Routed (train l i) → k < legs l i →
       onLeg l f z (departs (segmentOf (train l i) k) i) ≡ f (train l i) k
   on-leg i k n b r h =
       let p = segmentOf (train l i) k in
@@ -111,12 +111,12 @@ module _ (l : Line) (f : Train → ℕ → ℕ) (z : ℕ) where
   on-leg-off e h = rw (is-false (leg-test l e) h) refl
 
 module _ (l : Line) (w : Within l) (r : Arrays l) where
-  value-at : (f : Train → ℕ → ℕ) (z i k : ℕ) → i < l .«train_count» → k < legs l i → onLeg l f z (departs (segmentOf (train l i) k) i) ≡ f (train l i) k
+  value-at : (f : Train → ℕ → ℕ) (z i k : ℕ) → i < l .traffic .«train_count» → k < legs l i → onLeg l f z (departs (segmentOf (train l i) k) i) ≡ f (train l i) k
   value-at f z i k n h = on-leg l f z i k n (omega (arith, w .trains .1)) (routed l i w (r .trains) n) h
 
   -- what holds of the values of all legs, and of the value elsewhere, holds of every entry
   leg-or : (P : ℕ → Type 0) (f : Train → ℕ → ℕ) (z e : ℕ) →
-      ((i k : ℕ) → i < l .«train_count» → k < legs l i → e ≡ departs (segmentOf (train l i) k) i → P (f (train l i) k)) → P z → P (onLeg l f z e)
+      ((i k : ℕ) → i < l .traffic .«train_count» → k < legs l i → e ≡ departs (segmentOf (train l i) k) i → P (f (train l i) k)) → P z → P (onLeg l f z e)
   leg-or P f z e h rest =
       let i = e % 16 in
       by-test (leg-test l e)
@@ -128,27 +128,27 @@ module _ (l : Line) (w : Within l) (r : Arrays l) where
 
   -- ---- what Within says of the entries of a path
 
-  arrays : (i : ℕ) → i < l .«train_count» → TrainArrays (train l i)
+  arrays : (i : ℕ) → i < l .traffic .«train_count» → TrainArrays (train l i)
   arrays i n =
-      each-at TrainArrays 12 (l .trains) i pastTrain (omega (arith, r .trains)) (omega (arith, w .trains .1))
-      (each-take TrainArrays 12 (l .trains) (r .each-train))
+      each-at TrainArrays 12 (l .traffic .trains) i pastTrain (omega (arith, r .trains)) (omega (arith, w .trains .1))
+      (each-take TrainArrays 12 (l .traffic .trains) (r .each-train))
 
-  pub run-in : (i k : ℕ) → i < l .«train_count» → k < legs l i → In run (runOf l i k)
+  pub run-in : (i k : ℕ) → i < l .traffic .«train_count» → k < legs l i → In run (runOf l i k)
   run-in i k n h =
       each-at (In run) (legs l i) (train l i .runs) k 0 (omega (arith, arrays i n .0, legs-few (train l i) (routed l i w (r .trains) n) .1)) h
       (train-within l i w (r .trains) n .runs)
 
-  stop-in : (i k : ℕ) → i < l .«train_count» → k < legs l i - 1 → In stop (stopOf l i k)
+  stop-in : (i k : ℕ) → i < l .traffic .«train_count» → k < legs l i - 1 → In stop (stopOf l i k)
   stop-in i k n h =
       each-at (In stop) (legs l i - 1) (train l i .stops) k 0 (omega (arith, arrays i n .1, legs-few (train l i) (routed l i w (r .trains) n) .1)) h
       (train-within l i w (r .trains) n .stops)
 
   gaps-in : (p : ℕ) → p < segmentCount l → SegmentWithin (segment l p)
-  gaps-in p h = each-at SegmentWithin (segmentCount l) (l .segments) p noSegment (omega (arith, r .segments, w .stations .1)) h (w .segments)
+  gaps-in p h = each-at SegmentWithin (segmentCount l) (l .track .segments) p noSegment (omega (arith, r .segments, w .stations .1)) h (w .segments)
 
   -- ---- at leg k of train i
 
-  module _ (i k : ℕ) (b : i < l .«train_count») (h : k < legs l i) where
+  module _ (i k : ℕ) (b : i < l .traffic .«train_count») (h : k < legs l i) where
     abbrev e : ℕ
     e = departs (segmentOf (train l i) k) i
 
@@ -204,7 +204,7 @@ module _ (l : Line) (w : Within l) (r : Arrays l) where
       free-last = at-leg 5 (atLast freeArrival) 0 (omega arith) refl ∙ rw last refl
 
   -- no weight where no train has its last leg
-  pub weight-else : (e : ℕ) → e < 176 → ((i k : ℕ) → i < l .«train_count» → k + 1 ≡ legs l i → e ≡ departs (segmentOf (train l i) k) i → ⊥) →
+  pub weight-else : (e : ℕ) → e < 176 → ((i k : ℕ) → i < l .traffic .«train_count» → k + 1 ≡ legs l i → e ≡ departs (segmentOf (train l i) k) i → ⊥) →
       weightIn (tablesOf l) e ≡ 0
   unfolding tableEntry
   weight-else e b h =

@@ -92,7 +92,7 @@ atLast f t k = cond (isLast t k) (f t) 0
 -- of a leg of a train its value, of any other entry z
 abbrev pub onLeg : Line → (Train → ℕ → ℕ) → ℕ → ℕ → ℕ
 onLeg l f z e =
-    cond (ltb (e % 16) (l .«train_count») && usesBetween (train l (e % 16) .origin) (train l (e % 16) .destination) (e / 16))
+    cond (ltb (e % 16) (l .traffic .«train_count») && usesBetween (train l (e % 16) .origin) (train l (e % 16) .destination) (e / 16))
     (f (train l (e % 16)) (legOn (train l (e % 16)) (e / 16)))
     z
 

@@ -47,7 +47,8 @@ fn free_minutes(line: Line) -> [u16; 352]
         let e = x % 176;
         let mut minute: u16 = 0;
         if ds[e] != 0 {
-            let train = line.trains[e % 16];
+            let traffic = line.traffic;
+            let train = traffic.trains[e % 16];
             minute = leg_minute(train, x);
         }
         minutes[x] = minute;
@@ -69,10 +70,11 @@ fn free_in_time(line: Line) -> bool
     requires { ⌜ Within line ⌝ }
     ensures { λ r. ⌜ Decides (FreeInTime line) r ⌝ }
 {
-    let n = line.train_count as usize;
+    let n = line.traffic.train_count as usize;
     let mut i: usize = 0;
     while i < n {
-        let train = line.trains[i];
+        let traffic = line.traffic;
+        let train = traffic.trains[i];
         if train.latest < free_end(train) {
             return false;
         }

@@ -295,19 +295,21 @@ pub fn tables_of(line: Line) -> [u16; 1456]
         let e = x % 176;
         let mut entry = no_leg_entry(n, e);
         if ds[e] != 0 {
-            let train = line.trains[e % 16];
+            let traffic = line.traffic;
+            let train = traffic.trains[e % 16];
             entry = leg_entry(n, train, e);
         }
         table[x] = entry;
         x = x + 1;
     }
-    let segments = line.station_count as usize - 1;
+    let segments = line.track.station_count as usize - 1;
     while x < 1456 {
         let n = (x - 1408) / 16;
         let p = (x - 1408) % 16;
         let mut entry: u16 = 0;
         if p < segments {
-            let segment = line.segments[p];
+            let track = line.track;
+            let segment = track.segments[p];
             entry = segment_entry(n, segment);
         }
         table[x] = entry;

@@ -25,7 +25,7 @@ use Rattle.plans.specs.Choosing.{Chooses, NoRaise, Raises}
 use Rattle.plans.specs.declared.ways.Way.{Way}
 
 -- the leg out of a middle station is that of the segment on which the train leaves it
-leg-leaves : (l : Line) → Within l → Arrays l → (s a : ℕ) → a < l .«train_count» → Middle (train l a) s →
+leg-leaves : (l : Line) → Within l → Arrays l → (s a : ℕ) → a < l .traffic .«train_count» → Middle (train l a) s →
     legOut (directionsOf l) s a ≡ departs (outOf (train l a) s) a
 unfolding legOut
 leg-leaves l w r s a n h = rw (out-over l w r a n s (within-over h)) (either (outbound (train l a)))

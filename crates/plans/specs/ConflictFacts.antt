@@ -28,16 +28,16 @@ use Rattle.orders.specs.BitsLaws.{mask-in, mask-past}
 -- two trains share a segment and neither goes first
 pub record Clashing (l : Line) (m : List ℕ) (x : SegmentConflict) : Type 0 where
   pub place : x .segment < segmentCount l
-  pub trains : (x .lower < l .«train_count») × (x .higher < l .«train_count»)
+  pub trains : (x .lower < l .traffic .«train_count») × (x .higher < l .traffic .«train_count»)
   pub order : x .lower < x .higher
   pub shared : Uses (train l (x .lower)) (x .segment) × Uses (train l (x .higher)) (x .segment)
   pub neither : Before l m (x .segment) (x .lower) (x .higher) ⊎ Before l m (x .segment) (x .higher) (x .lower) → ⊥
 
 -- the trains of the mask stand at the station at one minute, and are more than its tracks
 pub record Crowded (l : Line) (m : List ℕ) (x : StationConflict) : Type 0 where
-  pub place : x .station < l .«station_count»
-  pub trains : (i : ℕ) → inMask (x .trains) i ≡ true → (i < l .«train_count») × Stands l m (x .station) (x .minute) i
-  pub many : tracksAt l (x .station) < count (inMask (x .trains)) (l .«train_count»)
+  pub place : x .station < l .track .«station_count»
+  pub trains : (i : ℕ) → inMask (x .trains) i ≡ true → (i < l .traffic .«train_count») × Stands l m (x .station) (x .minute) i
+  pub many : tracksAt l (x .station) < count (inMask (x .trains)) (l .traffic .«train_count»)
 
 abbrev pub Real : Line → List ℕ → Conflict → Type 0
 Real l m Conflict.Nothing = Unit {0}
@@ -49,7 +49,7 @@ module _ (l : Line) (w : Within l) (a : Arrays l) (m : List ℕ) where
   ds = directionsOf l
 
   abbrev n : ℕ
-  n = l .«train_count»
+  n = l .traffic .«train_count»
 
   -- ---- on a segment
 
@@ -62,7 +62,7 @@ module _ (l : Line) (w : Within l) (a : Arrays l) (m : List ℕ) where
 
   -- ---- at a station
 
-  module _ (s : ℕ) (low : 0 < s) (high : s + 1 < l .«station_count») (t : ℕ) where
+  module _ (s : ℕ) (low : 0 < s) (high : s + 1 < l .track .«station_count») (t : ℕ) where
     -- any trains that the test finds standing there at a minute, if they are more than the tracks
     pub crowded : (f : ℕ → Bool) (mask : ℕ) → ((i : ℕ) → i < n → inMask mask i ≡ f i) → ((i : ℕ) → n ≤ i → inMask mask i ≡ false) →
         EachBelow n (λ i. f i ≡ true → standsAt (directionsOf l) m s t i ≡ true) → tracksAt l s < count f n →
@@ -90,8 +90,8 @@ module _ (l : Line) (w : Within l) (a : Arrays l) (m : List ℕ) where
         crowded inside _ (λ i b. ap (λ (x : ℕ). inMask x i) bits ∙ mask-in inside n i b) (λ i b. ap (λ (x : ℕ). inMask x i) bits ∙ mask-past inside n i b)
         (λ i b. crowd-stands ds m n (tracksAt l s) s t i) (omega (arith, crowd-many ds m n (tracksAt l s) s t h))
 
-  pub crowd-at-real : (s : ℕ) → 0 < s → s + 1 < l .«station_count» →
-      Real l m (crowdAt (directionsOf l) m (l .«train_count») (tracksAt l s) s (earliestCrowd (directionsOf l) m (l .«train_count») (tracksAt l s) s))
+  pub crowd-at-real : (s : ℕ) → 0 < s → s + 1 < l .track .«station_count» →
+      Real l m (crowdAt (directionsOf l) m (l .traffic .«train_count») (tracksAt l s) s (earliestCrowd (directionsOf l) m (l .traffic .«train_count») (tracksAt l s) s))
   crowd-at-real s low high = crowd-holds (Real l m) tt ds m n (tracksAt l s) s (lowest-crowded s low high)
 
   -- ---- the lowest conflict

@@ -29,11 +29,11 @@ use Rattle.plans.specs.Tallies.{bestOf, Tallied}
 -- ---- the entries
 
 module _ (l : Line) (i k : ℕ) where
-  pub entry-none : ((i < l .«train_count») × (k < legs l i) → ⊥) → 176 ≡ keyEntry l i k
+  pub entry-none : ((i < l .traffic .«train_count») × (k < legs l i) → ⊥) → 176 ≡ keyEntry l i k
   unfolding keyEntry
   entry-none h = rw (is-false (decides-leg l i k) h) refl
 
-  pub entry-leg : i < l .«train_count» → k < legs l i → departsAt l i k ≡ keyEntry l i k
+  pub entry-leg : i < l .traffic .«train_count» → k < legs l i → departsAt l i k ≡ keyEntry l i k
   unfolding keyEntry
   entry-leg b h = rw (is-true (decides-leg l i k) (b, h)) refl
 

@@ -24,7 +24,7 @@ start = replicate 352 0
 
 -- number k of train i is compared
 unfoldable pub isLeg : Line → ℕ → ℕ → Bool
-isLeg l i k = ltb i (l .«train_count») && ltb k (comparedCount l i)
+isLeg l i k = ltb i (l .traffic .«train_count») && ltb k (comparedCount l i)
 
 -- what is compared "from train 1 up": 11 entries to a train, 0 where it has fewer
 unfoldable pub departures : Line → List ℕ → List ℕ
@@ -32,7 +32,7 @@ departures l m = table (λ e. cond (isLeg l (e / 11) (e % 11)) (compared l m (e 
 
 -- rule 13 of every train
 unfoldable pub inTime : Line → List ℕ → Bool
-inTime l m = all (λ i. keepsRule 13 (train l i) m i) (l .«train_count»)
+inTime l m = all (λ i. keepsRule 13 (train l i) m i) (l .traffic .«train_count»)
 
 abbrev pub planning : Line → Problem
 planning l = record {

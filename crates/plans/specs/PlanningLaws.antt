@@ -41,7 +41,7 @@ module _ (l : Line) where
 
   pub decides-inTime : (m : List ℕ) → Decides (EachTrain l (NotLate l m)) (inTime l m)
   unfolding inTime
-  decides-inTime m = decides-all (NotLate l m) _ (l .«train_count») (λ i _. decides-13 l m i)
+  decides-inTime m = decides-all (NotLate l m) _ (l .traffic .«train_count») (λ i _. decides-13 l m i)
 
   pub inTime-down : (m m′ : List ℕ) → m ⊑ m′ → inTime l m′ ≡ true → inTime l m ≡ true
   inTime-down m m′ h t =
@@ -50,7 +50,7 @@ module _ (l : Line) where
 -- ---- the departures, by train and leg
 
 module _ (l : Line) where
-  pub decides-leg : (i k : ℕ) → Decides ((i < l .«train_count») × (k < legs l i)) (isLeg l i k)
+  pub decides-leg : (i k : ℕ) → Decides ((i < l .traffic .«train_count») × (k < legs l i)) (isLeg l i k)
   unfolding isLeg
   decides-leg i k = decides-and (decides-lt _ _) (decides-lt _ _)
 
@@ -58,7 +58,7 @@ module _ (l : Line) where
   entry m e = cond (isLeg l (e / 11) (e % 11)) (compared l m (e / 11) (e % 11)) 0
 
   -- an entry that is not 0 is a leg's
-  departures-real : (m : List ℕ) (e : ℕ) → 0 < getD (departures l m) e 0 → (e / 11 < l .«train_count») × (e % 11 < legs l (e / 11))
+  departures-real : (m : List ℕ) (e : ℕ) → 0 < getD (departures l m) e 0 → (e / 11 < l .traffic .«train_count») × (e % 11 < legs l (e / 11))
   unfolding departures
   departures-real m e h = elim (decLt e 132) [
     | yes n ↦ go (isLeg l (e / 11) (e % 11)) refl (rw (table-at (entry m) 132 e n) at h)
@@ -66,16 +66,16 @@ module _ (l : Line) where
   ]
     where
       go : (b : Bool) → isLeg l (e / 11) (e % 11) ≡ b → 0 < cond b (departure l m (e / 11) (e % 11)) 0 →
-          (e / 11 < l .«train_count») × (e % 11 < legs l (e / 11))
+          (e / 11 < l .traffic .«train_count») × (e % 11 < legs l (e / 11))
       go true t k = decides-leg (e / 11) (e % 11) .yea t
       go false t k = absurd (omega arith)
 
 module _ (l : Line) (w : Within l) (a : Arrays l) where
-  eleven : (i : ℕ) → i < l .«train_count» → legs l i ≤ 11
+  eleven : (i : ℕ) → i < l .traffic .«train_count» → legs l i ≤ 11
   eleven i n = legs-few (train l i) (routed l i w (a .trains) n) .1
 
   -- an entry that is a leg's
-  departures-at : (m : List ℕ) (i k : ℕ) → i < l .«train_count» → k < legs l i → getD (departures l m) (i * 11 + k) 0 ≡ departure l m i k
+  departures-at : (m : List ℕ) (i k : ℕ) → i < l .traffic .«train_count» → k < legs l i → getD (departures l m) (i * 11 + k) 0 ≡ departure l m i k
   unfolding departures
   departures-at m i k n h =
       let few = eleven i n in

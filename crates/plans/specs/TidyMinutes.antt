@@ -11,7 +11,7 @@ use Rattle.orders.specs.PlanArcs.{uses}
 
 -- train i goes over segment p
 unfoldable pub isUsed : Line → ℕ → ℕ → Bool
-isUsed l p i = ltb i (l .«train_count») && uses (train l i) p
+isUsed l p i = ltb i (l .traffic .«train_count») && uses (train l i) p
 
 -- entry e is of the segment e % 176 / 16 and the train e % 16
 unfoldable pub tidyEntry : Line → List ℕ → ℕ → ℕ

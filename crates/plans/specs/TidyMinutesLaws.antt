@@ -20,13 +20,13 @@ use Rattle.orders.specs.Least.{Fit}
 use Rattle.plans.specs.TidyMinutes.{isUsed, tidyEntry, tidyMinutes}
 
 module _ (l : Line) where
-  decides-used : (p i : ℕ) → Decides ((i < l .«train_count») × Uses (train l i) p) (isUsed l p i)
+  decides-used : (p i : ℕ) → Decides ((i < l .traffic .«train_count») × Uses (train l i) p) (isUsed l p i)
   unfolding isUsed
   decides-used p i = decides-and (decides-lt _ _) (decides-between _ _ p)
 
   -- the entry of a segment and a train that uses it
   tidy-at :
-      (m : List ℕ) (e p i : ℕ) → e < 352 → e % 176 / 16 ≡ p → e % 16 ≡ i → i < l .«train_count» → Uses (train l i) p →
+      (m : List ℕ) (e p i : ℕ) → e < 352 → e % 176 / 16 ≡ p → e % 16 ≡ i → i < l .traffic .«train_count» → Uses (train l i) p →
       getD (tidyMinutes l m) e 0 ≡ getD m e 0
   unfolding tidyMinutes tidyEntry
   tidy-at m e p i b q r n u = table-at (tidyEntry l m) 352 e b ∙ rw (q, r, is-true (decides-used p i) (n, u))
@@ -41,14 +41,14 @@ module _ (l : Line) (w : Within l) (a : Arrays l) (m : List ℕ) where
       let low : i < 12 = omega (arith, w .trains .1) in
       (at-departure p few low n u, at-arrival p few low n u)
     where
-      at-departure : (p : ℕ) → p < 11 → i < 12 → i < l .«train_count» → Uses (train l i) p → departsOn (tidyMinutes l m) p i ≡ departsOn m p i
+      at-departure : (p : ℕ) → p < 11 → i < 12 → i < l .traffic .«train_count» → Uses (train l i) p → departsOn (tidyMinutes l m) p i ≡ departsOn m p i
       at-departure p few low n u = tidy-at l m (departs p i) p i (omega arith) (omega arith) (omega arith) n u
 
-      at-arrival : (p : ℕ) → p < 11 → i < 12 → i < l .«train_count» → Uses (train l i) p → arrivesOn (tidyMinutes l m) p i ≡ arrivesOn m p i
+      at-arrival : (p : ℕ) → p < 11 → i < 12 → i < l .traffic .«train_count» → Uses (train l i) p → arrivesOn (tidyMinutes l m) p i ≡ arrivesOn m p i
       at-arrival p few low n u = tidy-at l m (arrives p i) p i (omega arith) (omega arith) (omega arith) n u
 
   -- the minutes of a train on a segment that it uses lie within the two days
-  used-low : EachTrain l (InDays l m) → (p i : ℕ) → i < l .«train_count» → Uses (train l i) p → (departsOn m p i ≤ 2879) × (arrivesOn m p i ≤ 2879)
+  used-low : EachTrain l (InDays l m) → (p i : ℕ) → i < l .traffic .«train_count» → Uses (train l i) p → (departsOn m p i ≤ 2879) × (arrivesOn m p i ≤ 2879)
   used-low h p i n u =
       let (k, b, e) = uses-leg (train l i) p u in
       rw e at (h i n k b)

@@ -56,7 +56,7 @@ module _ (l : Line) (w : Within l) (a : Arrays l) (m : List ℕ) where
   range-of (Conflict.OnSegment x) h =
       (omega (arith, h .place, w .stations .1), omega (arith, h .trains .0, w .trains .1), omega (arith, h .trains .1, w .trains .1))
   range-of (Conflict.AtStation x) h =
-      let (i, n, e, _) = count-nth (inMask (x .trains)) (l .«train_count») 0 (omega (arith, h .many)) in
+      let (i, n, e, _) = count-nth (inMask (x .trains)) (l .traffic .«train_count») 0 (omega (arith, h .many)) in
       let path = routed l i w (a .trains) n in
       let middle = h .trains i e .1 .0 in
       (omega (arith, middle .0), omega (arith, middle .1, path .origin .1, path .destination .1))

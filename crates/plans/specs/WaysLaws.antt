@@ -115,10 +115,10 @@ module _ (l : Line) (w : Within l) (r : Arrays l) (m : List ℕ) where
   -- a crowd is of two trains or more, as every station has a track
   crowd-way : (x : StationConflict) → Crowded l m x → (c : Choice) × List·Memᴰ c (waysOf (Conflict.AtStation x))
   crowd-way x h =
-      let track = each-at (In tracks) (l .«station_count») (l .tracks) (x .station) 0 (omega (arith, r .tracks, w .stations .1)) (h .place) (w .tracks) in
+      let track = each-at (In tracks) (l .track .«station_count») (l .track .tracks) (x .station) 0 (omega (arith, r .tracks, w .stations .1)) (h .place) (w .tracks) in
       let f = inMask (x .trains) in
-      let a = count-nth f (l .«train_count») 0 (omega (arith, h .many)) in
-      let b = count-nth f (l .«train_count») 1 (omega (arith, h .many, track .0)) in
+      let a = count-nth f (l .traffic .«train_count») 0 (omega (arith, h .many)) in
+      let b = count-nth f (l .traffic .«train_count») 1 (omega (arith, h .many, track .0)) in
       let few = w .trains .1 in
       let apart : (a .0 ≡ b .0 → ⊥) = λ e. omega (arith, a .3, b .3, ap (count f) e) in
       (atStation (x .station) (a .0) (b .0), pair-way x (a .0) (b .0) (omega (arith, a .1)) (omega (arith, b .1)) (a .2) (b .2) apart)
@@ -136,7 +136,7 @@ module _ (l : Line) (w : Within l) (r : Arrays l) (m : List ℕ) where
 
   module _ (m′ : List ℕ) (lawful : Lawful l m′) where
     -- by rule 12 no train leaves a station before it came, and it comes within the two days
-    stays : (s i : ℕ) → i < l .«train_count» → Middle (train l i) s → (came l m′ s i ≤ goes l m′ s i) × (came l m′ s i ≤ 2879)
+    stays : (s i : ℕ) → i < l .traffic .«train_count» → Middle (train l i) s → (came l m′ s i ≤ goes l m′ s i) × (came l m′ s i ≤ 2879)
     stays s i n h =
         let (k, b, e, f) = middle-legs (train l i) s h in
         let stop = lawful .trains i n .rule12 k (omega arith) in
@@ -150,7 +150,7 @@ module _ (l : Line) (w : Within l) (r : Arrays l) (m : List ℕ) where
     crowd-goes x h = go (first f n) (first-is f n)
       where
         n : ℕ
-        n = l .«train_count»
+        n = l .traffic .«train_count»
 
         s : ℕ
         s = x .station

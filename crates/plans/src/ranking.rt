@@ -15,11 +15,12 @@ fn key_entry(line: Line, i: usize, k: usize) -> u16
     requires { ⌜ Within line ⌝ }
     ensures { λ r. ⌜ r ≡ keyEntry line i k ⌝ }
 {
-    let n = line.train_count as usize;
+    let n = line.traffic.train_count as usize;
     if n <= i {
         return 176;
     }
-    let train = line.trains[i];
+    let traffic = line.traffic;
+    let train = traffic.trains[i];
     let legs = legs_between(train.origin, train.destination);
     if legs <= k {
         return 176;

@@ -18,11 +18,11 @@ use Rattle.rules.specs.SameLaws.{same-sym}
 -- ---- the same minutes, as a test
 
 sameTest : Line → List ℕ → List ℕ → Bool
-sameTest l m m′ = all (λ i. all (λ k. eqb (departure l m i k) (departure l m′ i k) && eqb (arrival l m i k) (arrival l m′ i k)) (legs l i)) (l .«train_count»)
+sameTest l m m′ = all (λ i. all (λ k. eqb (departure l m i k) (departure l m′ i k) && eqb (arrival l m i k) (arrival l m′ i k)) (legs l i)) (l .traffic .«train_count»)
 
 decides-same : (l : Line) (m m′ : List ℕ) → Decides (Same l m m′) (sameTest l m m′)
 unfolding sameTest
-decides-same l m m′ = decides-all _ _ (l .«train_count») (λ i _. decides-all _ _ (legs l i) (λ k _. decides-and (decides-eq _ _) (decides-eq _ _)))
+decides-same l m m′ = decides-all _ _ (l .traffic .«train_count») (λ i _. decides-all _ _ (legs l i) (λ k _. decides-and (decides-eq _ _) (decides-eq _ _)))
 
 -- ---- no two are preferred to each other
 
@@ -38,7 +38,7 @@ earlier-once l m m′ a b =
       ]
     ]
   where
-    same-train : (i j : ℕ) → i ≡ j → (k h : ℕ) → i < l .«train_count» → k < comparedCount l i → j < l .«train_count» → h < comparedCount l j →
+    same-train : (i j : ℕ) → i ≡ j → (k h : ℕ) → i < l .traffic .«train_count» → k < comparedCount l i → j < l .traffic .«train_count» → h < comparedCount l j →
         compared l m i k < compared l m′ i k → compared l m′ j h < compared l m j h → ((j ≡ i) × (h < k) → compared l m j h ≡ compared l m′ j h) →
         ((i ≡ j) × (k < h) → compared l m′ i k ≡ compared l m i k) → ⊥
     same-train i j e k h ni nk nj nh x y f g = elim (decLt k h) [

@@ -22,7 +22,7 @@ atTrain n none = Breach.None
 atTrain n (some i) = Breach.Rule n (i + 1)
 
 unfoldable pub trainBreach : ℕ → Line → List ℕ → Breach
-trainBreach n l m = atTrain n (first (λ i. not (keepsRule n (train l i) m i)) (l .«train_count»))
+trainBreach n l m = atTrain n (first (λ i. not (keepsRule n (train l i) m i)) (l .traffic .«train_count»))
 
 -- the segment or station of a conflict
 abbrev pub placeOf : Conflict → ℕ

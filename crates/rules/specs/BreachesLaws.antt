@@ -38,7 +38,7 @@ module _ (n : ℕ) (l : Line) (m : List ℕ) where
   abbrev pub RuleKept : ℕ → Type 0
   RuleKept i = keepsRule n (train l i) m i ≡ true
 
-  pub breach-at : (i : ℕ) → i < l .«train_count» → keepsRule n (train l i) m i ≡ false → EachBelow i RuleKept → Breach.Rule n (i + 1) ≡ trainBreach n l m
+  pub breach-at : (i : ℕ) → i < l .traffic .«train_count» → keepsRule n (train l i) m i ≡ false → EachBelow i RuleKept → Breach.Rule n (i + 1) ≡ trainBreach n l m
   unfolding trainBreach
   breach-at i h e k = ap (atTrain n) (sym (first-found _ _ i h (ap not e) (λ j s. ap not (k j s))))
 

@@ -130,12 +130,12 @@ stationConflict tracks ds m stations n = firstConflict (crowdOn tracks ds m stat
 
 unfoldable pub conflictOf : Line → List ℕ → Conflict
 conflictOf l m =
-    orConflict (segmentConflict (l .segments) (directionsOf l) m (segmentCount l) (l .«train_count»))
-    (stationConflict (l .tracks) (directionsOf l) m (l .«station_count») (l .«train_count»))
+    orConflict (segmentConflict (l .track .segments) (directionsOf l) m (segmentCount l) (l .traffic .«train_count»))
+    (stationConflict (l .track .tracks) (directionsOf l) m (l .track .«station_count») (l .traffic .«train_count»))
 
 -- the same by what the scan looks at, and by a table of directions
 abbrev pub layoutOf : Line → Layout
-layoutOf l = record { stations = l .«station_count»; trains = l .«train_count»; segments = l .segments; tracks = l .tracks }
+layoutOf l = record { stations = l .track .«station_count»; trains = l .traffic .«train_count»; segments = l .track .segments; tracks = l .track .tracks }
 
 unfoldable pub conflictIn : Layout → List ℕ → List ℕ → Conflict
 conflictIn y ds m =

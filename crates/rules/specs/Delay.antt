@@ -26,7 +26,7 @@ delay l m i = lastArrival l m i - freeArrival (train l i)
 
 -- "weighted delay is the sum of weight times delay"
 unfoldable pub weightedDelay : Line → List ℕ → ℕ
-weightedDelay l m = sum (λ i. train l i .weight * delay l m i) (l .«train_count»)
+weightedDelay l m = sum (λ i. train l i .weight * delay l m i) (l .traffic .«train_count»)
 
 -- "Two timetables of one line are the same when all their minutes agree"
 abbrev pub Same : Line → List ℕ → List ℕ → Type 0
@@ -43,7 +43,7 @@ compared l m i k = departure l m i k
 pub record Earlier (l : Line) (m m′ : List ℕ) : Type 0 where
   pub who : ℕ
   pub place : ℕ
-  pub real : (who < l .«train_count») × (place < comparedCount l who)
+  pub real : (who < l .traffic .«train_count») × (place < comparedCount l who)
   pub alike : EachTrain l (λ i. EachBelow (comparedCount l i) (λ k. (i < who) ⊎ ((i ≡ who) × (k < place)) → compared l m i k ≡ compared l m′ i k))
   pub less : compared l m who place < compared l m′ who place
 

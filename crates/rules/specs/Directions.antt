@@ -16,7 +16,7 @@ unfoldable pub directionBetween : ℕ → ℕ → ℕ → ℕ
 directionBetween o d p = cond (usesBetween o d p) (cond (ltb o d) 1 2) 0
 
 unfoldable pub directionEntry : Line → ℕ → ℕ
-directionEntry l e = cond (ltb (e % 16) (l .«train_count»)) (directionBetween (train l (e % 16) .origin) (train l (e % 16) .destination) (e / 16)) 0
+directionEntry l e = cond (ltb (e % 16) (l .traffic .«train_count»)) (directionBetween (train l (e % 16) .origin) (train l (e % 16) .destination) (e / 16)) 0
 
 unfoldable pub directionsOf : Line → List ℕ
 directionsOf l = table (directionEntry l) 176

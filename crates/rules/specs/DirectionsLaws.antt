@@ -48,17 +48,17 @@ pub record Filled (l : Line) (k : ℕ) (t : List ℕ) : Type 0 where
   pub size : length t ≡ 176
   pub entries : EachBelow 176 (λ e. getD t e 0 ≡ cond (ltb (11 * (e % 16) + e / 16) k) (directionEntry l e) 0)
 
-pub entry-is : (l : Line) (p i : ℕ) → i < 16 → i < l .«train_count» →
+pub entry-is : (l : Line) (p i : ℕ) → i < 16 → i < l .traffic .«train_count» →
     directionEntry l (16 * p + i) ≡ directionBetween (train l i .origin) (train l i .destination) p
 unfolding directionEntry
 entry-is l p i a b =
     let r : (16 * p + i) % 16 ≡ i = omega arith in
     let q : (16 * p + i) / 16 ≡ p = omega arith in
-    rw (r, q, lt-ltb i (l .«train_count») b) refl
+    rw (r, q, lt-ltb i (l .traffic .«train_count») b) refl
 
-entry-past : (l : Line) (e : ℕ) → l .«train_count» ≤ e % 16 → directionEntry l e ≡ 0
+entry-past : (l : Line) (e : ℕ) → l .traffic .«train_count» ≤ e % 16 → directionEntry l e ≡ 0
 unfolding directionEntry
-entry-past l e h = rw (le-ltb (e % 16) (l .«train_count») h) refl
+entry-past l e h = rw (le-ltb (e % 16) (l .traffic .«train_count») h) refl
 
 pub filled-none : (l : Line) → Filled l 0 (replicate 176 0)
 filled-none l = record {
@@ -94,7 +94,7 @@ filled-more l t i p v h a b w =
       ];
     }
 
-pub filled-all : (l : Line) (t : List ℕ) (k : ℕ) → Filled l k t → k ≡ 11 * l .«train_count» → t ≡ directionsOf l
+pub filled-all : (l : Line) (t : List ℕ) (k : ℕ) → Filled l k t → k ≡ 11 * l .traffic .«train_count» → t ≡ directionsOf l
 unfolding directionsOf
 filled-all l t k h q =
     ext-getD 0 t (table (directionEntry l) 176) (h .size ∙ sym (table-size (directionEntry l) 176))
@@ -108,20 +108,20 @@ filled-all l t k h q =
 
 -- ---- what an entry says of the train's path
 
-pub way-past : (l : Line) (e : ℕ) → e < 176 → l .«train_count» ≤ e % 16 → getD (directionsOf l) e 0 ≡ 0
+pub way-past : (l : Line) (e : ℕ) → e < 176 → l .traffic .«train_count» ≤ e % 16 → getD (directionsOf l) e 0 ≡ 0
 unfolding directionsOf
 way-past l e b h = table-at (directionEntry l) 176 e b ∙ entry-past l e h
 
-module _ (l : Line) (few : l .«train_count» ≤ 12) (p : ℕ) (short : p < 11) where
-  pub way-is : (i : ℕ) → i < l .«train_count» → way (directionsOf l) p i ≡ directionBetween (train l i .origin) (train l i .destination) p
+module _ (l : Line) (few : l .traffic .«train_count» ≤ 12) (p : ℕ) (short : p < 11) where
+  pub way-is : (i : ℕ) → i < l .traffic .«train_count» → way (directionsOf l) p i ≡ directionBetween (train l i .origin) (train l i .destination) p
   unfolding directionsOf
   way-is i b = table-at (directionEntry l) 176 (16 * p + i) (omega arith) ∙ entry-is l p i (omega arith) b
 
   -- a train that goes over the segment has 1 or 2 there, by its direction
-  way-on : (i : ℕ) → i < l .«train_count» → Uses (train l i) p → way (directionsOf l) p i ≡ cond (outbound (train l i)) 1 2
+  way-on : (i : ℕ) → i < l .traffic .«train_count» → Uses (train l i) p → way (directionsOf l) p i ≡ cond (outbound (train l i)) 1 2
   way-on i b u = way-is i b ∙ sym (between-on _ _ p u)
 
-  pub decides-on : (i : ℕ) → i < l .«train_count» → Decides (Uses (train l i) p) (on (directionsOf l) p i)
+  pub decides-on : (i : ℕ) → i < l .traffic .«train_count» → Decides (Uses (train l i) p) (on (directionsOf l) p i)
   decides-on i b =
       by-test (decides-between (train l i .origin) (train l i .destination) p)
       (λ u. record { yea = λ e. u; nay = λ e h. decides-not (decides-eq _ _) .nay e (λ z. some-way (outbound (train l i)) (sym (way-on i b u) ∙ z)) })
@@ -131,7 +131,7 @@ module _ (l : Line) (few : l .«train_count» ≤ 12) (p : ℕ) (short : p < 11)
       some-way true e = omega arith
       some-way false e = omega arith
 
-  pub same-way : (i j : ℕ) → i < l .«train_count» → j < l .«train_count» → Uses (train l i) p → Uses (train l j) p →
+  pub same-way : (i j : ℕ) → i < l .traffic .«train_count» → j < l .traffic .«train_count» → Uses (train l i) p → Uses (train l j) p →
       eqb (way (directionsOf l) p i) (way (directionsOf l) p j) ≡ sameWay l i j
   same-way i j a b u v = ap₂ eqb (way-on i a u) (way-on j b v) ∙ alike (outbound (train l i)) (outbound (train l j))
     where
@@ -141,7 +141,7 @@ module _ (l : Line) (few : l .«train_count» ≤ 12) (p : ℕ) (short : p < 11)
       alike false true = refl
       alike false false = refl
 
-  pub outbound-way : (i : ℕ) → i < l .«train_count» → Uses (train l i) p → eqb (way (directionsOf l) p i) 1 ≡ outbound (train l i)
+  pub outbound-way : (i : ℕ) → i < l .traffic .«train_count» → Uses (train l i) p → eqb (way (directionsOf l) p i) 1 ≡ outbound (train l i)
   outbound-way i b u = ap (λ (w : ℕ). eqb w 1) (way-on i b u) ∙ one (outbound (train l i))
     where
       one : (w : Bool) → eqb (cond w 1 2) 1 ≡ w

@@ -40,11 +40,11 @@ decides-gap Kind.S false g d a d′ a′ = decides-le _ _
 decides-gap Kind.F false g d a d′ a′ = decides-le _ _
 decides-gap Kind.D false g d a d′ a′ = record { yea = λ e. tt; nay = λ e h. true≢false e }
 
-module _ (l : Line) (few : l .«train_count» ≤ 12) (m : List ℕ) (p : ℕ) (short : p < 11) where
+module _ (l : Line) (few : l .traffic .«train_count» ≤ 12) (m : List ℕ) (p : ℕ) (short : p < 11) where
   abbrev passing : ℕ → Passage
   passing i = passage (directionsOf l) m p i
 
-  decides-before : (i j : ℕ) → i < l .«train_count» → j < l .«train_count» → Uses (train l i) p → Uses (train l j) p →
+  decides-before : (i j : ℕ) → i < l .traffic .«train_count» → j < l .traffic .«train_count» → Uses (train l i) p → Uses (train l j) p →
       Decides (Before l m p i j) (keepsAfter (segment l p) (passing i) (passing j))
   unfolding keepsAfter
   decides-before i j a b u v = rw (same-way l few p short i j a b u v) (decides-gap (segment l p .kind) (sameWay l i j) (segment l p) _ _ _ _)
@@ -53,7 +53,7 @@ module _ (l : Line) (few : l .«train_count» ≤ 12) (m : List ℕ) (p : ℕ) (
   abbrev pub Clash : ℕ → ℕ → Type 0
   Clash i j = (i < j) × (Uses (train l i) p × (Uses (train l j) p × (Before l m p i j ⊎ Before l m p j i → ⊥)))
 
-  pub decides-conflict : (i j : ℕ) → i < l .«train_count» → j < l .«train_count» → Decides (Clash i j) (clash (segment l p) (directionsOf l) m p i j)
+  pub decides-conflict : (i j : ℕ) → i < l .traffic .«train_count» → j < l .traffic .«train_count» → Decides (Clash i j) (clash (segment l p) (directionsOf l) m p i j)
   unfolding clash neitherFirst
   decides-conflict i j a b =
       decides-and (decides-lt i j)
@@ -71,24 +71,24 @@ module _ (l : Line) (few : l .«train_count» ≤ 12) (m : List ℕ) (p : ℕ) (
   of-apart h i a j b = is-false (decides-conflict i j a b) (λ c. c .1 .1 .1 (h i a j b (c .0) (c .1 .0) (c .1 .1 .0)))
 
   -- no pair is found exactly when the rule is kept
-  pair-clear : pairOn (segment l p) (directionsOf l) m (l .«train_count») p ≡ Conflict.Nothing → Apart l m p
-  pair-clear e = apart-of (none-clash (segment l p) (directionsOf l) m (l .«train_count») p e)
+  pair-clear : pairOn (segment l p) (directionsOf l) m (l .traffic .«train_count») p ≡ Conflict.Nothing → Apart l m p
+  pair-clear e = apart-of (none-clash (segment l p) (directionsOf l) m (l .traffic .«train_count») p e)
 
-  clear-pair : Apart l m p → pairOn (segment l p) (directionsOf l) m (l .«train_count») p ≡ Conflict.Nothing
-  clear-pair h = clash-none (segment l p) (directionsOf l) m (l .«train_count») p (of-apart h)
+  clear-pair : Apart l m p → pairOn (segment l p) (directionsOf l) m (l .traffic .«train_count») p ≡ Conflict.Nothing
+  clear-pair h = clash-none (segment l p) (directionsOf l) m (l .traffic .«train_count») p (of-apart h)
 
 -- ---- rule 15
 
-module _ (l : Line) (few : l .«train_count» ≤ 12) (m : List ℕ) (s : ℕ) (low : 0 < s) (short : s < 11) where
+module _ (l : Line) (few : l .traffic .«train_count» ≤ 12) (m : List ℕ) (s : ℕ) (low : 0 < s) (short : s < 11) where
   -- a train goes over the segments on both sides of its middle stations
-  decides-passes : (i : ℕ) → i < l .«train_count» → Decides (Middle (train l i) s) (on (directionsOf l) s i && on (directionsOf l) (s - 1) i)
+  decides-passes : (i : ℕ) → i < l .traffic .«train_count» → Decides (Middle (train l i) s) (on (directionsOf l) s i && on (directionsOf l) (s - 1) i)
   decides-passes i a =
       decides-as (λ h. (omega (arith, h .0, h .1), omega (arith, h .0, h .1)))
       (λ h. ((omega (arith, h .0, h .1), omega (arith, h .0, h .1)), (omega (arith, h .0, h .1), omega (arith, h .0, h .1))))
       (decides-and (decides-on l few s short i a) (decides-on l few (s - 1) (omega arith) i a))
 
   -- the test of the table of directions is the rule's
-  pub stands-at : (t i : ℕ) → i < l .«train_count» → standsAt (directionsOf l) m s t i ≡ stands l m s t i
+  pub stands-at : (t i : ℕ) → i < l .traffic .«train_count» → standsAt (directionsOf l) m s t i ≡ stands l m s t i
   unfolding standsIn stands
   stands-at t i a =
       by-test (decides-passes i a)
@@ -103,22 +103,22 @@ module _ (l : Line) (few : l .«train_count» ≤ 12) (m : List ℕ) (s : ℕ) (
       turned true = refl
       turned false = refl
 
-  standing-at : (t : ℕ) → standingAt (directionsOf l) m (l .«train_count») s t ≡ standing l m s t
+  standing-at : (t : ℕ) → standingAt (directionsOf l) m (l .traffic .«train_count») s t ≡ standing l m s t
   unfolding standingAt standing
-  standing-at t = count-same _ _ (l .«train_count») (λ i a. stands-at t i a)
+  standing-at t = count-same _ _ (l .traffic .«train_count») (λ i a. stands-at t i a)
 
   -- no crowd is found exactly when the rule is kept
-  room-clear : (tracks : ℕ) → tracks ≡ tracksAt l s → EachBelow 2880 (λ t. standingAt (directionsOf l) m (l .«train_count») s t ≤ tracks) → Room l m s
+  room-clear : (tracks : ℕ) → tracks ≡ tracksAt l s → EachBelow 2880 (λ t. standingAt (directionsOf l) m (l .traffic .«train_count») s t ≤ tracks) → Room l m s
   room-clear tracks e h t b = omega (arith, h t b, standing-at t)
 
-  clear-room : (tracks : ℕ) → tracks ≡ tracksAt l s → Room l m s → EachBelow 2880 (λ t. standingAt (directionsOf l) m (l .«train_count») s t ≤ tracks)
+  clear-room : (tracks : ℕ) → tracks ≡ tracksAt l s → Room l m s → EachBelow 2880 (λ t. standingAt (directionsOf l) m (l .traffic .«train_count») s t ≤ tracks)
   clear-room tracks e h t b = omega (arith, h t b, standing-at t)
 
 -- at a station that is nobody's middle one nobody stands
 nobody-stands : (l : Line) (m : List ℕ) (s : ℕ) → EachTrain l (λ i. Middle (train l i) s → ⊥) → Room l m s
 unfolding standing stands
 nobody-stands l m s h t b =
-    omega (arith, count-never (stands l m s t) (l .«train_count») (λ i a. rw (is-false (decides-middle (train l i) s) (h i a)) refl))
+    omega (arith, count-never (stands l m s t) (l .traffic .«train_count») (λ i a. rw (is-false (decides-middle (train l i) s) (h i a)) refl))
 
 -- ---- the whole
 
@@ -127,7 +127,7 @@ pub record Kept (l : Line) (m : List ℕ) : Type 0 where
   pub trains : EachTrain l (TrainRules l m)
   pub rule13 : EachTrain l (NotLate l m)
   pub rule14 : EachBelow (segmentCount l) (Apart l m)
-  pub rule15 : EachBelow (l .«station_count») (Room l m)
+  pub rule15 : EachBelow (l .track .«station_count») (Room l m)
 
 no-conflict : (c : Conflict) → conflictBreach c ≡ Breach.None → c ≡ Conflict.Nothing
 no-conflict Conflict.Nothing e = refl
@@ -135,71 +135,71 @@ no-conflict (Conflict.OnSegment x) e = let z : _≡_ {A = ℕ} 0 1 = cc in absur
 no-conflict (Conflict.AtStation x) e = let z : _≡_ {A = ℕ} 0 1 = cc in absurd (omega arith)
 
 module _ (l : Line) (w : Within l) (a : Arrays l) (m : List ℕ) where
-  few-trains : l .«train_count» ≤ 12
+  few-trains : l .traffic .«train_count» ≤ 12
   few-trains = w .trains .1
 
   -- ---- rule 14 on every segment
 
-  segments-clear : segmentConflict (l .segments) (directionsOf l) m (segmentCount l) (l .«train_count») ≡ Conflict.Nothing →
+  segments-clear : segmentConflict (l .track .segments) (directionsOf l) m (segmentCount l) (l .traffic .«train_count») ≡ Conflict.Nothing →
       EachBelow (segmentCount l) (Apart l m)
   unfolding segmentConflict
   segments-clear e p b = pair-clear l few-trains m p (omega (arith, w .stations .1)) (none-conflict _ (segmentCount l) e p b)
 
   clear-segments : EachBelow (segmentCount l) (Apart l m) →
-      segmentConflict (l .segments) (directionsOf l) m (segmentCount l) (l .«train_count») ≡ Conflict.Nothing
+      segmentConflict (l .track .segments) (directionsOf l) m (segmentCount l) (l .traffic .«train_count») ≡ Conflict.Nothing
   unfolding segmentConflict
   clear-segments h = conflict-none _ (segmentCount l) (λ p b. clear-pair l few-trains m p (omega (arith, w .stations .1)) (h p b))
 
   -- ---- rule 15 at every station
 
   -- the first and the last station are nobody's middle ones
-  ends-free : (s : ℕ) → (s ≡ 0) ⊎ (l .«station_count» ≤ s + 1) → Room l m s
+  ends-free : (s : ℕ) → (s ≡ 0) ⊎ (l .track .«station_count» ≤ s + 1) → Room l m s
   ends-free s (inl e) = nobody-stands l m s (λ i b h. omega (arith, h .0))
   ends-free s (inr e) = nobody-stands l m s (λ i b h. let t = train-within l i w (a .trains) b in omega (arith, h .1, t .origin .1, t .destination .1))
 
-  crowd-clear : (s : ℕ) → 0 < s → s + 1 < l .«station_count» →
-      crowdOn (l .tracks) (directionsOf l) m (l .«station_count») (l .«train_count») s ≡ Conflict.Nothing → Room l m s
+  crowd-clear : (s : ℕ) → 0 < s → s + 1 < l .track .«station_count» →
+      crowdOn (l .track .tracks) (directionsOf l) m (l .track .«station_count») (l .traffic .«train_count») s ≡ Conflict.Nothing → Room l m s
   crowd-clear s o b e =
       room-clear l few-trains m s o (omega (arith, w .stations .1)) (tracksAt l s) refl
-      (never-crowded (directionsOf l) m (l .«train_count») (tracksAt l s) s
-      (never _ (sym (crowd-middle (l .tracks) (directionsOf l) m (l .«station_count») (l .«train_count») s o b) ∙ e)))
+      (never-crowded (directionsOf l) m (l .traffic .«train_count») (tracksAt l s) s
+      (never _ (sym (crowd-middle (l .track .tracks) (directionsOf l) m (l .track .«station_count») (l .traffic .«train_count») s o b) ∙ e)))
     where
-      never : (f : MinuteFound) → crowdAt (directionsOf l) m (l .«train_count») (tracksAt l s) s f ≡ Conflict.Nothing → f ≡ MinuteFound.Never
+      never : (f : MinuteFound) → crowdAt (directionsOf l) m (l .traffic .«train_count») (tracksAt l s) s f ≡ Conflict.Nothing → f ≡ MinuteFound.Never
       never MinuteFound.Never q = refl
       never (MinuteFound.Minute t) q = let z : _≡_ {A = ℕ} 0 1 = cc in absurd (omega arith)
 
-  clear-crowd : (s : ℕ) → 0 < s → s + 1 < l .«station_count» → Room l m s →
-      crowdOn (l .tracks) (directionsOf l) m (l .«station_count») (l .«train_count») s ≡ Conflict.Nothing
+  clear-crowd : (s : ℕ) → 0 < s → s + 1 < l .track .«station_count» → Room l m s →
+      crowdOn (l .track .tracks) (directionsOf l) m (l .track .«station_count») (l .traffic .«train_count») s ≡ Conflict.Nothing
   clear-crowd s o b h =
-      crowd-middle (l .tracks) (directionsOf l) m (l .«station_count») (l .«train_count») s o b
-      ∙ ap (λ (f : MinuteFound). crowdAt (directionsOf l) m (l .«train_count») (tracksAt l s) s f)
-      (crowded-never (directionsOf l) m (l .«train_count») (tracksAt l s) s
+      crowd-middle (l .track .tracks) (directionsOf l) m (l .track .«station_count») (l .traffic .«train_count») s o b
+      ∙ ap (λ (f : MinuteFound). crowdAt (directionsOf l) m (l .traffic .«train_count») (tracksAt l s) s f)
+      (crowded-never (directionsOf l) m (l .traffic .«train_count») (tracksAt l s) s
       (clear-room l few-trains m s o (omega (arith, w .stations .1)) (tracksAt l s) refl h))
 
   -- each station is the first, the last, or between
-  by-place : {Q : Type 0} (s : ℕ) → (s ≡ 0 → Q) → (l .«station_count» ≤ s + 1 → Q) → (0 < s → s + 1 < l .«station_count» → Q) → Q
+  by-place : {Q : Type 0} (s : ℕ) → (s ≡ 0 → Q) → (l .track .«station_count» ≤ s + 1 → Q) → (0 < s → s + 1 < l .track .«station_count» → Q) → Q
   by-place s f g h = elim (decLt 0 s) [
-    | yes o ↦ elim (decLt (s + 1) (l .«station_count»)) [ yes b ↦ h o b | no b ↦ g (omega arith) ]
+    | yes o ↦ elim (decLt (s + 1) (l .track .«station_count»)) [ yes b ↦ h o b | no b ↦ g (omega arith) ]
     | no o ↦ f (omega arith)
   ]
 
-  stations-clear : stationConflict (l .tracks) (directionsOf l) m (l .«station_count») (l .«train_count») ≡ Conflict.Nothing →
-      EachBelow (l .«station_count») (Room l m)
+  stations-clear : stationConflict (l .track .tracks) (directionsOf l) m (l .track .«station_count») (l .traffic .«train_count») ≡ Conflict.Nothing →
+      EachBelow (l .track .«station_count») (Room l m)
   unfolding stationConflict
   stations-clear e s b =
-      by-place s (λ z. ends-free s (inl z)) (λ z. ends-free s (inr z)) (λ o k. crowd-clear s o k (none-conflict _ (l .«station_count») e s b))
+      by-place s (λ z. ends-free s (inl z)) (λ z. ends-free s (inr z)) (λ o k. crowd-clear s o k (none-conflict _ (l .track .«station_count») e s b))
 
-  clear-stations : EachBelow (l .«station_count») (Room l m) →
-      stationConflict (l .tracks) (directionsOf l) m (l .«station_count») (l .«train_count») ≡ Conflict.Nothing
+  clear-stations : EachBelow (l .track .«station_count») (Room l m) →
+      stationConflict (l .track .tracks) (directionsOf l) m (l .track .«station_count») (l .traffic .«train_count») ≡ Conflict.Nothing
   unfolding stationConflict
   clear-stations h =
-      conflict-none _ (l .«station_count») (λ s b. by-place s (crowd-first (l .tracks) (directionsOf l) m (l .«station_count») (l .«train_count») s)
-      (crowd-last (l .tracks) (directionsOf l) m (l .«station_count») (l .«train_count») s) (λ o k. clear-crowd s o k (h s b)))
+      conflict-none _ (l .track .«station_count») (λ s b. by-place s (crowd-first (l .track .tracks) (directionsOf l) m (l .track .«station_count») (l .traffic .«train_count») s)
+      (crowd-last (l .track .tracks) (directionsOf l) m (l .track .«station_count») (l .traffic .«train_count») s) (λ o k. clear-crowd s o k (h s b)))
 
   -- ---- the theorem
 
   -- where there is no conflict rules 14 and 15 are kept
-  pub clear-of : conflictOf l m ≡ Conflict.Nothing → EachBelow (segmentCount l) (Apart l m) × EachBelow (l .«station_count») (Room l m)
+  pub clear-of : conflictOf l m ≡ Conflict.Nothing → EachBelow (segmentCount l) (Apart l m) × EachBelow (l .track .«station_count») (Room l m)
   unfolding conflictOf
   clear-of e = let c = or-nothing _ _ e in (segments-clear (c .0), stations-clear (c .1))
 

@@ -85,12 +85,12 @@ module _ (Q : Conflict → Type 0) (nothing : Q Conflict.Nothing) where
   -- ---- of a line's minutes
 
   module _ (l : Line) (m : List ℕ)
-      (pairs : (p : ℕ) → p < segmentCount l → EachPair (segment l p) (directionsOf l) m (l .«train_count») p)
-      (crowds : (s : ℕ) → 0 < s → s + 1 < l .«station_count» → EachCrowd (directionsOf l) m (l .«train_count») (tracksAt l s) s) where
+      (pairs : (p : ℕ) → p < segmentCount l → EachPair (segment l p) (directionsOf l) m (l .traffic .«train_count») p)
+      (crowds : (s : ℕ) → 0 < s → s + 1 < l .track .«station_count» → EachCrowd (directionsOf l) m (l .traffic .«train_count») (tracksAt l s) s) where
     pub conflict-holds : Q (conflictOf l m)
     unfolding conflictOf segmentConflict
     conflict-holds =
-        or-holds (segmentConflict (l .segments) (directionsOf l) m (segmentCount l) (l .«train_count»))
-        (stationConflict (l .tracks) (directionsOf l) m (l .«station_count») (l .«train_count»))
-        (first-holds _ (segmentCount l) (λ p b. pair-holds (segment l p) (directionsOf l) m (l .«train_count») p (pairs p b)))
-        (station-holds (l .tracks) (directionsOf l) m (l .«station_count») (l .«train_count») crowds)
+        or-holds (segmentConflict (l .track .segments) (directionsOf l) m (segmentCount l) (l .traffic .«train_count»))
+        (stationConflict (l .track .tracks) (directionsOf l) m (l .track .«station_count») (l .traffic .«train_count»))
+        (first-holds _ (segmentCount l) (λ p b. pair-holds (segment l p) (directionsOf l) m (l .traffic .«train_count») p (pairs p b)))
+        (station-holds (l .track .tracks) (directionsOf l) m (l .track .«station_count») (l .traffic .«train_count») crowds)

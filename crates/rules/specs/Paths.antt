@@ -16,17 +16,17 @@ abbrev pub pastTrain : Train
 pastTrain = record { origin = 0; destination = 0; earliest = 0; latest = 0; weight = 0; runs = []; stops = [] }
 
 abbrev pub train : Line → ℕ → Train
-train l i = getD (l .trains) i pastTrain
+train l i = getD (l .traffic .trains) i pastTrain
 
 -- segment p joins the stations p and p + 1
 abbrev pub segmentCount : Line → ℕ
-segmentCount l = l .«station_count» - 1
+segmentCount l = l .track .«station_count» - 1
 
 abbrev pub segment : Line → ℕ → Segment
-segment l p = getD (l .segments) p noSegment
+segment l p = getD (l .track .segments) p noSegment
 
 abbrev pub tracksAt : Line → ℕ → ℕ
-tracksAt l s = getD (l .tracks) s 0
+tracksAt l s = getD (l .track .tracks) s 0
 
 -- the run over leg k of train i, and the stop after it, in travel order
 abbrev pub runOf : Line → ℕ → ℕ → ℕ
@@ -84,7 +84,7 @@ pub record Routed (t : Train) : Type 0 where
 -- ---- of every train, and of every leg of train i
 
 abbrev pub EachTrain : Line → (ℕ → Type 0) → Type 0
-EachTrain l P = EachBelow (l .«train_count») P
+EachTrain l P = EachBelow (l .traffic .«train_count») P
 
 abbrev pub EachLeg : Line → ℕ → (ℕ → Type 0) → Type 0
 EachLeg l i P = EachBelow (legs l i) P

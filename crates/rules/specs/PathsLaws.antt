@@ -20,9 +20,9 @@ use Rattle.rules.specs.Rules.{middle}
 
 -- ---- the train of an index
 
-pub train-within : (l : Line) (i : ℕ) → Within l → length (l .trains) ≡ 12 → i < l .«train_count» → TrainWithin (l .«station_count») (train l i)
+pub train-within : (l : Line) (i : ℕ) → Within l → length (l .traffic .trains) ≡ 12 → i < l .traffic .«train_count» → TrainWithin (l .track .«station_count») (train l i)
 train-within l i w size h =
-    each-at (TrainWithin (l .«station_count»)) (l .«train_count») (l .trains) i pastTrain (omega (arith, w .trains)) h (w .each-train)
+    each-at (TrainWithin (l .track .«station_count»)) (l .traffic .«train_count») (l .traffic .trains) i pastTrain (omega (arith, w .trains)) h (w .each-train)
 
 pub routed-within : (n : ℕ) (t : Train) → TrainWithin n t → n ≤ 12 → Routed t
 routed-within n t w h =
@@ -32,7 +32,7 @@ routed-within n t w h =
       apart = w .apart;
     }
 
-pub routed : (l : Line) (i : ℕ) → Within l → length (l .trains) ≡ 12 → i < l .«train_count» → Routed (train l i)
+pub routed : (l : Line) (i : ℕ) → Within l → length (l .traffic .trains) ≡ 12 → i < l .traffic .«train_count» → Routed (train l i)
 routed l i w size h = routed-within _ _ (train-within l i w size h) (w .stations .1)
 
 pub legs-few : (t : Train) → Routed t → (1 ≤ legsOf t) × (legsOf t ≤ 11)
@@ -40,9 +40,9 @@ legs-few t r = (omega (arith, r .apart), omega (arith, r .origin, r .destination
 
 -- whatever the length of its array of trains, a line within the limits has a train at each index below its count, or the one past the last, which
 -- has no leg and no weight
-module _ (l : Line) (i : ℕ) (w : Within l) (h : i < l .«train_count») where
-  pub train-or-past : TrainWithin (l .«station_count») (train l i) ⊎ (train l i ≡ pastTrain)
-  train-or-past = each-or (TrainWithin (l .«station_count»)) (l .«train_count») (l .trains) i pastTrain h (w .each-train)
+module _ (l : Line) (i : ℕ) (w : Within l) (h : i < l .traffic .«train_count») where
+  pub train-or-past : TrainWithin (l .track .«station_count») (train l i) ⊎ (train l i ≡ pastTrain)
+  train-or-past = each-or (TrainWithin (l .track .«station_count»)) (l .traffic .«train_count») (l .traffic .trains) i pastTrain h (w .each-train)
 
   pub routed-leg : 1 ≤ legs l i → Routed (train l i)
   routed-leg some = ⊎-elim (λ t. routed-within _ _ t (w .stations .1)) (λ e. absurd (omega (arith, ap legsOf e))) train-or-past

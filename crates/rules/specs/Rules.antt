@@ -79,7 +79,7 @@ abbrev pub Stands : Line → List ℕ → ℕ → ℕ → ℕ → Type 0
 Stands l m s t i = Middle (train l i) s × ((came l m s i ≤ t) × (t ≤ goes l m s i))
 
 unfoldable pub standing : Line → List ℕ → ℕ → ℕ → ℕ
-standing l m s t = count (stands l m s t) (l .«train_count»)
+standing l m s t = count (stands l m s t) (l .traffic .«train_count»)
 
 -- at no minute do more stand at station s than it has tracks
 abbrev pub Room : Line → List ℕ → ℕ → Type 0
@@ -91,4 +91,4 @@ pub record Lawful (l : Line) (m : List ℕ) : Type 0 where
   pub trains : EachTrain l (TrainRules l m)
   pub rule13 : EachTrain l (NotLate l m)
   pub rule14 : EachBelow (segmentCount l) (Apart l m)
-  pub rule15 : EachBelow (l .«station_count») (Room l m)
+  pub rule15 : EachBelow (l .track .«station_count») (Room l m)

@@ -70,14 +70,14 @@ module _ (l : Line) (m : List ℕ) where
         let none : a - f ≡ 0 = omega arith in
         sym (ap (λ (d : ℕ). train l i .weight * d) none ∙ mul-zero _) ∙ cost-late refl
 
-  pub cost-end : {s n : ℕ} → s ≡ sum cost n → n ≡ l .«train_count» → s ≡ weightedDelay l m
+  pub cost-end : {s n : ℕ} → s ≡ sum cost n → n ≡ l .traffic .«train_count» → s ≡ weightedDelay l m
   unfolding weightedDelay
   cost-end e h = e ∙ ap (sum cost) h
 
   -- a train costs at most 99 times 2,879
-  pub cost-most : Within l → EachTrain l (InDays l m) → weightedDelay l m ≤ l .«train_count» * 285021
+  pub cost-most : Within l → EachTrain l (InDays l m) → weightedDelay l m ≤ l .traffic .«train_count» * 285021
   unfolding weightedDelay
-  cost-most w days = sum-most cost 285021 (l .«train_count») (λ i h.
+  cost-most w days = sum-most cost 285021 (l .traffic .«train_count») (λ i h.
       ⊎-elim
       (λ t.
       let some = legs-few (train l i) (routed-within _ _ t (w .stations .1)) .0 in
@@ -89,7 +89,7 @@ module _ (l : Line) (m : List ℕ) where
       (train-or-past l i w h))
 
   -- it is the sum of the trains' terms
-  pub cost-sum : weightedDelay l m ≡ sum cost (l .«train_count»)
+  pub cost-sum : weightedDelay l m ≡ sum cost (l .traffic .«train_count»)
   unfolding weightedDelay
   cost-sum = refl
 
@@ -97,7 +97,7 @@ module _ (l : Line) (m : List ℕ) where
 pub delay-grows : (l : Line) (m m′ : List ℕ) → EachTrain l (λ i. lastArrival l m i ≤ lastArrival l m′ i) → weightedDelay l m ≤ weightedDelay l m′
 unfolding weightedDelay
 delay-grows l m m′ h =
-    sum-grows (cost l m) (cost l m′) (l .«train_count») (λ i n. mul-le-mul-left (train l i .weight) (omega (arith, h i n)))
+    sum-grows (cost l m) (cost l m′) (l .traffic .«train_count») (λ i n. mul-le-mul-left (train l i .weight) (omega (arith, h i n)))
 
 -- ---- each test decides its rule
 
@@ -160,7 +160,7 @@ decides-stands l m s t i = decides-and (decides-middle (train l i) s) (decides-a
 
 -- trains that all stand at a station at one minute are no more than its tracks
 pub room-most : (l : Line) (m : List ℕ) (s : ℕ) → Room l m s → (t : ℕ) → t < 2880 → (f : ℕ → Bool) →
-    EachBelow (l .«train_count») (λ i. f i ≡ true → Stands l m s t i) → count f (l .«train_count») ≤ tracksAt l s
+    EachBelow (l .traffic .«train_count») (λ i. f i ≡ true → Stands l m s t i) → count f (l .traffic .«train_count») ≤ tracksAt l s
 unfolding standing
 room-most l m s room t day f all =
-    omega (arith, room t day, count-grows f (stands l m s t) (l .«train_count») (λ i n e. is-true (decides-stands l m s t i) (all i n e)))
+    omega (arith, room t day, count-grows f (stands l m s t) (l .traffic .«train_count») (λ i n e. is-true (decides-stands l m s t i) (all i n e)))

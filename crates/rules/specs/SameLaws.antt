@@ -36,13 +36,13 @@ lane-way Lane.Inbound w e = is-true (decides-not (decides-eq w 0)) (λ z. omega 
 -- ---- what the same minutes have in common
 
 module _ (l : Line) (m m′ : List ℕ) (s : Same l m m′) where
-  pub same-on : (p i : ℕ) → i < l .«train_count» → Uses (train l i) p → (departsOn m p i ≡ departsOn m′ p i) × (arrivesOn m p i ≡ arrivesOn m′ p i)
+  pub same-on : (p i : ℕ) → i < l .traffic .«train_count» → Uses (train l i) p → (departsOn m p i ≡ departsOn m′ p i) × (arrivesOn m p i ≡ arrivesOn m′ p i)
   same-on p i n u = let k = uses-leg (train l i) p u in rw (k .2) at (s i n (k .0) (k .1))
 
-  before-same : (p i j : ℕ) → i < l .«train_count» → j < l .«train_count» → Uses (train l i) p → Uses (train l j) p → Before l m p i j → Before l m′ p i j
+  before-same : (p i j : ℕ) → i < l .traffic .«train_count» → j < l .traffic .«train_count» → Uses (train l i) p → Uses (train l j) p → Before l m p i j → Before l m′ p i j
   before-same p i j a b u v h = let x = same-on p i a u in let y = same-on p j b v in rw (← x .0, ← x .1, ← y .0, ← y .1) h
 
-  stands-same : (q t i : ℕ) → i < l .«train_count» → stands l m q t i ≡ stands l m′ q t i
+  stands-same : (q t i : ℕ) → i < l .traffic .«train_count» → stands l m q t i ≡ stands l m′ q t i
   unfolding stands
   stands-same q t i n =
       by-test (decides-middle (train l i) q)
@@ -55,23 +55,23 @@ module _ (l : Line) (m m′ : List ℕ) (s : Same l m m′) where
 
   standing-same : (q t : ℕ) → standing l m q t ≡ standing l m′ q t
   unfolding standing
-  standing-same q t = count-same (stands l m q t) (stands l m′ q t) (l .«train_count») (λ i n. stands-same q t i n)
+  standing-same q t = count-same (stands l m q t) (stands l m′ q t) (l .traffic .«train_count») (λ i n. stands-same q t i n)
 
   module _ (w : Within l) (a : Arrays l) where
-    has-legs : (i : ℕ) → i < l .«train_count» → 1 ≤ legs l i
+    has-legs : (i : ℕ) → i < l .traffic .«train_count» → 1 ≤ legs l i
     has-legs i n = legs-few (train l i) (routed l i w (a .trains) n) .0
 
-    last-same : (i : ℕ) → i < l .«train_count» → lastArrival l m i ≡ lastArrival l m′ i
+    last-same : (i : ℕ) → i < l .traffic .«train_count» → lastArrival l m i ≡ lastArrival l m′ i
     last-same i n = s i n (legs l i - 1) (omega (arith, has-legs i n)) .1
 
     pub delay-same : weightedDelay l m ≡ weightedDelay l m′
     unfolding weightedDelay
-    delay-same = sum-same _ _ (l .«train_count») (λ i n. ap (λ (x : ℕ). train l i .weight * (x - freeArrival (train l i))) (last-same i n))
+    delay-same = sum-same _ _ (l .traffic .«train_count») (λ i n. ap (λ (x : ℕ). train l i .weight * (x - freeArrival (train l i))) (last-same i n))
 
     list-same : (p : ℕ) → p < 11 → (lane : Lane) → orderList l m p lane ≡ orderList l m′ p lane
     unfolding orderList
     list-same p b lane =
-        ordered-same (departsOn m p) (departsOn m′ p) _ _ (l .«train_count»)
+        ordered-same (departsOn m p) (departsOn m′ p) _ _ (l .traffic .«train_count»)
         (λ i n. (λ t. same-on p i n (decides-on l (w .trains .1) p b i n .yea (lane-way lane (way (directionsOf l) p i) t)) .0, refl))
 
     pub lists-same : orderLists l m ≡ orderLists l m′

@@ -39,11 +39,11 @@ pub struct Layout {
 pub fn layout_of(line: Line) -> Layout
     ensures { λ r. ⌜ r ≡ layoutOf line ⌝ }
 {
-    let segments = line.segments;
-    let tracks = line.tracks;
+    let segments = line.track.segments;
+    let tracks = line.track.tracks;
     Layout {
-        stations: line.station_count as usize,
-        trains: line.train_count as usize,
+        stations: line.track.station_count as usize,
+        trains: line.traffic.train_count as usize,
         segments,
         tracks,
     }

@@ -33,11 +33,12 @@ pub fn weighted_delay(line: Line, m: &[u16]) -> u32
     requires { ⌜ Within line × (length (now m) ≡ 352) ⌝ }
     ensures { λ r. ⌜ r ≡ weightedDelay line (now (m .entry)) ⌝ }
 {
-    let n = line.train_count as usize;
+    let n = line.traffic.train_count as usize;
     let mut total: u32 = 0;
     let mut i: usize = 0;
     while i < n {
-        let train = line.trains[i];
+        let traffic = line.traffic;
+        let train = traffic.trains[i];
         let last = legs_between(train.origin, train.destination) - 1;
         let arrival = wide(arrival_of(train, m, i, last));
         let free = free_arrival(train);

@@ -29,14 +29,15 @@ fn direction_between(origin: u16, destination: u16, p: u16) -> u16
 }
 
 pub fn directions_of(line: Line) -> [u16; 176]
-    requires { ⌜ line .«train_count» ≤ 12 ⌝ }
+    requires { ⌜ line .traffic .«train_count» ≤ 12 ⌝ }
     ensures { λ r. ⌜ r ≡ directionsOf line ⌝ }
 {
     let mut table = [0u16; 176];
-    let n = line.train_count as usize;
+    let n = line.traffic.train_count as usize;
     let mut i: usize = 0;
     while i < n {
-        let train = line.trains[i];
+        let traffic = line.traffic;
+        let train = traffic.trains[i];
         let mut p: u16 = 0;
         while p < 11 {
             let e = 16 * (p as usize) + i;

@@ -113,10 +113,11 @@ fn train_breach(rule: u8, line: Line, m: &[u16]) -> Breach
     requires { ⌜ Within line × (length (now m) ≡ 352) ⌝ }
     ensures { λ r. ⌜ r ≡ trainBreach rule line (now (m .entry)) ⌝ }
 {
-    let n = line.train_count as usize;
+    let n = line.traffic.train_count as usize;
     let mut i: usize = 0;
     while i < n {
-        let train = line.trains[i];
+        let traffic = line.traffic;
+        let train = traffic.trains[i];
         if !keeps_rule(rule, train, m, i) {
             return Breach::Rule(rule, i + 1);
         }

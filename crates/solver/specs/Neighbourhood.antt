@@ -53,7 +53,7 @@ pub record OnSegment (t ds : List ℕ) (g : Segment) (p : ℕ) (l : Line) : Type
 -- those with these tables and these segments, so many
 pub record OnSegments (t ds : List ℕ) (segments : List Segment) (count : ℕ) (l : Line) : Type 0 where
   pub tabled : Tabled l t ds
-  pub segments-are : segments ≡ l .segments
+  pub segments-are : segments ≡ l .track .segments
   pub count-is : count ≡ segmentCount l
 
 -- those with these tables and this layout

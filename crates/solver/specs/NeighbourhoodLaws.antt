@@ -102,21 +102,21 @@ module _ (g : Segment) (ds : List ℕ) (p : ℕ) where
   order-other i j h = record { one = h .other; other = h .one; asks = λ e. sym (h .asks e) }
 
   module _ (t : List ℕ) (l : Line) (h : OnSegment t ds g p l) where
-    few : l .«train_count» ≤ 12
+    few : l .traffic .«train_count» ≤ 12
     few = h .tabled .within .trains .1
 
     pub segment-low : p < 11
     segment-low = omega (arith, h .place, h .tabled .within .stations .1)
 
     -- a train with a direction there is one of the line, and goes over the segment
-    train-on : (i : ℕ) → i < 12 → (way ds p i ≡ 0 → ⊥) → (i < l .«train_count») × Uses (train l i) p
+    train-on : (i : ℕ) → i < 12 → (way ds p i ≡ 0 → ⊥) → (i < l .traffic .«train_count») × Uses (train l i) p
     train-on i low on = (known, decides-on l few p segment-low i known .yea (is-true (decides-not (decides-eq _ _)) on′))
       where
         on′ : way (directionsOf l) p i ≡ 0 → ⊥
         on′ z = on (ap (λ (x : List ℕ). way x p i) (h .tabled .directions) ∙ z)
 
-        known : i < l .«train_count»
-        known = elim (decLt i (l .«train_count»)) [
+        known : i < l .traffic .«train_count»
+        known = elim (decLt i (l .traffic .«train_count»)) [
           | yes k ↦ k
           | no k ↦ absurd (on′ (way-past l (16 * p + i) (omega (arith, segment-low)) (omega arith)))
         ]

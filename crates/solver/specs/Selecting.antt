@@ -65,7 +65,7 @@ pub record HigherScored (marks : List ℕ) (x : Conflict) (old : Scored) (marks�
 pub record SegmentOf (l : Line) (g : Segment) (n p : ℕ) : Type 0 where
   pub place : p < segmentCount l
   pub segment-is : g ≡ segment l p
-  pub trains-are : n ≡ l .«train_count»
+  pub trains-are : n ≡ l .traffic .«train_count»
 
 pub record CanScoreOn (m marks t ds : List ℕ) (cost cut : ℕ) (g : Segment) (n p : ℕ) : Type 0 where
   pub line : Line

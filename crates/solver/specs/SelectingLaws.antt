@@ -123,10 +123,10 @@ module _ (m marks t ds : List ℕ) (layout : Layout) (cost cut : ℕ) (g : Segme
 pub crowd-on-real : (m ds : List ℕ) (layout : Layout) (s tracks : ℕ) → 1 ≤ s → s + 1 < layout .stations → tracks ≡ getD (layout .tracks) s 0 →
     (x : Conflict) → x ≡ crowdAt ds m (layout .trains) tracks s (earliestCrowd ds m (layout .trains) tracks s) → KnownReal m ds layout x
 crowd-on-real m ds layout s tracks low high t x e l w a f d =
-    let high′ : s + 1 < l .«station_count» = subst (λ (y : Layout). s + 1 < y .stations) f high in
+    let high′ : s + 1 < l .track .«station_count» = subst (λ (y : Layout). s + 1 < y .stations) f high in
     subst (Real l m)
     (sym
     (e ∙ ap (λ (k : ℕ). crowdAt ds m (layout .trains) k s (earliestCrowd ds m (layout .trains) k s)) t
     ∙ ap (λ (y : Layout). crowdAt ds m (y .trains) (getD (y .tracks) s 0) s (earliestCrowd ds m (y .trains) (getD (y .tracks) s 0) s)) f
-    ∙ ap (λ (z : List ℕ). crowdAt z m (l .«train_count») (getD (l .tracks) s 0) s (earliestCrowd z m (l .«train_count») (getD (l .tracks) s 0) s)) d))
+    ∙ ap (λ (z : List ℕ). crowdAt z m (l .traffic .«train_count») (getD (l .track .tracks) s 0) s (earliestCrowd z m (l .traffic .«train_count») (getD (l .track .tracks) s 0) s)) d))
     (crowd-at-real l w a m s low high′)

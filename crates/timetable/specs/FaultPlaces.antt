@@ -65,11 +65,11 @@ module _ (l : Line) (m : List ℕ) where
 
   -- ---- the whole text
 
-  module _ (w : Within l) (size : length (l .trains) ≡ 12) where
-    train-begins : (i : ℕ) → i < l .«train_count» → Begins (timetableText l m) (trainLine i) (i + 2)
+  module _ (w : Within l) (size : length (l .traffic .trains) ≡ 12) where
+    train-begins : (i : ℕ) → i < l .traffic .«train_count» → Begins (timetableText l m) (trainLine i) (i + 2)
     unfolding timetableText minutesText
     train-begins i h =
-        let n = l .«train_count» in
+        let n = l .traffic .«train_count» in
         let same : 0 + i ≡ i = omega arith in
         let lines : Begins (fieldText n 10 ++ trainsText n l m 0 _) (trainLine i) (1 + feeds (fieldText n 10) + i) = rw same at
         (trains-begin n 0 i (fieldText n 10) (restText l (listNumbers l m) (weightedDelay l m)) h
@@ -89,9 +89,9 @@ module _ (l : Line) (m : List ℕ) where
 
     pub minutes-fault-begins : (n p : ℕ) → minutesFault l m ≡ Fault.At n p → LateTrain p
     unfolding minutesFault
-    minutes-fault-begins n p e = go (first (λ i. not (timesRight (train l i) m i)) (l .«train_count»)) (first-is _ (l .«train_count»)) e
+    minutes-fault-begins n p e = go (first (λ i. not (timesRight (train l i) m i)) (l .traffic .«train_count»)) (first-is _ (l .traffic .«train_count»)) e
       where
-        go : (o : Option ℕ) → First (λ i. not (timesRight (train l i) m i)) (l .«train_count») o → onLine o ≡ Fault.At n p → LateTrain p
+        go : (o : Option ℕ) → First (λ i. not (timesRight (train l i) m i)) (l .traffic .«train_count») o → onLine o ≡ Fault.At n p → LateTrain p
         go none h f = let z : _≡_ {A = ℕ} 0 1 = cc in absurd (omega arith)
         go (some i) h f =
             let q : i + 2 ≡ p = cc in

@@ -65,16 +65,16 @@ total-length v small = omega (arith, length-append (digits v) (10 ∷ []), digit
 -- ---- lists and total of a line's minutes
 
 module _ (l : Line) (m : List ℕ) where
-  pub lists-numbers : Each (ListWithin (l .«train_count»)) (listNumbers l m)
+  pub lists-numbers : Each (ListWithin (l .traffic .«train_count»)) (listNumbers l m)
   lists-numbers =
-      each-image (ListWithin (l .«train_count»)) numbers (orderLists l m)
-      (each-map (TrainsOnly l m) (λ is. ListWithin (l .«train_count») (numbers is)) number (orderLists l m) (lists-trains l m))
+      each-image (ListWithin (l .traffic .«train_count»)) numbers (orderLists l m)
+      (each-map (TrainsOnly l m) (λ is. ListWithin (l .traffic .«train_count») (numbers is)) number (orderLists l m) (lists-trains l m))
     where
-      number : (is : List ℕ) → TrainsOnly l m is → ListWithin (l .«train_count») (numbers is)
+      number : (is : List ℕ) → TrainsOnly l m is → ListWithin (l .traffic .«train_count») (numbers is)
       number is v = record {
         few = rw length-map (v .0);
-        numbers = each-image (λ x. (1 ≤ x) × (x ≤ l .«train_count»)) (λ i. i + 1) is
-            (each-map (λ i. i < l .«train_count») (λ i. (1 ≤ i + 1) × (i + 1 ≤ l .«train_count»)) (λ i h. (omega arith, omega arith)) is (v .1));
+        numbers = each-image (λ x. (1 ≤ x) × (x ≤ l .traffic .«train_count»)) (λ i. i + 1) is
+            (each-map (λ i. i < l .traffic .«train_count») (λ i. (1 ≤ i + 1) × (i + 1 ≤ l .traffic .«train_count»)) (λ i h. (omega arith, omega arith)) is (v .1));
       }
 
   pub numbers-count : length (listNumbers l m) ≡ listCount l
@@ -86,7 +86,7 @@ module _ (l : Line) (m : List ℕ) where
 
     -- ---- the whole text
 
-    trains-length : (k i n : ℕ) (rest : List ℕ) → i + k ≤ l .«train_count» → length rest ≤ n → length (trainsText k l m i rest) ≤ n + k * 110
+    trains-length : (k i n : ℕ) (rest : List ℕ) → i + k ≤ l .traffic .«train_count» → length rest ≤ n → length (trainsText k l m i rest) ≤ n + k * 110
     unfolding trainsText
     trains-length zero i n rest count h = omega arith
     trains-length (suc k) i n rest count h =
@@ -98,7 +98,7 @@ module _ (l : Line) (m : List ℕ) where
     unfolding timetableText minutesText restText
     timetable-fits =
         let few = lists-few l (omega (arith, w .stations)) in
-        let trains = l .«train_count» in
+        let trains = l .traffic .«train_count» in
         let ls = listNumbers l m in
         let last = field (weightedDelay l m) 10 [] in
         let short = total-length (weightedDelay l m) total-small in

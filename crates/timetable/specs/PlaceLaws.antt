@@ -54,7 +54,7 @@ module _ (s : List ℕ) (P : Cursor → Type 0) (k : Keeps s P) where
   pub stands-minutes : (l : Line) (c : Cursor) → P c → Stands P (minutesAt l s c)
   unfolding minutesAt
   stands-minutes l c h =
-      stands-then P (countAt (l .«train_count») s c) _ (stands-count (l .«train_count») c h)
+      stands-then P (countAt (l .traffic .«train_count») s c) _ (stands-count (l .traffic .«train_count») c h)
       (λ n c₁ h₁. stands-trains n l 0 (replicate 352 0) c₁ h₁)
 
   -- ---- the order lists and the total
@@ -100,7 +100,7 @@ module _ (s : List ℕ) (P : Cursor → Type 0) (k : Keeps s P) where
   unfolding restAt
   stands-rest l c h =
       stands-then P (countAt (listCount l) s c) _ (stands-count (listCount l) c h)
-      (λ n c₁ h₁. stands-then P (lines n (listAt (l .«train_count»)) s c₁) _ (stands-lists (l .«train_count») n c₁ h₁)
+      (λ n c₁ h₁. stands-then P (lines n (listAt (l .traffic .«train_count»)) s c₁) _ (stands-lists (l .traffic .«train_count») n c₁ h₁)
       (λ ls c₂ h₂. stands-then P (totalAt s c₂) _ (stands-total c₂ h₂)
       (λ v c₃ h₃. stands-test P (ltb (c₃ .at) (length s)) 8 c₃ _ h₃ h₃)))
 

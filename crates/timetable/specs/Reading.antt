@@ -51,7 +51,7 @@ trainsAt (suc k) l i m s c = thenRead (legsAt (legs l i) (train l i) i 0 m s c) 
 
 -- the first part of the text: the minutes; entries of no train's leg are 0
 unfoldable pub minutesAt : Line → List ℕ → Cursor → Parsed (List ℕ)
-minutesAt l s c = thenRead (countAt (l .«train_count») s c) (λ n c₁. trainsAt n l 0 (replicate 352 0) s c₁)
+minutesAt l s c = thenRead (countAt (l .traffic .«train_count») s c) (λ n c₁. trainsAt n l 0 (replicate 352 0) s c₁)
 
 -- ---- "Then the count of order lists, one for S or F and two for D, by segment; each line has the number of trains in it and then their numbers"
 
@@ -86,7 +86,7 @@ pub record Rest : Type 0 where
 unfoldable pub restAt : Line → List ℕ → Cursor → Parsed Rest
 restAt l s c =
     thenRead (countAt (listCount l) s c) (λ n c₁.
-    thenRead (lines n (listAt (l .«train_count»)) s c₁) (λ ls c₂.
+    thenRead (lines n (listAt (l .traffic .«train_count»)) s c₁) (λ ls c₂.
     thenRead (totalAt s c₂) (λ v c₃.
     pick (ltb (c₃ .at) (length s)) (Parsed.bad 8 (c₃ .line)) (Parsed.got (record { lists = ls; total = v }) c₃))))
 

@@ -61,11 +61,11 @@ module _ (n : ℕ) (l : Line) (i : ℕ) (m s : List ℕ) (c : Cursor) where
 -- ---- the first part of the text
 
 module _ (l : Line) (s : List ℕ) (c : Cursor) where
-  pub minutes-no-count : {x q : ℕ} → countAt (l .«train_count») s c ≡ Parsed.bad x q → minutesAt l s c ≡ Parsed.bad x q
+  pub minutes-no-count : {x q : ℕ} → countAt (l .traffic .«train_count») s c ≡ Parsed.bad x q → minutesAt l s c ≡ Parsed.bad x q
   unfolding minutesAt
   minutes-no-count e = rw e refl
 
-  pub minutes-counted : {v : ℕ} {next : Cursor} → countAt (l .«train_count») s c ≡ Parsed.got v next →
-      minutesAt l s c ≡ trainsAt (l .«train_count») l 0 (replicate 352 0) s next
+  pub minutes-counted : {v : ℕ} {next : Cursor} → countAt (l .traffic .«train_count») s c ≡ Parsed.got v next →
+      minutesAt l s c ≡ trainsAt (l .traffic .«train_count») l 0 (replicate 352 0) s next
   unfolding minutesAt
-  minutes-counted {v} {next} e = rw e (ap (λ (k : ℕ). trainsAt k l 0 (replicate 352 0) s next) (count-is (l .«train_count») s c v next e))
+  minutes-counted {v} {next} e = rw e (ap (λ (k : ℕ). trainsAt k l 0 (replicate 352 0) s next) (count-is (l .traffic .«train_count») s c v next e))

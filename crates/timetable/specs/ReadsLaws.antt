@@ -87,7 +87,7 @@ module _ (l : Line) (w : Within l) (m : List ℕ) (days : EachTrain l (InDays l 
     reads : Reads (trainsAt k l i m₀ s c) minutes s rest
     same : EachFrom k i (SameTimes minutes)
 
-  trains-read : (k i : ℕ) (m₀ : List ℕ) (c : Cursor) (rest : List ℕ) → length m₀ ≡ 352 → i + k ≤ l .«train_count» → from s c ≡ trainsText k l m i rest →
+  trains-read : (k i : ℕ) (m₀ : List ℕ) (c : Cursor) (rest : List ℕ) → length m₀ ≡ 352 → i + k ≤ l .traffic .«train_count» → from s c ≡ trainsText k l m i rest →
       TrainsRead k i m₀ c rest
   unfolding trainsText
   trains-read zero i m₀ c rest size count e = record { minutes = m₀; reads = unfold trainsAt in at-end m₀ c e; same = λ q low high. absurd (omega arith) }
@@ -124,7 +124,7 @@ module _ (l : Line) (w : Within l) (m : List ℕ) (days : EachTrain l (InDays l 
   minutes-read : (c : Cursor) (rest : List ℕ) → from s c ≡ minutesText l m rest → MinutesRead c rest
   unfolding minutesText
   minutes-read c rest e =
-      let n = l .«train_count» in
+      let n = l .traffic .«train_count» in
       let count = ranged-reads 8 9 n n 10 s c n (trainsText n l m 0 rest) feed-ends (omega arith) (omega arith) (omega (arith, w .trains)) e in
       let lines = trains-read n 0 (replicate 352 0) (count .next) rest (length-replicate {A = ℕ} 352 0) (omega arith) (count .leaves) in
       record {
@@ -189,12 +189,12 @@ total-reads s c v rest small e =
     }
 
 module _ (l : Line) (w : Within l) (ls : List (List ℕ)) (total : ℕ)
-    (count : length ls ≡ listCount l) (each : Each (ListWithin (l .«train_count»)) ls) (small : total < 10000000) where
+    (count : length ls ≡ listCount l) (each : Each (ListWithin (l .traffic .«train_count»)) ls) (small : total < 10000000) where
   rest-reads : (s : List ℕ) (c : Cursor) → from s c ≡ restText l ls total → Reads (restAt l s c) (record { lists = ls; total = total }) s []
   unfolding restAt restText
   rest-reads s c e =
       let n = listCount l in
-      let trains = l .«train_count» in
+      let trains = l .traffic .«train_count» in
       let one = list-reads trains (w .trains .1) s in
       let few : n < 10000 = omega (arith, lists-few l (omega (arith, w .stations))) in
       let last = field total 10 [] in

@@ -55,15 +55,15 @@ module _ (l : Line) (s : List ℕ) (c : Cursor) {n : ℕ} (own : n ≡ listCount
     is-count : v ≡ listCount l
     is-count = count-is n s c v c₁ count ∙ own
 
-    in-rows : {r : Parsed (List (List ℕ))} → lines n (listAt (l .«train_count»)) s c₁ ≡ r →
-        lines (listCount l) (listAt (l .«train_count»)) s c₁ ≡ r
-    in-rows e = ap (λ (k : ℕ). lines k (listAt (l .«train_count»)) s c₁) (sym own) ∙ e
+    in-rows : {r : Parsed (List (List ℕ))} → lines n (listAt (l .traffic .«train_count»)) s c₁ ≡ r →
+        lines (listCount l) (listAt (l .traffic .«train_count»)) s c₁ ≡ r
+    in-rows e = ap (λ (k : ℕ). lines k (listAt (l .traffic .«train_count»)) s c₁) (sym own) ∙ e
 
-    pub rest-no-lists : {x q : ℕ} → lines n (listAt (l .«train_count»)) s c₁ ≡ Parsed.bad x q → restAt l s c ≡ Parsed.bad x q
+    pub rest-no-lists : {x q : ℕ} → lines n (listAt (l .traffic .«train_count»)) s c₁ ≡ Parsed.bad x q → restAt l s c ≡ Parsed.bad x q
     unfolding restAt
     rest-no-lists e = rw (counted count, is-count, in-rows e) refl
 
-    module _ {ls : List (List ℕ)} {c₂ : Cursor} (lists : lines n (listAt (l .«train_count»)) s c₁ ≡ Parsed.got ls c₂) where
+    module _ {ls : List (List ℕ)} {c₂ : Cursor} (lists : lines n (listAt (l .traffic .«train_count»)) s c₁ ≡ Parsed.got ls c₂) where
       pub rest-no-total : fieldAt 7 s c₂ 10 ≡ NumberField.Malformed → restAt l s c ≡ Parsed.bad 8 (c₂ .line)
       unfolding restAt totalAt
       rest-no-total e = rw (counted count, is-count, in-rows lists, e) refl

@@ -27,7 +27,7 @@ module _ (m m′ : List ℕ) where
       rw (here .0, here .1, legs-same k t i (j + 1) rest (λ x low high. h x (omega arith) (omega arith))) refl
 
   module _ (l : Line) (same : Same l m m′) where
-    trains-same : (k i : ℕ) (rest : List ℕ) → i + k ≤ l .«train_count» → trainsText k l m i rest ≡ trainsText k l m′ i rest
+    trains-same : (k i : ℕ) (rest : List ℕ) → i + k ≤ l .traffic .«train_count» → trainsText k l m i rest ≡ trainsText k l m′ i rest
     unfolding trainsText
     trains-same zero i rest h = refl
     trains-same (suc k) i rest h =
@@ -38,4 +38,4 @@ module _ (m m′ : List ℕ) where
     unfolding timetableText minutesText
     text-same w a =
         let lists = ap (map numbers) (lists-same l m m′ same w a) in
-        rw (delay-same l m m′ same w a, lists, trains-same (l .«train_count») 0 (restText l (listNumbers l m′) (weightedDelay l m′)) (omega arith)) refl
+        rw (delay-same l m m′ same w a, lists, trains-same (l .traffic .«train_count») 0 (restText l (listNumbers l m′) (weightedDelay l m′)) (omega arith)) refl

@@ -28,7 +28,7 @@ trainsText (suc k) l m i rest = legsText (legs l i) (train l i) m i 0 (trainsTex
 
 -- the first part
 unfoldable pub minutesText : Line → List ℕ → List ℕ → List ℕ
-minutesText l m rest = field (l .«train_count») 10 (trainsText (l .«train_count») l m 0 rest)
+minutesText l m rest = field (l .traffic .«train_count») 10 (trainsText (l .traffic .«train_count») l m 0 rest)
 
 -- ---- "Then the count of order lists; each line has the number of trains in it and then their numbers. Last, the total weighted delay."
 

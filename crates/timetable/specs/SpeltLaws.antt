@@ -97,7 +97,7 @@ module _ (l : Line) (w : Within l) (s : List ℕ) where
     days : EachFrom k i (InDays l m)
     text : from s c ≡ trainsText k l m i (from s next)
 
-  trains-spelt : (k i : ℕ) (m : List ℕ) (c : Cursor) (m′ : List ℕ) (next : Cursor) → length m ≡ 352 → i + k ≤ l .«train_count» →
+  trains-spelt : (k i : ℕ) (m : List ℕ) (c : Cursor) (m′ : List ℕ) (next : Cursor) → length m ≡ 352 → i + k ≤ l .traffic .«train_count» →
       trainsAt k l i m s c ≡ Parsed.got m′ next → TrainsSpelt k i c m′ next
   unfolding trainsAt trainsText
   trains-spelt zero i m c m′ next size count e = got-is (λ y end. TrainsSpelt 0 i c y end) e (record { days = λ q low high. absurd (omega arith); text = refl })
@@ -130,7 +130,7 @@ module _ (l : Line) (w : Within l) (s : List ℕ) where
   minutes-spelt : (c : Cursor) (m : List ℕ) (next : Cursor) → minutesAt l s c ≡ Parsed.got m next → MinutesSpelt c m next
   unfolding minutesText
   minutes-spelt c m next e =
-      let n = l .«train_count» in
+      let n = l .traffic .«train_count» in
       let count = then-got (countAt n s c) (λ v c₁. trainsAt v l 0 (replicate 352 0) s c₁) m next (unfold minutesAt in e) in
       let lines = sym (minutes-counted l s c (count .first)) ∙ e in
       let read = trains-spelt n 0 (replicate 352 0) (count .next) m next (length-replicate {A = ℕ} 352 0) (omega arith) lines in
@@ -224,11 +224,11 @@ unfolding restAt restText
 rest-spelt l s c r end e =
     let n = listCount l in
     let count = then-got (countAt n s c) _ r end e in
-    let lists = then-got (lines (count .value) (listAt (l .«train_count»)) s (count .next)) _ r end (count .after) in
+    let lists = then-got (lines (count .value) (listAt (l .traffic .«train_count»)) s (count .next)) _ r end (count .after) in
     let total = then-got (totalAt s (lists .next)) _ r end (lists .after) in
     let same = count-is n s c (count .value) (count .next) (count .first) in
-    let one = list-spelt (l .«train_count») s in
-    let lines = many-spelt (λ _. Unit {0}) listText s (λ left. listAt (l .«train_count»)) (λ left. one) (count .value) (count .next) (lists .value) (lists .next) (lists .first) in
+    let one = list-spelt (l .traffic .«train_count») s in
+    let lines = many-spelt (λ _. Unit {0}) listText s (λ left. listAt (l .traffic .«train_count»)) (λ left. one) (count .value) (count .next) (lists .value) (lists .next) (lists .first) in
     let last = pick-got (ltb (total .next .at) (length s)) 8 (total .next .line) _ r end (total .after) in
     let none : from s (total .next) ≡ [] = drop-of-length-le s (ltb-false (total .next .at) (length s) (last .0)) in
     got-is (λ x _. RestSpelt l s c x) (last .1) (record {

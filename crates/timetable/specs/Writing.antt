@@ -26,7 +26,7 @@ onLine (some i) = Fault.At 9 (i + 2)
 
 -- the first train with a time over 2,879
 unfoldable pub minutesFault : Line → List ℕ → Fault
-minutesFault l m = onLine (first (λ i. not (timesRight (train l i) m i)) (l .«train_count»))
+minutesFault l m = onLine (first (λ i. not (timesRight (train l i) m i)) (l .traffic .«train_count»))
 
 -- what there is to write for a line and its minutes: a refusal, or the text
 unfoldable pub spelling : Line → List ℕ → Spelling

@@ -50,7 +50,7 @@ module _ (l : Line) (m : List ℕ) where
   abbrev pub Timed : ℕ → Type 0
   Timed i = timesRight (train l i) m i ≡ true
 
-  pub late-at : (i : ℕ) → i < l .«train_count» → timesRight (train l i) m i ≡ false → EachBelow i Timed → Fault.At 9 (i + 2) ≡ minutesFault l m
+  pub late-at : (i : ℕ) → i < l .traffic .«train_count» → timesRight (train l i) m i ≡ false → EachBelow i Timed → Fault.At 9 (i + 2) ≡ minutesFault l m
   unfolding minutesFault
   late-at i h e k = ap onLine (sym (first-found _ _ i h (ap not e) (λ j s. ap not (k j s))))
 
@@ -225,28 +225,28 @@ lists-text (x ∷ xs) rest = ap (orderText x) (lists-text xs rest)
 
 module _ (l : Line) (m : List ℕ) where
   abbrev trains-part : List ℕ
-  trains-part = trainsText (l .«train_count») l m 0 []
+  trains-part = trainsText (l .traffic .«train_count») l m 0 []
 
   abbrev lists-part : List ℕ
   lists-part = eachThen listText (listNumbers l m) []
 
   pub timetable-parts : timetableText l m ≡
-      fieldText (l .«train_count») 10 ++ (trains-part ++ (fieldText (listCount l) 10 ++ (lists-part ++ fieldText (weightedDelay l m) 10)))
+      fieldText (l .traffic .«train_count») 10 ++ (trains-part ++ (fieldText (listCount l) 10 ++ (lists-part ++ fieldText (weightedDelay l m) 10)))
   unfolding timetableText minutesText restText
   timetable-parts =
-      ap (λ (x : List ℕ). field (l .«train_count») 10 x) (
-      trains-then (l .«train_count») l m 0 (field (listCount l) 10 (eachThen listText (listNumbers l m) (fieldText (weightedDelay l m) 10)))
+      ap (λ (x : List ℕ). field (l .traffic .«train_count») 10 x) (
+      trains-then (l .traffic .«train_count») l m 0 (field (listCount l) 10 (eachThen listText (listNumbers l m) (fieldText (weightedDelay l m) 10)))
       ∙ ap (λ (x : List ℕ). trains-part ++ field (listCount l) 10 x) (each-then listText list-then (listNumbers l m) (fieldText (weightedDelay l m) 10))
       )
       ∙ (simp append-assoc)
 
   pub timetable-size : length (timetableText l m) ≡
-      length (fieldText (l .«train_count») 10) + (length trains-part + (length (fieldText (listCount l) 10)
+      length (fieldText (l .traffic .«train_count») 10) + (length trains-part + (length (fieldText (listCount l) 10)
       + (length lists-part + length (fieldText (weightedDelay l m) 10))))
   timetable-size =
       ap length timetable-parts
       ∙ (rw (
-        length-append (fieldText (l .«train_count») 10),
+        length-append (fieldText (l .traffic .«train_count») 10),
         length-append trains-part,
         length-append (fieldText (listCount l) 10),
         length-append lists-part,

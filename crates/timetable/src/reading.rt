@@ -110,9 +110,9 @@ fn train_line(s: &[u8], start: Cursor, train: Train, i: usize, minutes: [u16; 35
 // The lines of the trains.
 fn train_lines(s: &[u8], start: Cursor, line: Line) -> MinutesPart
     requires { ⌜ Within line × Counted start ⌝ }
-    ensures { λ r. ⌜ toldEnding (r .ending) (r .at) ≡ trainsAt (line .«train_count») line 0 (replicate 352 0) (now (s .entry)) start ⌝ }
+    ensures { λ r. ⌜ toldEnding (r .ending) (r .at) ≡ trainsAt (line .traffic .«train_count») line 0 (replicate 352 0) (now (s .entry)) start ⌝ }
 {
-    let n = line.train_count as usize;
+    let n = line.traffic.train_count as usize;
     let mut at = [0u16; 352];
     let mut cursor = start;
     let mut i: usize = 0;
@@ -120,7 +120,8 @@ fn train_lines(s: &[u8], start: Cursor, line: Line) -> MinutesPart
         if i == n {
             break 'lines Ending::Done(cursor);
         }
-        let train = line.trains[i];
+        let traffic = line.traffic;
+        let train = traffic.trains[i];
         let part = train_line(s, cursor, train, i, at);
         let ended = part.ending;
         let Ending::Done(next) = ended else {
@@ -140,8 +141,8 @@ pub fn read_minutes(s: &[u8], start: Cursor, line: Line) -> MinutesPart
     ensures { λ r. ⌜ toldEnding (r .ending) (r .at) ≡ minutesAt line (now (s .entry)) start ⌝ }
 {
     let limits = Limits {
-        min: line.train_count,
-        max: line.train_count,
+        min: line.traffic.train_count,
+        max: line.traffic.train_count,
     };
     let count = start.ranged(s, LINE_FEED, limits, FAULTS);
     let Field::Value(_, next) = count else {
@@ -257,7 +258,7 @@ pub fn read_rest(s: &[u8], start: Cursor, line: Line) -> RestPart
         return no_rest(stopped(field));
     };
     let count = own as usize;
-    let part = list_lines(s, next, line.train_count, count);
+    let part = list_lines(s, next, line.traffic.train_count, count);
     let ended = part.ending;
     let Ending::Done(after_lists) = ended else {
         return no_rest(ended);

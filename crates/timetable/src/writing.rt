@@ -59,10 +59,11 @@ fn minutes_fault(line: Line, m: &[u16]) -> Fault
     requires { ⌜ Within line × (length (now m) ≡ 352) ⌝ }
     ensures { λ r. ⌜ r ≡ minutesFault line (now (m .entry)) ⌝ }
 {
-    let n = line.train_count as usize;
+    let n = line.traffic.train_count as usize;
     let mut i: usize = 0;
     while i < n {
-        let train = line.trains[i];
+        let traffic = line.traffic;
+        let train = traffic.trains[i];
         if !times_right(train, m, i) {
             return Fault::At(9, i + 2);
         }
@@ -96,14 +97,15 @@ fn put_train(out: &mut [u8], start: usize, train: Train, m: &[u16], i: usize) ->
 
 // The lines of the trains.
 fn put_trains(out: &mut [u8], start: usize, line: Line, m: &[u16]) -> usize
-    requires { ⌜ Within line × (length (now m) ≡ 352) × (start + length (trainsText (line .«train_count») line (now m) 0 []) ≤ length (now out)) ⌝ }
-    ensures { λ r. ⌜ Put (now (out .entry)) (now (out .exit)) start (trainsText (line .«train_count») line (now (m .entry)) 0 []) r ⌝ }
+    requires { ⌜ Within line × (length (now m) ≡ 352) × (start + length (trainsText (line .traffic .«train_count») line (now m) 0 []) ≤ length (now out)) ⌝ }
+    ensures { λ r. ⌜ Put (now (out .entry)) (now (out .exit)) start (trainsText (line .traffic .«train_count») line (now (m .entry)) 0 []) r ⌝ }
 {
-    let n = line.train_count as usize;
+    let n = line.traffic.train_count as usize;
     let mut at = start;
     let mut i: usize = 0;
     while i < n {
-        let train = line.trains[i];
+        let traffic = line.traffic;
+        let train = traffic.trains[i];
         at = put_train(out, at, train, m, i);
         i = i + 1;
     }
@@ -148,7 +150,7 @@ fn put_timetable(out: &mut [u8], line: Line, m: &[u16]) -> usize
     requires { ⌜ Within line × (length (now m) ≡ 352) × EachTrain line (InDays line (now m)) × (length (timetableText line (now m)) ≤ length (now out)) ⌝ }
     ensures { λ r. ⌜ Put (now (out .entry)) (now (out .exit)) 0 (timetableText line (now (m .entry))) r ⌝ }
 {
-    let after_count = put_field(out, 0, line.train_count as u32, LINE_FEED);
+    let after_count = put_field(out, 0, line.traffic.train_count as u32, LINE_FEED);
     let after_trains = put_trains(out, after_count, line, m);
     let after_number = put_field(out, after_trains, list_count(line) as u32, LINE_FEED);
     let lists = order_lists(line, m);

@@ -8,7 +8,7 @@ use Rattle.line.specs.declared.Answer.{Answer}
 use Rattle.line.specs.declared.ReadLine.{ReadLine}
 use Rattle.line.specs.declared.Segment.{Segment}
 use Rattle.line.specs.declared.Train.{Train}
-use Rattle.line.specs.Record.{noSegment, noTrain, emptyLine}
+use Rattle.line.specs.Record.{noSegment, noTrain, lineWith, emptyLine}
 use Rattle.line.specs.File.{answered}
 use borrow.Author.Needs.{needs}
 use Rattle.line.proofs.reading.refused.Statement.{statement}
@@ -17,7 +17,7 @@ use Rattle.line.proofs.reading.refused.Tie as tie
 -- an answer with a line of empty entries
 with-empty : {a : Answer} {g : Segment} {t : Train} → g ≡ noSegment → t ≡ noTrain → _≡_ {A = ReadLine} (record {
   answer = a;
-  line = record { «station_count» = 0; tracks = replicate 12 0; segments = replicate 11 g; «train_count» = 0; trains = replicate 12 t };
+  line = lineWith 0 (replicate 12 0) (replicate 11 g) 0 (replicate 12 t);
 }) (record { answer = a; line = emptyLine })
 with-empty p q = rw (p, q) refl
 

@@ -112,7 +112,7 @@ put-trains-requires c κs =
     let p1 = p2 .before .before .before .before in
     let a = p1 .before .before .before .before .before .before in (
       omega (arith, a .pre .0 .trains),
-      each-map (TrainWithin (a .args .line .«station_count»)) HasPath (train-path (a .args .line .«station_count») (a .pre .0 .stations .1))
+      each-map (TrainWithin (a .args .line .track .«station_count»)) HasPath (train-path (a .args .line .track .«station_count») (a .pre .0 .stations .1))
           (trainsOf (a .args .line)) (a .pre .0 .each-train),
       omega (
         arith,

@@ -21,7 +21,7 @@ weighted-delay-requires c κs = search needs
 returns : tie.Need-returns
 returns c =
     let a = c .before .before .before .before in
-    let size : length (a .args .line .trains) ≡ 12 = sym (length-map (a .args .line .trains) _) ∙ a .good .0 .1 .1 .1 .1 .1 .1 .0 .1 .0 .1 in
+    let size : length (a .args .line .traffic .trains) ≡ 12 = sym (length-map (a .args .line .traffic .trains) _) ∙ a .good .0 .1 .1 .1 .0 .1 .1 .1 .0 .1 .0 .1 in
     first-plan (a .args .line) (a .pre) size _ (c .before .before .free-minutes .ensures) (c .before .before .before .free-in-time .ensures)
     (c .weighted-delay .ensures)
 

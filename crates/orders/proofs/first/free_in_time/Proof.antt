@@ -30,14 +30,14 @@ element-copy-out-train c = search needs
 
 free-end-requires : tie.Need-free-end-requires Inv-loop μ-loop
 free-end-requires c κs =
-    let a = c .before .before .before in
-    let size : length (a .args .t1 .trains) ≡ 12 = sym (length-map (a .args .t1 .trains) _) ∙ a .good .0 .1 .1 .1 .1 .1 .1 .0 .1 .0 .1 in
-    within-any _ _ (train-within (a .args .t1) _ (a .pre) size (c .before .loop-test .taken)) (a .pre .stations .1)
+    let a = c .before .before .before .before .before in
+    let size : length (a .args .line .traffic .trains) ≡ 12 = sym (length-map (a .args .line .traffic .trains) _) ∙ a .good .0 .1 .1 .1 .0 .1 .1 .1 .0 .1 .0 .1 in
+    within-any _ _ (train-within (a .args .line) _ (a .pre) size (c .before .before .loop-test .taken)) (a .pre .stations .1)
 
 returns : tie.Need-returns Inv-loop μ-loop
 returns c =
-    let t = c .before .before .before .before in
-    ends-late (t .before .before .args .t1) _ (c .before .before .free-end .ensures) (t .loop-test .taken) (c .if1 .taken)
+    let t = c .before .before .before .before .before in
+    ends-late (t .before .before .before .args .line) _ (c .before .before .free-end .ensures) (t .loop-test .taken) (c .if1 .taken)
 
 add-i : tie.Need-add-i Inv-loop μ-loop
 add-i c = search needs
@@ -47,12 +47,12 @@ loop-less c = search needs
 
 loop-again : tie.Need-loop-again Inv-loop μ-loop
 loop-again c =
-    let t = c .before .before .before .before in
+    let t = c .before .before .before .before .before in
     let w = t .before .loop in
-    (omega (arith, t .loop-test .taken), ends-more (t .before .before .args .t1) (w .i) (c .before .before .free-end .ensures) (w .inv .1) (c .if1 .left))
+    (omega (arith, t .loop-test .taken), ends-more (t .before .before .before .args .line) (w .i) (c .before .before .free-end .ensures) (w .inv .1) (c .if1 .left))
 
 returns-2 : tie.Need-returns-2 Inv-loop μ-loop
-returns-2 c = ends-all (c .before .before .args .t1) _ (c .before .loop .inv .1) (omega (arith, c .before .loop .inv .0, c .loop-test .left))
+returns-2 c = ends-all (c .before .before .before .args .line) _ (c .before .loop .inv .1) (omega (arith, c .before .loop .inv .0, c .loop-test .left))
 
 pub free-in-time-spec : {M : Type 1} → statement M
 free-in-time-spec =

@@ -38,19 +38,19 @@ mul-train c = search needs
 
 element-copy-out-train : tie.Need-element-copy-out-train Inv-loop μ-loop
 element-copy-out-train c =
-    let a = c .before .before .before .before in
-    let x = c .before .before .loop .x in
-    let leg = leg-is (a .args .t1) (x % 176) _ (a .pre .trains .1) (omega arith) (c .before .before .before .directions-of .ensures) (c .if1 .taken) in
+    let a = c .before .before .before .before .before in
+    let x = c .before .before .before .loop .x in
+    let leg = leg-is (a .args .line) (x % 176) _ (a .pre .trains .1) (omega arith) (c .before .before .before .before .directions-of .ensures) (c .before .if1 .taken) in
     omega (arith, leg .0, a .pre .trains .1)
 
 leg-minute-requires : tie.Need-leg-minute-requires Inv-loop μ-loop
 leg-minute-requires c κs =
-    let a = c .before .before .before .before .before in
-    let x = c .before .before .before .loop .x in
-    let ds = c .before .before .before .before .directions-of .ensures in
-    let leg = leg-is (a .args .t1) (x % 176) _ (a .pre .trains .1) (omega arith) ds (c .before .if1 .taken) in
-    let size : length (a .args .t1 .trains) ≡ 12 = sym (length-map (a .args .t1 .trains) _) ∙ a .good .0 .1 .1 .1 .1 .1 .1 .0 .1 .0 .1 in
-    (within-any _ _ (train-within (a .args .t1) _ (a .pre) size (leg .0)) (a .pre .stations .1), c .before .before .loop-test .taken, leg .1)
+    let a = c .before .before .before .before .before .before in
+    let x = c .before .before .before .before .loop .x in
+    let ds = c .before .before .before .before .before .directions-of .ensures in
+    let leg = leg-is (a .args .line) (x % 176) _ (a .pre .trains .1) (omega arith) ds (c .before .before .if1 .taken) in
+    let size : length (a .args .line .traffic .trains) ≡ 12 = sym (length-map (a .args .line .traffic .trains) _) ∙ a .good .0 .1 .1 .1 .0 .1 .1 .1 .0 .1 .0 .1 in
+    (within-any _ _ (train-within (a .args .line) _ (a .pre) size (leg .0)) (a .pre .stations .1), c .before .before .before .loop-test .taken, leg .1)
 
 mul-minutes : tie.Need-mul-minutes Inv-loop μ-loop
 mul-minutes c = search needs
@@ -71,12 +71,12 @@ loop-again c =
     let x = w .x in
     let b = c .before .loop-test .taken in
     let minute = ⊎-elim
-    (λ h. h .3 ∙ h .2 .ensures ∙ minute-leg (a .args .t1) x
-    (leg-is (a .args .t1) (x % 176) _ (a .pre .trains .1) (omega arith) (c .before .before .before .directions-of .ensures) (h .0 .taken)))
-    (λ h. h .1 ∙ minute-none (a .args .t1) x
-    (leg-not (a .args .t1) (x % 176) _ (a .pre .trains .1) (omega arith) (c .before .before .before .directions-of .ensures) (h .0 .left)))
+    (λ h. h .4 ∙ h .3 .ensures ∙ minute-leg (a .args .line) x
+    (leg-is (a .args .line) (x % 176) _ (a .pre .trains .1) (omega arith) (c .before .before .before .directions-of .ensures) (h .0 .taken)))
+    (λ h. h .1 ∙ minute-none (a .args .line) x
+    (leg-not (a .args .line) (x % 176) _ (a .pre .trains .1) (omega arith) (c .before .before .before .directions-of .ensures) (h .0 .left)))
     (c .if1 .came) in
-    (omega arith, begun-more (freeEntry (a .args .t1)) 352 x _ _ (w .inv .1) b minute)
+    (omega arith, begun-more (freeEntry (a .args .line)) 352 x _ _ (w .inv .1) b minute)
 
 returns : tie.Need-returns Inv-loop μ-loop
 returns c = minutes-made _ _ _ (c .before .loop .inv .1) (omega (arith, c .before .loop .inv .0, c .loop-test .left))

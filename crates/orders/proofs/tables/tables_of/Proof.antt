@@ -45,20 +45,20 @@ mul-train c = search needs
 
 element-copy-out-train : tie.Need-element-copy-out-train Inv-loop μ-loop Inv-loop2 μ-loop2
 element-copy-out-train c =
-    let a = c .before .before .before .before .before in
-    let x = c .before .before .before .loop .x in
-    let leg = leg-is (a .args .t1) (x % 176) _ (a .pre .trains .1) (omega arith) (c .before .before .before .before .directions-of .ensures) (c .if1 .taken) in
+    let a = c .before .before .before .before .before .before in
+    let x = c .before .before .before .before .loop .x in
+    let leg = leg-is (a .args .line) (x % 176) _ (a .pre .trains .1) (omega arith) (c .before .before .before .before .before .directions-of .ensures) (c .before .if1 .taken) in
     omega (arith, leg .0, a .pre .trains .1)
 
 leg-entry-requires : tie.Need-leg-entry-requires Inv-loop μ-loop Inv-loop2 μ-loop2
 leg-entry-requires c κs =
-    let a = c .before .before .before .before .before .before in
-    let x = c .before .before .before .before .loop .x in
-    let ds = c .before .before .before .before .before .directions-of .ensures in
-    let leg = leg-is (a .args .t1) (x % 176) _ (a .pre .trains .1) (omega arith) ds (c .before .if1 .taken) in
-    let size : length (a .args .t1 .trains) ≡ 12 = sym (length-map (a .args .t1 .trains) _) ∙ a .good .0 .1 .1 .1 .1 .1 .1 .0 .1 .0 .1 in (
-      within-any _ _ (train-within (a .args .t1) _ (a .pre) size (leg .0)) (a .pre .stations .1),
-      omega (arith, c .before .before .before .loop-test .taken),
+    let a = c .before .before .before .before .before .before .before in
+    let x = c .before .before .before .before .before .loop .x in
+    let ds = c .before .before .before .before .before .before .directions-of .ensures in
+    let leg = leg-is (a .args .line) (x % 176) _ (a .pre .trains .1) (omega arith) ds (c .before .before .if1 .taken) in
+    let size : length (a .args .line .traffic .trains) ≡ 12 = sym (length-map (a .args .line .traffic .trains) _) ∙ a .good .0 .1 .1 .1 .0 .1 .1 .1 .0 .1 .0 .1 in (
+      within-any _ _ (train-within (a .args .line) _ (a .pre) size (leg .0)) (a .pre .stations .1),
+      omega (arith, c .before .before .before .before .loop-test .taken),
       omega arith,
       leg .1,
     )
@@ -83,12 +83,12 @@ loop-again c =
     let ds = c .before .before .before .before .directions-of .ensures in
     let few = a .pre .trains .1 in
     let entry = ⊎-elim
-    (λ h. h .3 ∙ h .2 .ensures ∙ leg-entry-is (a .args .t1) (w .x % 176) (w .x / 176) (omega arith)
-    (leg-is (a .args .t1) (w .x % 176) _ few (omega arith) ds (h .0 .taken)))
-    (λ h. h .1 ∙ c .before .no-leg-entry .ensures ∙ no-leg-is (a .args .t1) (w .x % 176) (w .x / 176) (omega arith)
-    (leg-not (a .args .t1) (w .x % 176) _ few (omega arith) ds (h .0 .left)))
+    (λ h. h .4 ∙ h .3 .ensures ∙ leg-entry-is (a .args .line) (w .x % 176) (w .x / 176) (omega arith)
+    (leg-is (a .args .line) (w .x % 176) _ few (omega arith) ds (h .0 .taken)))
+    (λ h. h .1 ∙ c .before .no-leg-entry .ensures ∙ no-leg-is (a .args .line) (w .x % 176) (w .x / 176) (omega arith)
+    (leg-not (a .args .line) (w .x % 176) _ few (omega arith) ds (h .0 .left)))
     (c .if1 .came) in
-    (omega arith, begun-more (entryAt (a .args .t1)) 1456 (w .x) _ _ (w .inv .1) (omega arith) entry)
+    (omega arith, begun-more (entryAt (a .args .line)) 1456 (w .x) _ _ (w .inv .1) (omega arith) entry)
 
 cast-segments : tie.Need-cast-segments Inv-loop μ-loop Inv-loop2 μ-loop2
 cast-segments c = search needs
@@ -97,7 +97,7 @@ sub-segments : tie.Need-sub-segments Inv-loop μ-loop Inv-loop2 μ-loop2
 sub-segments c = search needs
 
 loop2-holds : tie.Need-loop2-holds Inv-loop μ-loop Inv-loop2 μ-loop2
-loop2-holds c = (omega (arith, c .loop-test .left), omega (arith, c .before .loop .inv .0), c .before .loop .inv .1)
+loop2-holds c = (omega (arith, c .before .loop-test .left), omega (arith, c .before .before .loop .inv .0), c .before .before .loop .inv .1)
 
 sub-n : tie.Need-sub-n Inv-loop μ-loop Inv-loop2 μ-loop2
 sub-n c = search needs
@@ -128,14 +128,14 @@ loop2-less c = search needs
 
 loop2-again : tie.Need-loop2-again Inv-loop μ-loop Inv-loop2 μ-loop2
 loop2-again c =
-    let a = c .before .before .before .before .before .before in
+    let a = c .before .before .before .before .before .before .before in
     let w = c .before .before .loop2 in
     let b = c .before .loop2-test .taken in
     let entry = ⊎-elim
-    (λ h. h .3 ∙ h .2 .ensures ∙ segment-at (a .args .t1) (w .x) (w .inv .0) b (h .0 .taken))
-    (λ h. h .1 ∙ no-segment-at (a .args .t1) (w .x) (w .inv .0) b (h .0 .left))
+    (λ h. h .4 ∙ h .3 .ensures ∙ segment-at (a .args .line) (w .x) (w .inv .0) b (h .0 .taken))
+    (λ h. h .1 ∙ no-segment-at (a .args .line) (w .x) (w .inv .0) b (h .0 .left))
     (c .if2 .came) in
-    (omega arith, omega arith, begun-more (entryAt (a .args .t1)) 1456 (w .x) _ _ (w .inv .2) b entry)
+    (omega arith, omega arith, begun-more (entryAt (a .args .line)) 1456 (w .x) _ _ (w .inv .2) b entry)
 
 returns : tie.Need-returns Inv-loop μ-loop Inv-loop2 μ-loop2
 returns c = tables-made _ _ _ (c .before .loop2 .inv .2) (omega (arith, c .before .loop2 .inv .1, c .loop2-test .left))

@@ -28,9 +28,9 @@ returns-2 c = entry-none _ _ _ (λ h. omega (arith, h .1, c .before .legs-betwee
 
 segment-between-requires : tie.Need-segment-between-requires
 segment-between-requires c κs =
-    let a = c .before .before .before .before in
+    let a = c .before .before .before .before .before .before in
     let legs = c .before .legs-between .ensures in
-    let r = routed-leg (a .args .t1) (a .args .i) (a .pre) (omega (arith, c .before .before .before .if1 .left)) (omega (arith, legs, c .if2 .left)) in
+    let r = routed-leg (a .args .line) (a .args .i) (a .pre) (omega (arith, c .before .before .before .before .if1 .left)) (omega (arith, legs, c .if2 .left)) in
     (r .origin .0, r .origin .1, r .destination .0, r .destination .1, omega (arith, legs, c .if2 .left))
 
 mul-e : tie.Need-mul-e
@@ -44,10 +44,10 @@ cast-result c = search needs
 
 returns-3 : tie.Need-returns-3
 returns-3 c =
-    let a = c .before .before .before .before .before in
+    let a = c .before .before .before .before .before .before .before in
     let legs = c .before .before .legs-between .ensures in
     ap (λ (p : ℕ). 16 * p + a .args .i) (c .segment-between .ensures .0) ∙
-    entry-leg _ _ _ (omega (arith, c .before .before .before .before .if1 .left)) (omega (arith, legs, c .before .if2 .left))
+    entry-leg _ _ _ (omega (arith, c .before .before .before .before .before .if1 .left)) (omega (arith, legs, c .before .if2 .left))
 
 pub key-entry-spec : {M : Type 1} → statement M
 key-entry-spec =

@@ -17,22 +17,23 @@ use Rattle.rules.proofs.delay.weighted_delay.Statement.{statement}
 use Rattle.rules.proofs.delay.weighted_delay.Tie as tie
 
 abbrev Inv-loop : tie.InvT-loop
-Inv-loop m line n total₀ i₀ total i = (i ≤ n) × (total ≡ sum (cost line m) i) × (total ≤ 6487965 * i)
+Inv-loop line m n total₀ i₀ total i = (i ≤ n) × (total ≡ sum (cost line m) i) × (total ≤ 6487965 * i)
 
 abbrev μ-loop : tie.MeasureT-loop
-μ-loop m line n total₀ i₀ total i = n - i
+μ-loop line m n total₀ i₀ total i = n - i
 
 -- the train of this turn, which is within the limits
 within : (c : tie.After-train Inv-loop μ-loop) →
-    TrainWithin (c .before .before .before .before .args .t1 .«station_count»)
-    (train (c .before .before .before .before .args .t1) (c .before .before .loop .i))
+    TrainWithin (c .before .before .before .before .before .before .args .line .track .«station_count»)
+    (train (c .before .before .before .before .before .before .args .line) (c .before .before .before .loop .i))
 within c =
-    let a = c .before .before .before .before in
-    let size : length (a .args .t1 .trains) ≡ 12 = sym (length-map (a .args .t1 .trains) _) ∙ a .good .0 .1 .1 .1 .1 .1 .1 .0 .1 .0 .1 in
-    train-within (a .args .t1) (c .before .before .loop .i) (a .pre .0) size (c .before .loop-test .taken)
+    let a = c .before .before .before .before .before .before in
+    let size : length (a .args .line .traffic .trains) ≡ 12 = sym (length-map (a .args .line .traffic .trains) _) ∙ a .good .0 .1 .1 .1 .0 .1 .1 .1 .0 .1 .0 .1 in
+    train-within (a .args .line) (c .before .before .before .loop .i) (a .pre .0) size (c .before .before .loop-test .taken)
 
-path : (c : tie.After-train Inv-loop μ-loop) → Routed (train (c .before .before .before .before .args .t1) (c .before .before .loop .i))
-path c = routed-within _ _ (within c) (c .before .before .before .before .pre .0 .stations .1)
+path : (c : tie.After-train Inv-loop μ-loop) → Routed
+    (train (c .before .before .before .before .before .before .args .line) (c .before .before .before .loop .i))
+path c = routed-within _ _ (within c) (c .before .before .before .before .before .before .pre .0 .stations .1)
 
 -- a weight of at most 99 times a delay below 65,536
 most : (c : tie.After-wide2 Inv-loop μ-loop) →
@@ -46,8 +47,8 @@ cast-n c = search needs
 
 loop-holds : tie.Need-loop-holds Inv-loop μ-loop
 loop-holds c =
-    let a = c .before in
-    (omega arith, cost-start (a .args .t1) (now (a .args .m)), omega arith)
+    let a = c .before .before in
+    (omega arith, cost-start (a .args .line) (now (a .args .m)), omega arith)
 
 mul-train : tie.Need-mul-train Inv-loop μ-loop
 mul-train c = search needs
@@ -63,10 +64,10 @@ sub-last c = omega (arith, c .legs-between .ensures, legs-few _ (path (c .before
 
 arrival-of-requires : tie.Need-arrival-of-requires Inv-loop μ-loop
 arrival-of-requires c κs =
-    let a = c .before .before .before .before .before in (
+    let a = c .before .before .before .before .before .before .before in (
       path (c .before),
       a .pre .1,
-      omega (arith, c .before .before .loop-test .taken, a .pre .0 .trains),
+      omega (arith, c .before .before .before .loop-test .taken, a .pre .0 .trains),
       omega (arith, c .legs-between .ensures, legs-few _ (path (c .before))),
     )
 
@@ -87,12 +88,12 @@ mul-total c = omega (arith, most c)
 
 add-total : tie.Need-add-total Inv-loop μ-loop
 add-total c =
-    let a = c .before .before .before .before .before .before .before .before .before .before in
+    let a = c .before .before .before .before .before .before .before .before .before .before .before .before in
     omega (
       arith,
       most c,
-      c .before .before .before .before .before .before .before .before .loop .inv .2,
-      c .before .before .before .before .before .before .before .loop-test .taken,
+      c .before .before .before .before .before .before .before .before .before .loop .inv .2,
+      c .before .before .before .before .before .before .before .before .loop-test .taken,
       a .pre .0 .trains,
     )
 
@@ -104,28 +105,28 @@ loop-less c = search needs
 
 loop-again : tie.Need-loop-again Inv-loop μ-loop
 loop-again c =
-    let a = c .before .before .before .before .before .before .before .before .before in
-    let i = c .before .before .before .before .before .before .before .loop in
-    let here = c .before .before .before .before .before .before .loop-test .taken in
+    let a = c .before .before .before .before .before .before .before .before .before .before .before in
+    let i = c .before .before .before .before .before .before .before .before .loop in
+    let here = c .before .before .before .before .before .before .before .loop-test .taken in
     let last = c .before .before .wide .ensures .0 ∙ c .before .before .before .arrival-of .ensures in
     let legs = c .before .before .before .before .legs-between .ensures in
     ⊎-elim
     (λ w.
-    let late = cost-late (a .args .t1) (now (a .args .m)) (i .i) legs last (c .before .free-arrival .ensures) (w .1 .ensures .0) in (
+    let late = cost-late (a .args .line) (now (a .args .m)) (i .i) legs last (c .before .free-arrival .ensures) (w .1 .ensures .0) in (
       omega (arith, here),
-      w .2 ∙ sum-next (cost (a .args .t1) (now (a .args .m))) (i .i) (i .inv .1) late,
+      w .2 ∙ sum-next (cost (a .args .line) (now (a .args .m))) (i .i) (i .inv .1) late,
       omega (arith, w .2, i .inv .2, most (record { before = record { before = c .before; if1 = w .0 }; wide2 = w .1 })),
     ))
     (λ w.
-    let none = cost-none (a .args .t1) (now (a .args .m)) (i .i) legs last (c .before .free-arrival .ensures) (w .0 .left) in
-    let next = sum-next (cost (a .args .t1) (now (a .args .m))) (i .i) (i .inv .1) none in
+    let none = cost-none (a .args .line) (now (a .args .m)) (i .i) legs last (c .before .free-arrival .ensures) (w .0 .left) in
+    let next = sum-next (cost (a .args .line) (now (a .args .m))) (i .i) (i .inv .1) none in
     (omega (arith, here), omega (arith, w .1, next), omega (arith, w .1, i .inv .2)))
     (c .if1 .came)
 
 returns : tie.Need-returns Inv-loop μ-loop
 returns c =
-    let a = c .before .before .before in
-    cost-end (a .args .t1) (now (a .args .m)) (c .before .loop .inv .1) (omega arith)
+    let a = c .before .before .before .before in
+    cost-end (a .args .line) (now (a .args .m)) (c .before .loop .inv .1) (omega arith)
 
 pub weighted-delay-spec : {M : Type 1} → statement M
 weighted-delay-spec =

@@ -33,7 +33,7 @@ element-copy-out-train : tie.Need-element-copy-out-train Inv-loop2 μ-loop2 Inv-
 element-copy-out-train c = search needs
 
 loop2-holds : tie.Need-loop2-holds Inv-loop2 μ-loop2 Inv-loop μ-loop
-loop2-holds c = (filled-at _ _ _ _ (c .before .before .loop .inv .0) (omega arith), omega arith)
+loop2-holds c = (filled-at _ _ _ _ (c .before .before .before .loop .inv .0) (omega arith), omega arith)
 
 cast-e : tie.Need-cast-e Inv-loop2 μ-loop2 Inv-loop μ-loop
 cast-e c = search needs
@@ -62,7 +62,7 @@ loop2-less c = search needs
 loop2-again : tie.Need-loop2-again Inv-loop2 μ-loop2 Inv-loop μ-loop
 loop2-again c =
     let w = c .before .before .loop2 in
-    let entry = entry-is _ (w .p) (c .before .before .before .before .before .loop .i) (omega arith) (c .before .before .before .before .loop-test .taken) in
+    let entry = entry-is _ (w .p) (c .before .before .before .before .before .before .loop .i) (omega arith) (c .before .before .before .before .before .loop-test .taken) in
     (filled-more _ _ _ _ _ (w .inv .0) (omega arith) (omega arith) (c .direction-between .ensures ∙ sym entry), omega arith)
 
 add-i : tie.Need-add-i Inv-loop2 μ-loop2 Inv-loop μ-loop

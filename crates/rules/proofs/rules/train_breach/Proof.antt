@@ -14,18 +14,18 @@ use Rattle.rules.proofs.rules.train_breach.Statement.{statement}
 use Rattle.rules.proofs.rules.train_breach.Tie as tie
 
 abbrev Inv-loop : tie.InvT-loop
-Inv-loop rule m line n i₀ i = (i ≤ n) × EachBelow i (RuleKept rule line m)
+Inv-loop rule line m n i₀ i = (i ≤ n) × EachBelow i (RuleKept rule line m)
 
 abbrev μ-loop : tie.MeasureT-loop
-μ-loop rule m line n i₀ i = n - i
+μ-loop rule line m n i₀ i = n - i
 
 cast-n : tie.Need-cast-n Inv-loop μ-loop
 cast-n c = search needs
 
 loop-holds : tie.Need-loop-holds Inv-loop μ-loop
 loop-holds c =
-    let a = c .before in
-    (omega arith, below-none (RuleKept (a .args .rule) (a .args .t2) (now (a .args .m))))
+    let a = c .before .before in
+    (omega arith, below-none (RuleKept (a .args .rule) (a .args .line) (now (a .args .m))))
 
 mul-train : tie.Need-mul-train Inv-loop μ-loop
 mul-train c = search needs
@@ -35,21 +35,21 @@ element-copy-out-train c = search needs
 
 keeps-rule-requires : tie.Need-keeps-rule-requires Inv-loop μ-loop
 keeps-rule-requires c κs =
-    let a = c .before .before .before .before in
-    let size : length (a .args .t2 .trains) ≡ 12 = sym (length-map (a .args .t2 .trains) _) ∙ a .good .1 .0 .1 .1 .1 .1 .1 .1 .0 .1 .0 .1 in (
-      routed (a .args .t2) (c .before .before .loop .i) (a .pre .0) size (c .before .loop-test .taken),
+    let a = c .before .before .before .before .before .before in
+    let size : length (a .args .line .traffic .trains) ≡ 12 = sym (length-map (a .args .line .traffic .trains) _) ∙ a .good .1 .0 .1 .1 .1 .0 .1 .1 .1 .0 .1 .0 .1 in (
+      routed (a .args .line) (c .before .before .before .loop .i) (a .pre .0) size (c .before .before .loop-test .taken),
       a .pre .1,
-      omega (arith, c .before .loop-test .taken, a .pre .0 .trains),
+      omega (arith, c .before .before .loop-test .taken, a .pre .0 .trains),
     )
 
-add-t15 : tie.Need-add-t15 Inv-loop μ-loop
-add-t15 c = search needs
+add-t14 : tie.Need-add-t14 Inv-loop μ-loop
+add-t14 c = search needs
 
 returns : tie.Need-returns Inv-loop μ-loop
 returns c =
-    let a = c .before .before .before .before .before .before in
-    let i = c .before .before .before .before .loop in
-    breach-at (a .args .rule) (a .args .t2) (now (a .args .m)) (i .i) (c .before .before .before .loop-test .taken)
+    let a = c .before .before .before .before .before .before .before .before in
+    let i = c .before .before .before .before .before .loop in
+    breach-at (a .args .rule) (a .args .line) (now (a .args .m)) (i .i) (c .before .before .before .before .loop-test .taken)
     (sym (c .before .keeps-rule .ensures) ∙ not-true _ (c .if1 .taken)) (i .inv .1)
 
 add-i : tie.Need-add-i Inv-loop μ-loop
@@ -60,17 +60,17 @@ loop-less c = search needs
 
 loop-again : tie.Need-loop-again Inv-loop μ-loop
 loop-again c =
-    let a = c .before .before .before .before .before .before in
-    let i = c .before .before .before .before .loop in (
+    let a = c .before .before .before .before .before .before .before .before in
+    let i = c .before .before .before .before .before .loop in (
       omega arith,
-      below-more (RuleKept (a .args .rule) (a .args .t2) (now (a .args .m))) (i .i) (i .inv .1)
+      below-more (RuleKept (a .args .rule) (a .args .line) (now (a .args .m))) (i .i) (i .inv .1)
           (sym (c .before .keeps-rule .ensures) ∙ not-false _ (c .if1 .left)),
     )
 
 returns-2 : tie.Need-returns-2 Inv-loop μ-loop
 returns-2 c =
-    let a = c .before .before .before in
-    breach-none (a .args .rule) (a .args .t2) (now (a .args .m)) (λ j h. c .before .loop .inv .1 j (omega arith))
+    let a = c .before .before .before .before in
+    breach-none (a .args .rule) (a .args .line) (now (a .args .m)) (λ j h. c .before .loop .inv .1 j (omega arith))
 
 pub train-breach-spec : {M : Type 1} → statement M
 train-breach-spec =
@@ -83,7 +83,7 @@ train-breach-spec =
     mul-train
     element-copy-out-train
     keeps-rule-requires
-    add-t15
+    add-t14
     returns
     add-i
     loop-less

@@ -19,7 +19,7 @@ use Rattle.timetable.proofs.reading.train_lines.Tie as tie
 
 abbrev Inv-lines : tie.InvT-lines
 Inv-lines s line n at₀ cursor₀ i₀ at cursor i =
-    (trainsAt (n - i) line i at s cursor ≡ trainsAt (line .«train_count») line 0 (replicate 352 0) s cursor₀) × (i ≤ n) × Counted cursor
+    (trainsAt (n - i) line i at s cursor ≡ trainsAt (line .traffic .«train_count») line 0 (replicate 352 0) s cursor₀) × (i ≤ n) × Counted cursor
 
 abbrev μ-lines : tie.MeasureT-lines
 μ-lines s line n at₀ cursor₀ i₀ at cursor i = n - i
@@ -28,7 +28,7 @@ cast-n : tie.Need-cast-n Inv-lines μ-lines
 cast-n c = search needs
 
 lines-holds : tie.Need-lines-holds Inv-lines μ-lines
-lines-holds c = (rw sub-zero refl, omega arith, c .before .pre .1)
+lines-holds c = (rw sub-zero refl, omega arith, c .before .before .pre .1)
 
 mul-train : tie.Need-mul-train Inv-lines μ-lines
 mul-train c = search needs
@@ -38,11 +38,11 @@ element-copy-out-train c = search needs
 
 train-line-requires : tie.Need-train-line-requires Inv-lines μ-lines
 train-line-requires c κs =
-    let a = c .before .before .before .before in
-    let w = c .before .before .lines in
-    let left : w .i < a .args .t3 .«train_count» = omega (arith, w .inv .1, c .before .if1 .left) in
-    let size : length (a .args .t3 .trains) ≡ 12 = sym (length-map (a .args .t3 .trains) _) ∙ a .good .1 .1 .0 .1 .1 .1 .1 .1 .1 .0 .1 .0 .1 in
-    (routed (a .args .t3) (w .i) (a .pre .0) size left, omega (arith, left, a .pre .0 .trains), w .inv .2)
+    let a = c .before .before .before .before .before .before in
+    let w = c .before .before .before .lines in
+    let left : w .i < a .args .line .traffic .«train_count» = omega (arith, w .inv .1, c .before .before .if1 .left) in
+    let size : length (a .args .line .traffic .trains) ≡ 12 = sym (length-map (a .args .line .traffic .trains) _) ∙ a .good .1 .1 .0 .1 .1 .1 .0 .1 .1 .1 .0 .1 .0 .1 in
+    (routed (a .args .line) (w .i) (a .pre .0) size left, omega (arith, left, a .pre .0 .trains), w .inv .2)
 
 enum-known-ended : tie.Need-enum-known-ended Inv-lines μ-lines
 enum-known-ended c = search needs
@@ -58,10 +58,10 @@ lines-less c = search needs
 
 lines-again : tie.Need-lines-again Inv-lines μ-lines
 lines-again c =
-    let w = c .before .before .before .before .before .before .before .lines in
-    let l = c .before .before .before .before .before .before .before .before .before .args .t3 in
-    let k : l .«train_count» - w .i ≡ suc (l .«train_count» - (w .i + 1)) = omega
-    (arith, w .inv .1, c .before .before .before .before .before .before .if1 .left) in
+    let w = c .before .before .before .before .before .before .before .before .lines in
+    let l = c .before .before .before .before .before .before .before .before .before .before .before .args .line in
+    let k : l .traffic .«train_count» - w .i ≡ suc (l .traffic .«train_count» - (w .i + 1)) = omega
+    (arith, w .inv .1, c .before .before .before .before .before .before .before .if1 .left) in
     let train = sym (c .before .before .before .before .train-line .ensures) ∙ ended-told _ (c .before .before .ended .given .1) in
     let counted = part-counted _ _ (stands-legs _ Counted (keeps-counted _) _ _ _ _ _ _ (w .inv .2)) (c .before .before .before .before .train-line .ensures)
     (c .before .before .ended .given .1) in
@@ -70,15 +70,15 @@ lines-again c =
 returns : tie.Need-returns Inv-lines μ-lines
 returns c =
     let w = c .before .lines in
-    let l = c .before .before .before .args .t3 in
-    let k : l .«train_count» - w .i ≡ 0 = omega arith in
+    let l = c .before .before .before .before .args .line in
+    let k : l .traffic .«train_count» - w .i ≡ 0 = omega arith in
     sym (trains-done _ l _ _ _ _ k) ∙ w .inv .0
 
 returns-2 : tie.Need-returns-2 Inv-lines μ-lines
 returns-2 c =
-    let w = c .before .before .before .before .before .lines in
-    let l = c .before .before .before .before .before .before .before .args .t3 in
-    let k : l .«train_count» - w .i ≡ suc (l .«train_count» - (w .i + 1)) = omega (arith, w .inv .1, c .before .before .before .before .if1 .left) in
+    let w = c .before .before .before .before .before .before .lines in
+    let l = c .before .before .before .before .before .before .before .before .before .args .line in
+    let k : l .traffic .«train_count» - w .i ≡ suc (l .traffic .«train_count» - (w .i + 1)) = omega (arith, w .inv .1, c .before .before .before .before .before .if1 .left) in
     let train = sym (c .before .before .train-line .ensures) ∙ ended-told _ (c .enum-told .given .1) in
     ended-told _ (c .enum-told .given .1) ∙ sym (trains-refused _ l _ _ _ _ _ k train) ∙ w .inv .0
 

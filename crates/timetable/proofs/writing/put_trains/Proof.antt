@@ -16,11 +16,11 @@ use Rattle.timetable.proofs.writing.put_trains.Statement.{statement}
 use Rattle.timetable.proofs.writing.put_trains.Tie as tie
 
 abbrev Inv-loop : tie.InvT-loop
-Inv-loop out₀ start m line n at₀ i₀ out at i =
+Inv-loop out₀ start line m n at₀ i₀ out at i =
     Putting out₀ start (trainsText n line m 0 []) out at (trainsText (n - i) line m i []) × (i ≤ n)
 
 abbrev μ-loop : tie.MeasureT-loop
-μ-loop out₀ start m line n at₀ i₀ out at i = n - i
+μ-loop out₀ start line m n at₀ i₀ out at i = n - i
 
 cast-n : tie.Need-cast-n Inv-loop μ-loop
 cast-n c = search needs
@@ -36,14 +36,14 @@ element-copy-out-train c = search needs
 
 put-train-requires : tie.Need-put-train-requires Inv-loop μ-loop
 put-train-requires c κs =
-    let here = c .before .before .loop-test .taken in
-    let w = c .before .before .before .loop in
-    let a = c .before .before .before .before .before .before in
-    let size : length (a .args .t3 .trains) ≡ 12 = sym (length-map (a .args .t3 .trains) _) ∙ a .good .1 .1 .0 .1 .1 .1 .1 .1 .1 .0 .1 .0 .1 in (
-      routed (a .args .t3) (w .i) (a .pre .0) size here,
+    let here = c .before .before .before .loop-test .taken in
+    let w = c .before .before .before .before .loop in
+    let a = c .before .before .before .before .before .before .before .before in
+    let size : length (a .args .line .traffic .trains) ≡ 12 = sym (length-map (a .args .line .traffic .trains) _) ∙ a .good .1 .1 .0 .1 .1 .1 .0 .1 .1 .1 .0 .1 .0 .1 in (
+      routed (a .args .line) (w .i) (a .pre .0) size here,
       a .pre .1,
       omega (arith, here, a .pre .0 .trains),
-      train-room (a .args .t3) (now (a .args .m)) (a .args .t3 .«train_count») (w .i) (w .inv .0) here (a .pre .2),
+      train-room (a .args .line) (now (a .args .m)) (a .args .line .traffic .«train_count») (w .i) (w .inv .0) here (a .pre .2),
     )
 
 add-i : tie.Need-add-i Inv-loop μ-loop
@@ -54,10 +54,10 @@ loop-less c = search needs
 
 loop-again : tie.Need-loop-again Inv-loop μ-loop
 loop-again c =
-    let here = c .before .before .before .before .before .loop-test .taken in
-    let w = c .before .before .before .before .before .before .loop in
-    let a = c .before .before .before .before .before .before .before .before .before in
-    let step = next-train (a .args .t3) (now (a .args .m)) (a .args .t3 .«train_count») (w .i) here in
+    let here = c .before .before .before .before .before .before .loop-test .taken in
+    let w = c .before .before .before .before .before .before .before .loop in
+    let a = c .before .before .before .before .before .before .before .before .before .before .before in
+    let step = next-train (a .args .line) (now (a .args .m)) (a .args .line .traffic .«train_count») (w .i) here in
     (putting-step _ (w .inv .0) step (c .before .before .put-train .ensures), omega (arith, here))
 
 same-length : tie.Need-same-length Inv-loop μ-loop
@@ -66,8 +66,8 @@ same-length c = search needs
 returns : tie.Need-returns Inv-loop μ-loop
 returns c =
     let w = c .before .loop in
-    let a = c .before .before .before .before in
-    putting-end (w .inv .0) (no-train (a .args .t3) (now (a .args .m)) (a .args .t3 .«train_count») (w .i) (omega arith))
+    let a = c .before .before .before .before .before in
+    putting-end (w .inv .0) (no-train (a .args .line) (now (a .args .m)) (a .args .line .traffic .«train_count») (w .i) (omega arith))
 
 pub put-trains-spec : {M : Type 1} → statement M
 put-trains-spec =
