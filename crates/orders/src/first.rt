@@ -1,12 +1,12 @@
 // The plan without choices: each train alone on the line, from its earliest on.
 ghost use mathlib.Core.Path.{_≡_};
 ghost use Prim.Native.Nat.{_/_, _%_, _<_};
-ghost use Rattle.text.specs.Decide.{Decides};
+ghost use Rattle.finite.specs.Decide.{Decides};
 ghost use Rattle.line.specs.Within.{TrainWithin, Within};
-ghost use Rattle.rules.specs.Paths.{Uses};
-ghost use Rattle.rules.specs.Delay.{freeArrival};
-ghost use Rattle.orders.specs.Tables.{legOn};
-ghost use Rattle.orders.specs.FirstPlan.{legMinute, freeMinutes, FreeInTime, First};
+ghost use Rattle.rules.specs.Statement.Paths.{Uses};
+ghost use Rattle.rules.specs.Statement.Delay.{freeArrival};
+ghost use Rattle.orders.specs.LineTables.Tables.{legOn};
+ghost use Rattle.orders.specs.LeastMinutes.FirstPlan.{legMinute, freeMinutes, FreeInTime, IsFirstPlan};
 use crate::tables::free_after;
 use crate::tables::leg_on;
 use line::Line;
@@ -85,7 +85,7 @@ fn free_in_time(line: Line) -> bool
 
 pub fn first_minutes(line: Line) -> FirstPlan
     requires { ⌜ Within line ⌝ }
-    ensures { λ r. ⌜ First line r ⌝ }
+    ensures { λ r. ⌜ IsFirstPlan line r ⌝ }
 {
     let in_time = free_in_time(line);
     let minutes = free_minutes(line);

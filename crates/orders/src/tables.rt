@@ -5,30 +5,10 @@ ghost use lib.Dec.{eqb};
 ghost use lib.ListN.{length};
 ghost use Rattle.line.specs.Record.{legsOf};
 ghost use Rattle.line.specs.Within.{TrainWithin, Within};
-ghost use Rattle.rules.specs.Paths.{Uses};
-ghost use Rattle.rules.specs.Delay.{freeAfter};
-ghost use Rattle.orders.specs.Tables.{
-  runIn,
-  stopIn,
-  nextIn,
-  limitIn,
-  weightIn,
-  freeIn,
-  restIn,
-  lastIn,
-  sharedIn,
-  followingIn,
-  opposingIn,
-  legOn,
-  restOf,
-  stopAfter,
-  limitOf,
-  nextLeg,
-  lastLeg,
-  shares,
-  tablesOf,
-};
-ghost use Rattle.orders.specs.TableEntries.{legEntry, noLegEntry, segmentEntry};
+ghost use Rattle.rules.specs.Statement.Paths.{Uses};
+ghost use Rattle.rules.specs.Statement.Delay.{freeAfter};
+ghost use Rattle.orders.specs.LineTables.Tables.{runIn, stopIn, nextIn, limitIn, weightIn, freeIn, restIn, lastIn, sharedIn, followingIn, opposingIn, legOn, restOf, stopAfter, limitOf, nextLeg, lastLeg, shares, tablesOf};
+ghost use Rattle.orders.specs.LineTables.TableEntries.{legEntry, noLegEntry, segmentEntry};
 use line::Kind;
 use line::Line;
 use line::Segment;

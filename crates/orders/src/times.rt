@@ -4,8 +4,8 @@ ghost use mathlib.Core.Logic.{_⊎_};
 ghost use mathlib.Core.Bool.{true, false};
 ghost use Prim.Native.Nat.{_≤_, _<_};
 ghost use lib.ListN.{length};
-ghost use Rattle.orders.specs.Tables.{weightIn};
-ghost use Rattle.orders.specs.LegTimes.{Departs, Arrives, SourceRises, moreCost};
+ghost use Rattle.orders.specs.LineTables.Tables.{weightIn};
+ghost use Rattle.orders.specs.Raise.LegTimes.{Departs, Arrives, SourceRises, moreCost};
 use crate::tables::free_at;
 use crate::tables::weight_at;
 

@@ -3,7 +3,7 @@
 // one.
 ghost use mathlib.Core.Path.{_≡_};
 ghost use Rattle.line.specs.Within.{Within, Arrays};
-ghost use Rattle.solver.specs.Finding.{CanFind, Improves, Searches, Finds};
+ghost use Rattle.solver.specs.Search.Finding.{CanFind, MayImprove, Searches, Finds};
 use crate::drawing::drawn;
 use crate::neighbourhood::keep_orders;
 use crate::search::NO_LIMIT;
@@ -109,7 +109,7 @@ fn search_around(
     tally: Tally,
 ) -> Tally
     requires { ⌜ CanFind (now m) (now best) (now t) (now ds) (now key) layout cost tally ⌝ }
-    ensures { λ r. ⌜ Improves (now (m .entry)) (now (best .entry)) (now (t .entry)) (now (ds .entry)) (now (key .entry)) layout cost tally
+    ensures { λ r. ⌜ MayImprove (now (m .entry)) (now (best .entry)) (now (t .entry)) (now (ds .entry)) (now (key .entry)) layout cost tally
         (now (best .exit)) r ⌝ }
 {
     let b = afresh(tally);
@@ -173,7 +173,7 @@ fn search_near(
     tally: Tally,
 ) -> Tally
     requires { ⌜ CanFind (now m) (now best) (now t) (now ds) (now key) layout cost tally ⌝ }
-    ensures { λ r. ⌜ Improves (now (m .entry)) (now (best .entry)) (now (t .entry)) (now (ds .entry)) (now (key .entry)) layout cost tally
+    ensures { λ r. ⌜ MayImprove (now (m .entry)) (now (best .entry)) (now (t .entry)) (now (ds .entry)) (now (key .entry)) layout cost tally
         (now (best .exit)) r ⌝ }
 {
     let mut b = tally;
@@ -200,7 +200,7 @@ fn search_anew(
     tally: Tally,
 ) -> Tally
     requires { ⌜ CanFind (now m) (now best) (now t) (now ds) (now key) layout cost tally ⌝ }
-    ensures { λ r. ⌜ Improves (now (m .entry)) (now (best .entry)) (now (t .entry)) (now (ds .entry)) (now (key .entry)) layout cost tally
+    ensures { λ r. ⌜ MayImprove (now (m .entry)) (now (best .entry)) (now (t .entry)) (now (ds .entry)) (now (key .entry)) layout cost tally
         (now (best .exit)) r ⌝ }
 {
     let mut b = tally;

@@ -4,12 +4,12 @@ use mathlib.Core.Path.{_≡_}
 use mathlib.Core.Bool.{true, false}
 use mathlib.Core.List.{List}
 use Rattle.line.specs.declared.Line.{Line}
-use Rattle.rules.specs.Rules.{Lawful}
-use Rattle.rules.specs.Delay.{Best}
+use Rattle.rules.specs.Statement.Rules.{Lawful}
+use Rattle.rules.specs.Statement.Delay.{Best}
 use Rattle.walk.specs.declared.finding.Found.{Found}
 use Rattle.walk.specs.Walk.{walk}
-use Rattle.plans.specs.Planning.{planning}
-use Rattle.plans.specs.Tallies.{cutOff}
+use Rattle.plans.specs.Instance.Planning.{planning}
+use Rattle.plans.specs.Contracts.Tallies.{cutOff}
 
 pub record Finds (l : Line) (r : Found) : Type 0 where
   pub best : r .found ≡ true → Best l (r .minutes)

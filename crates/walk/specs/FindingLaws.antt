@@ -5,25 +5,25 @@ use mathlib.Core.Bool.{false}
 use mathlib.Core.List.{List}
 use native.Mathlib.Omega.{arith}
 use lib.ListN.{replicate}
-use Rattle.text.specs.Decide.{is-false}
+use Rattle.finite.specs.DecideLaws.{is-false}
 use Rattle.line.specs.declared.Line.{Line}
 use Rattle.line.specs.Within.{Within, Arrays}
-use Rattle.rules.specs.Paths.{EachTrain}
-use Rattle.rules.specs.Rules.{NotLate}
-use Rattle.orders.specs.NoLater.{slack}
-use Rattle.orders.specs.NoLaterLaws.{slack-most}
-use Rattle.orders.specs.Least.{Least, minutes, none, Fit, IsLeast}
-use Rattle.orders.specs.Marks.{free}
-use Rattle.orders.specs.Plans.{Keeps}
+use Rattle.rules.specs.Statement.Paths.{EachTrain}
+use Rattle.rules.specs.Statement.Rules.{NotLate}
+use Rattle.orders.specs.LeastMinutes.NoLater.{slack}
+use Rattle.orders.specs.LeastMinutes.NoLaterLaws.{slack-most}
+use Rattle.orders.specs.LeastMinutes.Least.{Least, minutes, none, Fit, IsLeast}
+use Rattle.orders.specs.Plan.Marks.{free}
+use Rattle.orders.specs.Plan.Plans.{Keeps}
 use Rattle.plans.specs.declared.tally.Tally.{Tally}
-use Rattle.plans.specs.BestSoFar.{BestSoFar, nothing, found}
+use Rattle.plans.specs.Theory.BestSoFar.{BestSoFar, nothing, found}
 use Rattle.walk.specs.Walk.{Walked, walk, plenty, takeUp}
 use Rattle.walk.specs.ProblemLaws.{least-found}
-use Rattle.plans.specs.Planning.{start, inTime, planning}
-use Rattle.plans.specs.PlanningLaws.{decides-inTime}
-use Rattle.plans.specs.LineSearched.{starts, planning-laws}
-use Rattle.walk.specs.Solved.{solved, unsolved}
-use Rattle.plans.specs.Tallies.{bestOf, cutOff}
+use Rattle.plans.specs.Instance.Planning.{start, inTime, planning}
+use Rattle.plans.specs.Instance.PlanningLaws.{decides-inTime}
+use Rattle.plans.specs.Instance.LineSearchedLaws.{starts, planning-laws}
+use Rattle.walk.specs.WalkBestLaws.{walk-best, walk-nothing}
+use Rattle.plans.specs.Contracts.Tallies.{bestOf, cutOff}
 use Rattle.walk.specs.Taking.{takenUp, planPart, Walks}
 use Rattle.walk.specs.TakingLaws.{taken-up, taken-none, taken-cut, taken-some}
 use Rattle.walk.specs.Finding.{Finds}
@@ -62,8 +62,8 @@ module _ (l : Line) (w : Within l) (a : Arrays l) where
         let all : y .steps + (takenUp (planning l) fuel free m (bestOf y best) .steps - 1) ≡ walk (planning l) .steps =
         omega (arith, one, some, ap (λ (x : Walked). x .steps) part) in
         record {
-          best = λ e. solved l w a best′ (sym best-is ∙ (rw e refl));
-          none = λ e. unsolved l w a (sym best-is ∙ (rw e refl));
+          best = λ e. walk-best l w a best′ (sym best-is ∙ (rw e refl));
+          none = λ e. walk-nothing l w a (sym best-is ∙ (rw e refl));
           steps = steps-are ∙ ap cutOff all;
         }
 
@@ -85,6 +85,6 @@ module _ (l : Line) (w : Within l) (a : Arrays l) where
     finds-nothing m =
         record {
           best = λ e. let z : _≡_ {A = ℕ} 0 1 = cc in absurd (omega arith);
-          none = λ e. unsolved l w a (ap (λ (x : Walked). x .best) walk-one);
+          none = λ e. walk-nothing l w a (ap (λ (x : Walked). x .best) walk-one);
           steps = ap cutOff (sym (ap (λ (x : Walked). x .steps) walk-one));
         }

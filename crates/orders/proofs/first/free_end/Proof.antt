@@ -2,9 +2,9 @@
 use Prim.Native.Nat.{ℕ, _-_}
 use mathlib.Core.Path.{_∙_, ap}
 use native.Mathlib.Omega.{arith}
-use Rattle.rules.specs.PathsLaws.{legs-few}
-use Rattle.rules.specs.Delay.{freeAfter}
-use Rattle.orders.specs.TablesLaws.{on-path}
+use Rattle.rules.specs.StatementLaws.PathsLaws.{legs-few}
+use Rattle.rules.specs.Statement.Delay.{freeAfter}
+use Rattle.orders.specs.LineTables.TablesLaws.{on-path}
 use borrow.Author.Needs.{needs}
 use Rattle.orders.proofs.first.free_end.Statement.{statement}
 use Rattle.orders.proofs.first.free_end.Tie as tie

@@ -3,9 +3,9 @@ use Prim.Native.Nat.{_-_, _≤_}
 use mathlib.Core.Path.{_≡_, sym, _∙_}
 use native.Mathlib.Omega.{arith}
 use lib.ListN.{length, length-map}
-use Rattle.rules.specs.PathsLaws.{train-within}
-use Rattle.orders.specs.TablesLaws.{within-any}
-use Rattle.orders.specs.FirstPlanLaws.{EndsBelow, ends-more, ends-late, ends-all}
+use Rattle.rules.specs.StatementLaws.PathsLaws.{train-within}
+use Rattle.orders.specs.LineTables.TablesLaws.{within-any}
+use Rattle.orders.specs.LeastMinutes.FirstPlanLaws.{EndsBelow, ends-more, ends-late, ends-all}
 use borrow.Author.Needs.{needs}
 use Rattle.orders.proofs.first.free_in_time.Statement.{statement}
 use Rattle.orders.proofs.first.free_in_time.Tie as tie

@@ -5,12 +5,12 @@ use mathlib.Core.Path.{_≡_, sym, _∙_}
 use mathlib.Core.Logic.{⊎-elim}
 use native.Mathlib.Omega.{arith}
 use lib.ListN.{length, length-map}
-use Rattle.rules.specs.PathsLaws.{train-within}
-use Rattle.orders.specs.FillLaws.{Begun, begun-none, begun-more}
-use Rattle.orders.specs.LegsLaws.{leg-is, leg-not}
-use Rattle.orders.specs.TablesLaws.{within-any}
-use Rattle.orders.specs.FirstPlan.{freeEntry}
-use Rattle.orders.specs.FirstPlanLaws.{minute-leg, minute-none, minutes-made}
+use Rattle.rules.specs.StatementLaws.PathsLaws.{train-within}
+use Rattle.orders.specs.LineTables.FillLaws.{Begun, begun-none, begun-more}
+use Rattle.orders.specs.Graph.LegsLaws.{leg-is, leg-not}
+use Rattle.orders.specs.LineTables.TablesLaws.{within-any}
+use Rattle.orders.specs.LeastMinutes.FirstPlan.{freeEntry}
+use Rattle.orders.specs.LeastMinutes.FirstPlanLaws.{minute-leg, minute-none, minutes-made}
 use borrow.Author.Needs.{needs}
 use Rattle.orders.proofs.first.free_minutes.Statement.{statement}
 use Rattle.orders.proofs.first.free_minutes.Tie as tie

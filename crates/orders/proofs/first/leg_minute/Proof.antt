@@ -1,8 +1,8 @@
 -- `orders::first::leg_minute` meets its contract: a run is no longer than the free arrival after it (`run-free`). Assumes nothing.
 use native.Mathlib.Omega.{arith}
-use Rattle.rules.specs.PathsLaws.{legs-few}
-use Rattle.orders.specs.TablesLaws.{on-path}
-use Rattle.orders.specs.FirstPlanLaws.{run-free, minute-departs, minute-arrives}
+use Rattle.rules.specs.StatementLaws.PathsLaws.{legs-few}
+use Rattle.orders.specs.LineTables.TablesLaws.{on-path}
+use Rattle.orders.specs.LeastMinutes.FirstPlanLaws.{run-free, minute-departs, minute-arrives}
 use borrow.Author.Needs.{needs}
 use Rattle.orders.proofs.first.leg_minute.Statement.{statement}
 use Rattle.orders.proofs.first.leg_minute.Tie as tie

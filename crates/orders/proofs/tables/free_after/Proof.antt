@@ -2,10 +2,10 @@
 use Prim.Native.Nat.{_+_, _-_, _≤_}
 use mathlib.Core.Path.{_≡_, refl, _∙_, ap}
 use native.Mathlib.Omega.{arith}
-use Rattle.rules.specs.Delay.{freeAfter}
-use Rattle.rules.specs.PathsLaws.{legs-few}
-use Rattle.rules.specs.RulesLaws.{free-start, free-next}
-use Rattle.orders.specs.TablesLaws.{on-path, run-most, stop-most, free-most}
+use Rattle.rules.specs.Statement.Delay.{freeAfter}
+use Rattle.rules.specs.StatementLaws.PathsLaws.{legs-few}
+use Rattle.rules.specs.Check.RulesLaws.{free-start, free-next}
+use Rattle.orders.specs.LineTables.TablesLaws.{on-path, run-most, stop-most, free-most}
 use borrow.Author.Needs.{needs}
 use Rattle.orders.proofs.tables.free_after.Statement.{statement}
 use Rattle.orders.proofs.tables.free_after.Tie as tie

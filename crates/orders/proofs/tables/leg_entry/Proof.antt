@@ -2,19 +2,8 @@
 use Prim.Native.Nat.{_≤_, _<_}
 use mathlib.Core.Path.{_∙_}
 use native.Mathlib.Omega.{arith}
-use Rattle.rules.specs.PathsLaws.{legs-few}
-use Rattle.orders.specs.TablesLaws.{
-  on-path,
-  entry-run,
-  entry-stop,
-  entry-next,
-  entry-limit,
-  entry-rest,
-  entry-last,
-  entry-middle,
-  entry-weight,
-  entry-free,
-}
+use Rattle.rules.specs.StatementLaws.PathsLaws.{legs-few}
+use Rattle.orders.specs.LineTables.TablesLaws.{on-path, entry-run, entry-stop, entry-next, entry-limit, entry-rest, entry-last, entry-middle, entry-weight, entry-free}
 use borrow.Author.Needs.{needs}
 use Rattle.orders.proofs.tables.leg_entry.Statement.{statement}
 use Rattle.orders.proofs.tables.leg_entry.Tie as tie

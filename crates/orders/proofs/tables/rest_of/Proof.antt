@@ -2,9 +2,9 @@
 use Prim.Native.Nat.{_+_, _-_, _≤_}
 use mathlib.Core.Path.{_≡_, _∙_, ap}
 use native.Mathlib.Omega.{arith}
-use Rattle.rules.specs.PathsLaws.{legs-few}
-use Rattle.orders.specs.Tables.{restOf}
-use Rattle.orders.specs.TablesLaws.{on-path, rest-most, rest-start, rest-next}
+use Rattle.rules.specs.StatementLaws.PathsLaws.{legs-few}
+use Rattle.orders.specs.LineTables.Tables.{restOf}
+use Rattle.orders.specs.LineTables.TablesLaws.{on-path, rest-most, rest-start, rest-next}
 use borrow.Author.Needs.{needs}
 use Rattle.orders.proofs.tables.rest_of.Statement.{statement}
 use Rattle.orders.proofs.tables.rest_of.Tie as tie

@@ -1,6 +1,6 @@
 -- `orders::tables::stop_after` meets its contract. Assumes nothing.
 use mathlib.Core.Path.{sym, _∙_}
-use Rattle.orders.specs.TablesLaws.{stop-last, stop-on}
+use Rattle.orders.specs.LineTables.TablesLaws.{stop-last, stop-on}
 use borrow.Author.Needs.{needs}
 use Rattle.orders.proofs.tables.stop_after.Statement.{statement}
 use Rattle.orders.proofs.tables.stop_after.Tie as tie

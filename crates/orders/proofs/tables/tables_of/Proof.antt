@@ -5,10 +5,10 @@ use mathlib.Core.Path.{_≡_, sym, _∙_}
 use mathlib.Core.Logic.{⊎-elim}
 use native.Mathlib.Omega.{arith}
 use lib.ListN.{length, length-map}
-use Rattle.rules.specs.PathsLaws.{train-within}
-use Rattle.orders.specs.FillLaws.{Begun, begun-none, begun-more}
-use Rattle.orders.specs.LegsLaws.{leg-is, leg-not}
-use Rattle.orders.specs.TablesLaws.{within-any, leg-entry-is, no-leg-is, entryAt, tables-made, segment-at, no-segment-at}
+use Rattle.rules.specs.StatementLaws.PathsLaws.{train-within}
+use Rattle.orders.specs.LineTables.FillLaws.{Begun, begun-none, begun-more}
+use Rattle.orders.specs.Graph.LegsLaws.{leg-is, leg-not}
+use Rattle.orders.specs.LineTables.TablesLaws.{within-any, leg-entry-is, no-leg-is, entryAt, tables-made, segment-at, no-segment-at}
 use borrow.Author.Needs.{needs}
 use Rattle.orders.proofs.tables.tables_of.Statement.{statement}
 use Rattle.orders.proofs.tables.tables_of.Tie as tie

@@ -5,8 +5,8 @@ use mathlib.Core.Path.{_≡_, refl, _∙_, ap}
 use native.Mathlib.Omega.{arith}
 use borrow.Author.Needs.{needs}
 use Rattle.line.specs.declared.Train.{Train}
-use Rattle.rules.specs.Delay.{freeAfter}
-use Rattle.rules.specs.RulesLaws.{free-start, free-step}
+use Rattle.rules.specs.Statement.Delay.{freeAfter}
+use Rattle.rules.specs.Check.RulesLaws.{free-start, free-step}
 use Rattle.rules.proofs.delay.free_arrival.Statement.{statement}
 use Rattle.rules.proofs.delay.free_arrival.Tie as tie
 

@@ -3,8 +3,8 @@
 use native.Mathlib.Omega.{arith}
 use denote.Ref.{now}
 use borrow.Author.Needs.{needs}
-use Rattle.rules.specs.PathsLaws.{legs-few}
-use Rattle.rules.specs.RulesLaws.{keeps-start, keeps-runs, keeps-stops, keeps-end}
+use Rattle.rules.specs.StatementLaws.PathsLaws.{legs-few}
+use Rattle.rules.specs.Check.RulesLaws.{keeps-start, keeps-runs, keeps-stops, keeps-end}
 use Rattle.rules.proofs.rules.keeps_rule.Statement.{statement}
 use Rattle.rules.proofs.rules.keeps_rule.Tie as tie
 
