@@ -1,4 +1,5 @@
--- The text of a line within the limits is short: a number and the byte after it take at most five bytes, and there are few of them.
+-- The text of a line within the limits is short: a number and the byte after it take at most five bytes, three where it is below 100, and there are few of
+-- them.
 use Prim.Native.Nat.{ℕ, zero, suc, _+_, _-_, _*_, _≤_, _<_}
 use mathlib.Core.List.{List, [], _∷_}
 use native.Mathlib.Omega.{arith}
@@ -22,19 +23,26 @@ use Rattle.line.specs.Within.{SegmentWithin, TrainWithin, Within}
 pub field-length : (n b m : ℕ) (rest : List ℕ) → n < 10000 → length rest ≤ m → length (field n b rest) ≤ m + 5
 field-length n b m rest small h = omega (arith, length-append (digits n) (b ∷ rest), digits-length 3 n (omega arith))
 
-station-length : (t : ℕ) → In tracks t → (m : ℕ) (rest : List ℕ) → length rest ≤ m → length (stationText t rest) ≤ m + 5
-station-length t w m rest h = field-length t 10 m rest (omega arith) h
+-- a number below 1,000, and one below 100
+pub field-middle : (n b m : ℕ) (rest : List ℕ) → n < 1000 → length rest ≤ m → length (field n b rest) ≤ m + 4
+field-middle n b m rest small h = omega (arith, length-append (digits n) (b ∷ rest), digits-length 2 n (omega arith))
 
-segment-length : (g : Segment) → SegmentWithin g → (m : ℕ) (rest : List ℕ) → length rest ≤ m → length (segmentText g rest) ≤ m + 12
+pub field-short : (n b m : ℕ) (rest : List ℕ) → n < 100 → length rest ≤ m → length (field n b rest) ≤ m + 3
+field-short n b m rest small h = omega (arith, length-append (digits n) (b ∷ rest), digits-length 1 n (omega arith))
+
+station-length : (t : ℕ) → In tracks t → (m : ℕ) (rest : List ℕ) → length rest ≤ m → length (stationText t rest) ≤ m + 3
+station-length t w m rest h = field-short t 10 m rest (omega arith) h
+
+segment-length : (g : Segment) → SegmentWithin g → (m : ℕ) (rest : List ℕ) → length rest ≤ m → length (segmentText g rest) ≤ m + 8
 segment-length g w m rest h =
-    let gaps : length (field (g .following) 32 (field (g .opposing) 10 rest)) ≤ m + 5 + 5 =
-    field-length (g .following) 32 _ _ (omega (arith, w .following)) (
-    field-length (g .opposing) 10 m rest (omega (arith, w .opposing)) h
+    let gaps : length (field (g .following) 32 (field (g .opposing) 10 rest)) ≤ m + 3 + 3 =
+    field-short (g .following) 32 _ _ (omega (arith, w .following)) (
+    field-short (g .opposing) 10 m rest (omega (arith, w .opposing)) h
     ) in
     omega arith
 
 -- the first of the runs left, or 0
-first-run : (rs : List ℕ) → Each (In run) rs → getD rs 0 0 < 10000
+first-run : (rs : List ℕ) → Each (In run) rs → getD rs 0 0 < 1000
 first-run [] e = omega arith
 first-run (r ∷ rs) e = omega (arith, e .0)
 
@@ -43,24 +51,24 @@ other-runs [] e = tt
 other-runs (r ∷ rs) e = e .1
 
 journey-length : (ts rs : List ℕ) → Each (In stop) ts → Each (In run) rs → (m : ℕ) (rest : List ℕ) → length rest ≤ m →
-    length (journeyText ts rs rest) ≤ m + 5 + 10 * length ts
-journey-length [] rs s r m rest h = omega (arith, field-length (getD rs 0 0) 10 m rest (first-run rs r) h)
+    length (journeyText ts rs rest) ≤ m + 4 + 8 * length ts
+journey-length [] rs s r m rest h = omega (arith, field-middle (getD rs 0 0) 10 m rest (first-run rs r) h)
 journey-length (t ∷ ts) rs s r m rest h =
-    let leg : length (journeyText (t ∷ ts) rs rest) ≤ m + 5 + 10 * length ts + 5 + 5 =
-    field-length (getD rs 0 0) 32 _ _ (first-run rs r) (
-    field-length t 32 _ _ (omega (arith, s .0)) (
+    let leg : length (journeyText (t ∷ ts) rs rest) ≤ m + 4 + 8 * length ts + 4 + 4 =
+    field-middle (getD rs 0 0) 32 _ _ (first-run rs r) (
+    field-middle t 32 _ _ (omega (arith, s .0)) (
     journey-length ts (drop 1 rs) (s .1) (other-runs rs r) m rest h
     )) in
     omega arith
 
-train-length : (n : ℕ) → n ≤ 12 → (t : Train) → TrainWithin n t → (m : ℕ) (rest : List ℕ) → length rest ≤ m → length (trainText t rest) ≤ m + 130
+train-length : (n : ℕ) → n ≤ 12 → (t : Train) → TrainWithin n t → (m : ℕ) (rest : List ℕ) → length rest ≤ m → length (trainText t rest) ≤ m + 103
 train-length n few t w m rest h =
-    let head : length (trainText t rest) ≤ m + 5 + 10 * length (stopsOf t) + 5 + 5 + 5 + 5 + 5 =
-    field-length (t .origin) 32 _ _ (omega (arith, w .origin)) (
-    field-length (t .destination) 32 _ _ (omega (arith, w .destination)) (
+    let head : length (trainText t rest) ≤ m + 4 + 8 * length (stopsOf t) + 3 + 5 + 5 + 3 + 3 =
+    field-short (t .origin) 32 _ _ (omega (arith, w .origin)) (
+    field-short (t .destination) 32 _ _ (omega (arith, w .destination)) (
     field-length (t .earliest) 32 _ _ (omega (arith, w .earliest)) (
     field-length (t .latest) 32 _ _ (omega (arith, w .latest)) (
-    field-length (t .weight) 32 _ _ (omega (arith, w .weight)) (
+    field-short (t .weight) 32 _ _ (omega (arith, w .weight)) (
     journey-length (stopsOf t) (runsOf t) (w .stops) (w .runs) m rest h
     ))))) in
     omega (arith, length-take (legsOf t - 1) (t .stops), train-path n few t w .1)
@@ -75,17 +83,21 @@ module _ {A : Type 0} (P : A → Type 0) (text : A → List ℕ → List ℕ) (k
   each-length (suc n) (x ∷ xs) e m rest h =
       omega (arith, suc-mul n k, short x (e .0) (m + n * k) (eachThen text (take n xs) rest) (each-length n xs (e .1) m rest h))
 
--- the text of a line within the limits has at most 4,096 bytes
-pub text-fits : (l : Line) → Within l → length (textOf l) ≤ 4096
+-- the text of a line within the limits has at most 1,369 bytes
+pub text-length : (l : Line) → Within l → length (textOf l) ≤ 1369
 unfolding textOf
-text-fits l w =
+text-length l w =
     let n = l .track .«station_count» in
-    let size : length (textOf l) ≤ 0 + l .traffic .«train_count» * 130 + 5 + (n - 1) * 12 + 5 + n * 5 + 5 =
-    field-length n 10 _ _ (omega (arith, w .stations)) (
-    each-length (In tracks) stationText 5 station-length n (l .track .tracks) (w .tracks) _ _ (
-    field-length (n - 1) 10 _ _ (omega (arith, w .stations)) (
-    each-length SegmentWithin segmentText 12 segment-length (n - 1) (l .track .segments) (w .segments) _ _ (
-    field-length (l .traffic .«train_count») 10 _ _ (omega (arith, w .trains)) (
-    each-length (TrainWithin n) trainText 130 (train-length n (w .stations .1)) (l .traffic .«train_count») (l .traffic .trains) (w .each-train) 0 [] (omega arith)
+    let size : length (textOf l) ≤ 0 + l .traffic .«train_count» * 103 + 3 + (n - 1) * 8 + 3 + n * 3 + 3 =
+    field-short n 10 _ _ (omega (arith, w .stations)) (
+    each-length (In tracks) stationText 3 station-length n (l .track .tracks) (w .tracks) _ _ (
+    field-short (n - 1) 10 _ _ (omega (arith, w .stations)) (
+    each-length SegmentWithin segmentText 8 segment-length (n - 1) (l .track .segments) (w .segments) _ _ (
+    field-short (l .traffic .«train_count») 10 _ _ (omega (arith, w .trains)) (
+    each-length (TrainWithin n) trainText 103 (train-length n (w .stations .1)) (l .traffic .«train_count») (l .traffic .trains) (w .each-train) 0 [] (omega arith)
     ))))) in
     omega (arith, w .stations, w .trains)
+
+-- so 4,096 lent bytes always suffice
+pub text-fits : (l : Line) → Within l → length (textOf l) ≤ 4096
+text-fits l w = omega (arith, text-length l w)

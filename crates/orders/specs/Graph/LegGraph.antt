@@ -106,7 +106,7 @@ abbrev pub legGraph : List ℕ → List ℕ → List ℕ → Graph
 legGraph marks t ds =
     record {
       Arc = LegArc;
-      UsedArc = UsedArc marks t ds;
+      Used = UsedArc marks t ds;
       from = fromLeg marks t ds;
       to = toLeg marks t ds;
       wait = waitLeg marks t ds;

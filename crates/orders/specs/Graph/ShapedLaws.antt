@@ -19,7 +19,7 @@ use Rattle.orders.specs.Plan.TidyPlans.{Fitting, Tidy}
 use Rattle.orders.specs.LineTables.Tables.{nextIn, restIn, lastIn, restOf, tablesOf}
 use Rattle.orders.specs.LineTables.TableLegsLaws.{tables-size, run-in, run-at, stop-at, next-last, next-at, rest-at, last-at, run-most, stop-most, limit-most, weight-most, gap-most}
 use Rattle.orders.specs.LineTables.TablesLaws.{within-any, on-path, rest-start, rest-on}
-use Rattle.orders.specs.TablesLaws as tables
+use Rattle.orders.specs.LineTables.TablesLaws as tables
 use Rattle.orders.specs.Graph.LegGraph.{stationOf, leaving, Ends, GoesOn, Shaped}
 use Rattle.orders.specs.Graph.LegsLaws.{LegOf, train-leg, by-leg}
 use Rattle.orders.specs.Graph.LegChoices.{segmentChoice, stationChoice}
