@@ -78,7 +78,7 @@ module _ {t entry exit : List ℕ} {r : Written} (lent : Lent (Spelling.text t) 
 not-length : {n m p : ℕ} → Written.Length n ≡ Written.Refused m p → ⊥
 not-length e = let z : _≡_ {A = ℕ} 0 1 = cc in omega arith
 
--- ---- the theorems, of a file that was walk-best
+-- ---- the theorems, of a file that was solved
 
 module _ (file entry exit : List ℕ) (r : Written) (solving : Solving file entry exit r) where
   module _ (l : Line) (c : Cursor) (accepted : lineFile file ≡ Parsed.got l c) where
