@@ -1,9 +1,10 @@
 -- Places: what going past a byte keeps, every part of the line file keeps (`KeepsPassing`, `HoldsOn`). So the cursor at which each section, line and field
 -- starts stands on its line, and a refusal by 2, 3 or 4 names the line on which the refused field began (`refused-on`): one more than the line feeds
--- before it.
+-- before it. So the number and the place of a refused file have their bounds (`file-refusal`).
 use Prim.Native.Nat.{ℕ, zero, suc, _-_, _≤_}
 use mathlib.Core.Path.{_≡_, refl, sym, ap, _∙_}
 use mathlib.Core.List.{List}
+use native.Mathlib.Decide.{decLe}
 use native.Mathlib.Omega.{arith}
 use lib.Dec.{ltb, eqb}
 use lib.ListN.{length}
@@ -15,9 +16,10 @@ use Rattle.text.specs.Reading.Choice.{onStep}
 use Rattle.text.specs.Reading.Bytes.{byteAt, ahead, pastOf}
 use Rattle.text.specs.Reading.Parsed.{Parsed, lines}
 use Rattle.text.specs.Reading.Told.{toldEnding}
-use Rattle.text.specs.Places.Lines.{LineAt, Counted, HoldsOn, OnLine}
-use Rattle.text.specs.Places.LinesLaws.{KeepsPassing, keeps-line, keeps-counted, line-first, stood-line, stands-got, stands-bad, stands-then, stands-test, ahead-keeps, past-keeps, stands-ranged, stands-many}
+use Rattle.text.specs.Places.Lines.{LineAt, Counted, Stood, HoldsOn, AnyNumber, OnLine}
+use Rattle.text.specs.Places.LinesLaws.{KeepsPassing, keeps-line, keeps-counted, line-first, stood-line, line-most, stands-got, stands-bad, stands-then, stands-test, ahead-keeps, past-keeps, stands-ranged, stands-many}
 use Rattle.line.specs.declared.Kind.{Kind}
+use Rattle.line.specs.declared.Line.{Line}
 use Rattle.line.specs.declared.reading.Letter.{Letter}
 use Rattle.line.specs.declared.reading.KindField.{KindField}
 use Rattle.line.specs.Ranges.{stationCount, tracks, gap, trainCount, station, time, weight, run, stop}
@@ -25,7 +27,7 @@ use Rattle.line.specs.Record.{noSegment, noTrain, legsBetween}
 use Rattle.line.specs.Spell.{letterByte}
 use Rattle.line.specs.File.{number, sectionAt, stationLine, stationSection, letterOf, onLetter, kindAt, toldKind, segmentLine, segmentSection, joins, pathAt, headAt, journeyAt, trainLine, trainSection, lineAt, lineFile}
 use Rattle.line.specs.FileLaws.{letter-byte}
-use Rattle.line.specs.SectionLaws.{file-first, file-short}
+use Rattle.line.specs.SectionLaws.{file-first, file-long, file-short}
 
 -- a kind's letter is no line feed
 letter-other : (k : Kind) → letterByte k ≡ 10 → ⊥
@@ -33,110 +35,146 @@ letter-other Kind.S e = omega arith
 letter-other Kind.F e = omega arith
 letter-other Kind.D e = omega arith
 
-module _ (s : List ℕ) (P : Cursor → Type 0) (k : KeepsPassing s P) where
-  stands-number : (r : Limits) (b : ℕ) (c : Cursor) → P c → HoldsOn P (number r b s c)
-  stands-number r b c h = stands-ranged s P k 2 3 (r .min) (r .max) b c h
+-- Q holds of the numbers by which a part of the line file can be refused
+pub record LineNumbers (Q : ℕ → Type 0) : Type 0 where
+  pub form : Q 2
+  pub range : Q 3
+  pub path : Q 4
+
+pub any-line-number : LineNumbers AnyNumber
+any-line-number = record { form = tt; range = tt; path = tt }
+
+module _ (s : List ℕ) (P : Cursor → Type 0) (k : KeepsPassing s P) (Q : ℕ → Type 0) (q : LineNumbers Q) where
+  stands-number : (r : Limits) (b : ℕ) (c : Cursor) → P c → HoldsOn P Q (number r b s c)
+  stands-number r b c h = stands-ranged s P k Q 2 3 (r .min) (r .max) b (q .form) (q .range) c h
 
   pub letter-keeps : (c : Cursor) (x : Kind) → letterOf (byteAt s c) ≡ Letter.Found x → P c → P (ahead c)
   letter-keeps c x e h = ahead-keeps s P k c (λ z. letter-other x (sym (letter-byte (byteAt s c) x e) ∙ z)) h
 
-  pub stands-kind : (c : Cursor) → P c → HoldsOn P (kindAt s c)
+  pub stands-kind : (c : Cursor) → P c → HoldsOn P Q (kindAt s c)
   unfolding kindAt
   stands-kind c h = go (letterOf (byteAt s c)) refl
     where
-      step : (x : Kind) → P (ahead c) → (y : Step) → pastOf s (ahead c) 32 ≡ y → HoldsOn P (onStep y (λ next. Parsed.got x next) (Parsed.bad 2 (c .line)))
+      step : (x : Kind) → P (ahead c) → (y : Step) → pastOf s (ahead c) 32 ≡ y → HoldsOn P Q (onStep y (λ next. Parsed.got x next) (Parsed.bad 2 (c .line)))
       step x w (Step.Next next) e = past-keeps s P k (ahead c) 32 next w e
-      step x w Step.Wrong e = record { cursor = c; keeps = h; line = refl }
+      step x w Step.Wrong e = record { cursor = c; keeps = h; line = refl; number = q .form }
 
       go : (x : Letter) → letterOf (byteAt s c) ≡ x →
-          HoldsOn P (onLetter x (λ m. onStep (pastOf s (ahead c) 32) (λ next. Parsed.got m next) (Parsed.bad 2 (c .line))) (Parsed.bad 2 (c .line)))
+          HoldsOn P Q (onLetter x (λ m. onStep (pastOf s (ahead c) 32) (λ next. Parsed.got m next) (Parsed.bad 2 (c .line))) (Parsed.bad 2 (c .line)))
       go (Letter.Found x) e = step x (letter-keeps c x e h) (pastOf s (ahead c) 32) refl
-      go Letter.Other e = record { cursor = c; keeps = h; line = refl }
+      go Letter.Other e = record { cursor = c; keeps = h; line = refl; number = q .form }
 
-  pub stands-segment : (c : Cursor) → P c → HoldsOn P (segmentLine s c)
+  pub stands-segment : (c : Cursor) → P c → HoldsOn P Q (segmentLine s c)
   unfolding segmentLine
   stands-segment c h =
-      stands-then P (kindAt s c) _ (stands-kind c h)
-      (λ x c₁ h₁. stands-then P (number gap 32 s c₁) _ (stands-number gap 32 c₁ h₁)
-      (λ f c₂ h₂. stands-then P (number gap 10 s c₂) _ (stands-number gap 10 c₂ h₂)
+      stands-then P Q (kindAt s c) _ (stands-kind c h)
+      (λ x c₁ h₁. stands-then P Q (number gap 32 s c₁) _ (stands-number gap 32 c₁ h₁)
+      (λ f c₂ h₂. stands-then P Q (number gap 10 s c₂) _ (stands-number gap 10 c₂ h₂)
       (λ o c₃ h₃. h₃)))
 
-  pub stands-path : (n : ℕ) (c : Cursor) → P c → HoldsOn P (pathAt n s c)
+  pub stands-path : (n : ℕ) (c : Cursor) → P c → HoldsOn P Q (pathAt n s c)
   unfolding pathAt
   stands-path n c h =
-      stands-then P (number (station n) 32 s c) _ (stands-number (station n) 32 c h)
-      (λ o c₁ h₁. stands-then P (number (station n) 32 s c₁) _ (stands-number (station n) 32 c₁ h₁)
-      (λ d c₂ h₂. stands-test P (eqb d o) 4 c₁ (Parsed.got (record { origin = o; destination = d }) c₂) h₁ h₂))
+      stands-then P Q (number (station n) 32 s c) _ (stands-number (station n) 32 c h)
+      (λ o c₁ h₁. stands-then P Q (number (station n) 32 s c₁) _ (stands-number (station n) 32 c₁ h₁)
+      (λ d c₂ h₂. stands-test P Q (eqb d o) 4 c₁ (Parsed.got (record { origin = o; destination = d }) c₂) (q .path) h₁ h₂))
 
-  pub stands-head : (n : ℕ) (c : Cursor) → P c → HoldsOn P (headAt n s c)
+  pub stands-head : (n : ℕ) (c : Cursor) → P c → HoldsOn P Q (headAt n s c)
   unfolding headAt
   stands-head n c h =
-      stands-then P (pathAt n s c) _ (stands-path n c h)
-      (λ path c₁ h₁. stands-then P (number time 32 s c₁) _ (stands-number time 32 c₁ h₁)
-      (λ e c₂ h₂. stands-then P (number time 32 s c₂) _ (stands-number time 32 c₂ h₂)
-      (λ l c₃ h₃. stands-then P (number weight 32 s c₃) _ (stands-number weight 32 c₃ h₃)
+      stands-then P Q (pathAt n s c) _ (stands-path n c h)
+      (λ path c₁ h₁. stands-then P Q (number time 32 s c₁) _ (stands-number time 32 c₁ h₁)
+      (λ e c₂ h₂. stands-then P Q (number time 32 s c₂) _ (stands-number time 32 c₂ h₂)
+      (λ l c₃ h₃. stands-then P Q (number weight 32 s c₃) _ (stands-number weight 32 c₃ h₃)
       (λ w c₄ h₄. h₄))))
 
-  stands-journey : (j : ℕ) (c : Cursor) → P c → HoldsOn P (journeyAt j s c)
+  stands-journey : (j : ℕ) (c : Cursor) → P c → HoldsOn P Q (journeyAt j s c)
   unfolding journeyAt
-  stands-journey zero c h = stands-then P (number run 10 s c) _ (stands-number run 10 c h) (λ r c₁ h₁. h₁)
+  stands-journey zero c h = stands-then P Q (number run 10 s c) _ (stands-number run 10 c h) (λ r c₁ h₁. h₁)
   stands-journey (suc j) c h =
-      stands-then P (number run 32 s c) _ (stands-number run 32 c h)
-      (λ r c₁ h₁. stands-then P (number stop 32 s c₁) _ (stands-number stop 32 c₁ h₁)
-      (λ t c₂ h₂. stands-then P (journeyAt j s c₂) _ (stands-journey j c₂ h₂)
+      stands-then P Q (number run 32 s c) _ (stands-number run 32 c h)
+      (λ r c₁ h₁. stands-then P Q (number stop 32 s c₁) _ (stands-number stop 32 c₁ h₁)
+      (λ t c₂ h₂. stands-then P Q (journeyAt j s c₂) _ (stands-journey j c₂ h₂)
       (λ x c₃ h₃. h₃)))
 
-  pub stands-train : (n : ℕ) (c : Cursor) → P c → HoldsOn P (trainLine n s c)
+  pub stands-train : (n : ℕ) (c : Cursor) → P c → HoldsOn P Q (trainLine n s c)
   unfolding trainLine
   stands-train n c h =
-      stands-then P (headAt n s c) _ (stands-head n c h)
-      (λ x c₁ h₁. stands-then P (journeyAt (legsBetween (x .origin) (x .destination) - 1) s c₁) _ (stands-journey _ c₁ h₁)
+      stands-then P Q (headAt n s c) _ (stands-head n c h)
+      (λ x c₁ h₁. stands-then P Q (journeyAt (legsBetween (x .origin) (x .destination) - 1) s c₁) _ (stands-journey _ c₁ h₁)
       (λ j c₂ h₂. h₂))
 
   -- ---- the sections
 
   stands-section : {A : Type 0} (r : Limits) (size : ℕ) (none : A) (line : List ℕ → Cursor → Parsed A) →
-      ((c : Cursor) → P c → HoldsOn P (line s c)) → (c : Cursor) → P c → HoldsOn P (sectionAt r size none line s c)
+      ((c : Cursor) → P c → HoldsOn P Q (line s c)) → (c : Cursor) → P c → HoldsOn P Q (sectionAt r size none line s c)
   unfolding sectionAt
   stands-section r size none line one c h =
-      stands-then P (number r 10 s c) _ (stands-number r 10 c h)
-      (λ n c₁ h₁. stands-then P (lines n line s c₁) _ (stands-many s P k n (λ left. line) (λ left. one) c₁ h₁)
+      stands-then P Q (number r 10 s c) _ (stands-number r 10 c h)
+      (λ n c₁ h₁. stands-then P Q (lines n line s c₁) _ (stands-many s P k Q n (λ left. line) (λ left. one) c₁ h₁)
       (λ xs c₂ h₂. h₂))
 
-  pub stands-stations : (c : Cursor) → P c → HoldsOn P (stationSection s c)
+  pub stands-stations : (c : Cursor) → P c → HoldsOn P Q (stationSection s c)
   stands-stations c h = stands-section stationCount 12 0 stationLine (stands-number tracks 10) c h
 
-  pub stands-segments : (n : ℕ) (c : Cursor) → P c → HoldsOn P (segmentSection n s c)
+  pub stands-segments : (n : ℕ) (c : Cursor) → P c → HoldsOn P Q (segmentSection n s c)
   stands-segments n c h = stands-section (joins n) 11 noSegment segmentLine stands-segment c h
 
-  pub stands-trains : (n : ℕ) (c : Cursor) → P c → HoldsOn P (trainSection n s c)
+  pub stands-trains : (n : ℕ) (c : Cursor) → P c → HoldsOn P Q (trainSection n s c)
   stands-trains n c h = stands-section trainCount 12 noTrain (trainLine n) (stands-train n) c h
 
-  stands-line : (c : Cursor) → P c → HoldsOn P (lineAt s c)
+  stands-line : (c : Cursor) → P c → HoldsOn P Q (lineAt s c)
   unfolding lineAt
   stands-line c h =
-      stands-then P (stationSection s c) _ (stands-stations c h)
-      (λ x c₁ h₁. stands-then P (segmentSection (x .count) s c₁) _ (stands-segments (x .count) c₁ h₁)
-      (λ y c₂ h₂. stands-then P (trainSection (x .count) s c₂) _ (stands-trains (x .count) c₂ h₂)
-      (λ z c₃ h₃. stands-test P (ltb (c₃ .at) (length s)) 2 c₃ _ h₃ h₃)))
+      stands-then P Q (stationSection s c) _ (stands-stations c h)
+      (λ x c₁ h₁. stands-then P Q (segmentSection (x .count) s c₁) _ (stands-segments (x .count) c₁ h₁)
+      (λ y c₂ h₂. stands-then P Q (trainSection (x .count) s c₂) _ (stands-trains (x .count) c₂ h₂)
+      (λ z c₃ h₃. stands-test P Q (ltb (c₃ .at) (length s)) 2 c₃ _ (q .form) h₃ h₃)))
 
--- ---- the places of a line file's refusals
+-- ---- the numbers and places of a line file's refusals
 
--- A line file of at most 4,096 bytes that is refused, by 2, 3 or 4, is refused on the line of a position in it, that at which the field began.
-pub refused-on : (s : List ℕ) (n p : ℕ) → length s ≤ 4096 → lineFile s ≡ Parsed.bad n p → OnLine s p
-refused-on s n p short e =
+-- 2, 3 or 4
+abbrev pub FieldNumber : ℕ → Type 0
+FieldNumber n = (2 ≤ n) × (n ≤ 4)
+
+field-numbers : LineNumbers FieldNumber
+field-numbers = record { form = (omega arith, omega arith); range = (omega arith, omega arith); path = (omega arith, omega arith) }
+
+-- A line file of at most 4,096 bytes that is refused is refused by 2, 3 or 4, on the line of a position in it, that at which the field began.
+refused-at : (s : List ℕ) (n p : ℕ) → length s ≤ 4096 → lineFile s ≡ Parsed.bad n p → Stood (LineAt s) FieldNumber n p
+refused-at s n p short e =
     let start : Cursor = record { at = 0; line = 1 } in
     let whole : lineAt s start ≡ Parsed.bad n p = sym (file-short s 0 short) ∙ file-first s ∙ e in
-    stood-line (stands-bad (LineAt s) (lineAt s start) (stands-line s (LineAt s) (keeps-line s) start (line-first s)) whole)
+    stands-bad (LineAt s) FieldNumber (lineAt s start) (stands-line s (LineAt s) (keeps-line s) FieldNumber field-numbers start (line-first s)) whole
+
+pub refused-on : (s : List ℕ) (n p : ℕ) → length s ≤ 4096 → lineFile s ≡ Parsed.bad n p → OnLine s p
+refused-on s n p short e = stood-line (refused-at s n p short e)
+
+-- A refused file is refused by 1 to 4, at a place of at most 4,097.
+pub record Refusal (n p : ℕ) : Type 0 where
+  pub number : (1 ≤ n) × (n ≤ 4)
+  pub place : p ≤ 4097
+
+pub file-refusal : (s : List ℕ) (n p : ℕ) → lineFile s ≡ Parsed.bad n p → Refusal n p
+file-refusal s n p e = elim (decLe (length s) 4096) [
+  | yes short ↦ (
+    let w = refused-at s n p short e in
+    record { number = (omega (arith, w .number), omega (arith, w .number)); place = omega (arith, line-most (stood-line w)) })
+  | no long ↦ (
+    let q : _≡_ {A = Parsed Line} (Parsed.bad 1 0) (Parsed.bad n p) = sym (file-long s 0 (omega arith)) ∙ file-first s ∙ e in
+    let one : 1 ≡ n = cc in
+    let zero : 0 ≡ p = cc in
+    record { number = (omega arith, omega arith); place = omega arith })
+]
 
 -- ---- for the reader's code
 
 -- after a part that was read there are still no more lines than bytes
-pub part-counted : {A : Type 0} (r : Parsed A) (x : A) {e : Ending} {next : Cursor} → HoldsOn Counted r → toldEnding e x ≡ r → e ≡ Ending.Done next →
+pub part-counted : {A : Type 0} (r : Parsed A) (x : A) {e : Ending} {next : Cursor} → HoldsOn Counted AnyNumber r → toldEnding e x ≡ r → e ≡ Ending.Done next →
     Counted next
-part-counted r x w told is = stands-got Counted r w (sym told ∙ ap (λ (y : Ending). toldEnding y x) is)
+part-counted r x w told is = stands-got Counted AnyNumber r w (sym told ∙ ap (λ (y : Ending). toldEnding y x) is)
 
 pub kind-counted : (s : List ℕ) (c : Cursor) {f : KindField} {x : Kind} {next : Cursor} → Counted c → toldKind (c .line) f ≡ kindAt s c →
     f ≡ KindField.Value x next → Counted next
 kind-counted s c h told is =
-    stands-got Counted (kindAt s c) (stands-kind s Counted (keeps-counted s) c h) (sym told ∙ ap (λ (y : KindField). toldKind (c .line) y) is)
+    stands-got Counted AnyNumber (kindAt s c) (stands-kind s Counted (keeps-counted s) AnyNumber any-line-number c h) (sym told ∙ ap (λ (y : KindField). toldKind (c .line) y) is)

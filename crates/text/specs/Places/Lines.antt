@@ -23,16 +23,21 @@ pub record Counted (c : Cursor) : Type 0 where
 
 -- ---- what holds of the cursors of a reading
 
--- a refusal's place is the line of a cursor, that at which its field began, and P holds there
-pub record Stood (P : Cursor → Type 0) (p : ℕ) : Type 0 where
+-- a refusal's place is the line of a cursor, that at which its field began; P holds there, and Q of the refusal's number
+pub record Stood (P : Cursor → Type 0) (Q : ℕ → Type 0) (n p : ℕ) : Type 0 where
   pub cursor : Cursor
   pub keeps : P cursor
   pub line : p ≡ cursor .line
+  pub number : Q n
 
--- P holds of the cursor after what was read, or of that at which the field that is refused began
-abbrev pub HoldsOn : {A : Type 0} → (Cursor → Type 0) → Parsed A → Type 0
-HoldsOn P (Parsed.got x c) = P c
-HoldsOn P (Parsed.bad n p) = Stood P p
+-- P holds of the cursor after what was read, or of that at which the field that is refused began, and then Q of the refusal's number
+abbrev pub HoldsOn : {A : Type 0} → (Cursor → Type 0) → (ℕ → Type 0) → Parsed A → Type 0
+HoldsOn P Q (Parsed.got x c) = P c
+HoldsOn P Q (Parsed.bad n p) = Stood P Q n p
+
+-- where nothing is asked of the number
+abbrev pub AnyNumber : ℕ → Type 0
+AnyNumber n = Unit {0}
 
 -- the place p is the line on which position k of the text stands
 pub record OnLine (s : List ℕ) (p : ℕ) : Type 0 where

@@ -9,7 +9,7 @@ use native.Mathlib.Omega.{arith}
 use native.Mathlib.Numerals.{add-one}
 use borrow.Author.Tests.{eqb-true, ne-eqb}
 use lib.Dec.{eqb}
-use lib.ListN.{getD, take}
+use lib.ListN.{length, getD, take, length-take}
 use Rattle.text.specs.declared.Cursor.{Cursor}
 use Rattle.text.specs.declared.Digit.{Digit}
 use Rattle.text.specs.declared.Number.{Number}
@@ -24,7 +24,7 @@ use Rattle.text.specs.Reading.Numbers.{more, numberAt, fieldAt}
 use Rattle.text.specs.Reading.Limits.{boundedOf}
 use Rattle.text.specs.Reading.Parsed.{Parsed, thenRead, many, rangedAt}
 use Rattle.text.specs.Reading.Told.{toldField}
-use Rattle.text.specs.Places.Lines.{feeds, LineAt, Counted, Stood, HoldsOn, OnLine}
+use Rattle.text.specs.Places.Lines.{feeds, LineAt, Counted, Stood, HoldsOn, AnyNumber, OnLine}
 
 -- going past any byte of the text keeps P
 pub record KeepsPassing (s : List ℕ) (P : Cursor → Type 0) : Type 0 where
@@ -72,27 +72,40 @@ pub line-first : (s : List ℕ) → LineAt s (record { at = 0; line = 1 })
 line-first s = refl
 
 -- a refusal's place is the line on which a position of the text stands
-pub stood-line : {s : List ℕ} {p : ℕ} → Stood (LineAt s) p → OnLine s p
+pub stood-line : {s : List ℕ} {Q : ℕ → Type 0} {n p : ℕ} → Stood (LineAt s) Q n p → OnLine s p
 stood-line w = record { k = w .cursor .at; line = w .line ∙ w .keeps }
+
+-- there are no more line feeds than bytes
+feeds-most : (bs : List ℕ) → feeds bs ≤ length bs
+feeds-most [] = omega arith
+feeds-most (b ∷ bs) = go (eqb b 10) (feeds-most bs)
+  where
+    go : (q : Bool) → feeds bs ≤ length bs → pick q (1 + feeds bs) (feeds bs) ≤ suc (length bs)
+    go true h = omega arith
+    go false h = omega arith
+
+-- so a line's number is at most one more than the bytes
+pub line-most : {s : List ℕ} {p : ℕ} → OnLine s p → (1 ≤ p) × (p ≤ length s + 1)
+line-most {s} w = (omega (arith, w .line), omega (arith, w .line, feeds-most (take (w .k) s), length-take (w .k) s))
 
 -- ---- a reading, part after part
 
-module _ (P : Cursor → Type 0) where
-  pub stands-got : {A : Type 0} (r : Parsed A) {x : A} {c : Cursor} → HoldsOn P r → r ≡ Parsed.got x c → P c
+module _ (P : Cursor → Type 0) (Q : ℕ → Type 0) where
+  pub stands-got : {A : Type 0} (r : Parsed A) {x : A} {c : Cursor} → HoldsOn P Q r → r ≡ Parsed.got x c → P c
   stands-got r w e = rw e at w
 
-  pub stands-bad : {A : Type 0} (r : Parsed A) {n p : ℕ} → HoldsOn P r → r ≡ Parsed.bad n p → Stood P p
+  pub stands-bad : {A : Type 0} (r : Parsed A) {n p : ℕ} → HoldsOn P Q r → r ≡ Parsed.bad n p → Stood P Q n p
   stands-bad r w e = rw e at w
 
-  pub stands-then : {A B : Type 0} (r : Parsed A) (f : A → Cursor → Parsed B) → HoldsOn P r → ((x : A) (c : Cursor) → P c → HoldsOn P (f x c)) →
-      HoldsOn P (thenRead r f)
+  pub stands-then : {A B : Type 0} (r : Parsed A) (f : A → Cursor → Parsed B) → HoldsOn P Q r → ((x : A) (c : Cursor) → P c → HoldsOn P Q (f x c)) →
+      HoldsOn P Q (thenRead r f)
   stands-then (Parsed.got x c) f w g = g x c w
   stands-then (Parsed.bad n p) f w g = w
 
   -- refused at a cursor by a test, or else read on
-  pub stands-test : {A : Type 0} (b : Bool) (n : ℕ) (c : Cursor) (r : Parsed A) → P c → HoldsOn P r → HoldsOn P (pick b (Parsed.bad n (c .line)) r)
-  stands-test true n c r h w = record { cursor = c; keeps = h; line = refl }
-  stands-test false n c r h w = w
+  pub stands-test : {A : Type 0} (b : Bool) (n : ℕ) (c : Cursor) (r : Parsed A) → Q n → P c → HoldsOn P Q r → HoldsOn P Q (pick b (Parsed.bad n (c .line)) r)
+  stands-test true n c r q h w = record { cursor = c; keeps = h; line = refl; number = q }
+  stands-test false n c r q h w = w
 
 -- ---- a number and the byte after it
 
@@ -155,29 +168,32 @@ module _ (s : List ℕ) (P : Cursor → Type 0) (k : KeepsPassing s P) where
       go (Number.Value x after) hx f = step x after (number-keeps m c x after h hx) (pastOf s after b) refl f
       go Number.Malformed hx f = let z : _≡_ {A = ℕ} 0 1 = cc in absurd (omega arith)
 
-  -- a number in its range: a fault's place is the line at the cursor where the field began
-  pub stands-ranged : (form range lo hi b : ℕ) (c : Cursor) → P c → HoldsOn P (rangedAt form range lo hi b s c)
-  unfolding rangedAt
-  stands-ranged form range lo hi b c h = go (fieldAt 4 s c b) refl
-    where
-      bounded : (next : Cursor) → P next → (a : Bounded) → HoldsOn P (onBounded a (λ v. Parsed.got v next) (Parsed.bad range (c .line)))
-      bounded next w (Bounded.Within v) = w
-      bounded next w Bounded.Outside = record { cursor = c; keeps = h; line = refl }
+  -- ---- what is read, or refused by a number of which Q holds
 
-      go : (f : NumberField) → fieldAt 4 s c b ≡ f →
-          HoldsOn P (onField f (λ m x. onBounded (boundedOf lo hi m) (λ v. Parsed.got v x) (Parsed.bad range (c .line))) (Parsed.bad form (c .line)))
-      go (NumberField.Value m x) e = bounded x (field-keeps 4 c b m x h e) (boundedOf lo hi m)
-      go NumberField.Malformed e = record { cursor = c; keeps = h; line = refl }
+  module _ (Q : ℕ → Type 0) where
+    -- a number in its range: a fault's place is the line at the cursor where the field began
+    pub stands-ranged : (form range lo hi b : ℕ) → Q form → Q range → (c : Cursor) → P c → HoldsOn P Q (rangedAt form range lo hi b s c)
+    unfolding rangedAt
+    stands-ranged form range lo hi b qf qr c h = go (fieldAt 4 s c b) refl
+      where
+        bounded : (next : Cursor) → P next → (a : Bounded) → HoldsOn P Q (onBounded a (λ v. Parsed.got v next) (Parsed.bad range (c .line)))
+        bounded next w (Bounded.Within v) = w
+        bounded next w Bounded.Outside = record { cursor = c; keeps = h; line = refl; number = qr }
 
-  -- ---- parts in a row
+        go : (f : NumberField) → fieldAt 4 s c b ≡ f →
+            HoldsOn P Q (onField f (λ m x. onBounded (boundedOf lo hi m) (λ v. Parsed.got v x) (Parsed.bad range (c .line))) (Parsed.bad form (c .line)))
+        go (NumberField.Value m x) e = bounded x (field-keeps 4 c b m x h e) (boundedOf lo hi m)
+        go NumberField.Malformed e = record { cursor = c; keeps = h; line = refl; number = qf }
 
-  pub stands-many : {A : Type 0} (m : ℕ) (part : ℕ → List ℕ → Cursor → Parsed A) → ((left : ℕ) (c : Cursor) → P c → HoldsOn P (part left s c)) → (c : Cursor) →
-      P c → HoldsOn P (many m part s c)
-  unfolding many
-  stands-many zero part one c h = h
-  stands-many (suc m) part one c h =
-      stands-then P (part m s c) _ (one m c h)
-      (λ x c₁ h₁. stands-then P (many m part s c₁) _ (stands-many m part one c₁ h₁) (λ xs c₂ h₂. h₂))
+    -- ---- parts in a row
+
+    pub stands-many : {A : Type 0} (m : ℕ) (part : ℕ → List ℕ → Cursor → Parsed A) → ((left : ℕ) (c : Cursor) → P c → HoldsOn P Q (part left s c)) → (c : Cursor) →
+        P c → HoldsOn P Q (many m part s c)
+    unfolding many
+    stands-many zero part one c h = h
+    stands-many (suc m) part one c h =
+        stands-then P Q (part m s c) _ (one m c h)
+        (λ x c₁ h₁. stands-then P Q (many m part s c₁) _ (stands-many m part one c₁ h₁) (λ xs c₂ h₂. h₂))
 
 -- ---- for the reader's code
 
@@ -185,4 +201,4 @@ module _ (s : List ℕ) (P : Cursor → Type 0) (k : KeepsPassing s P) where
 pub field-counted : (form range lo hi b : ℕ) (s : List ℕ) {c : Cursor} {f : Field} {v : ℕ} {next : Cursor} → Counted c →
     toldField f ≡ rangedAt form range lo hi b s c → f ≡ Field.Value v next → Counted next
 field-counted form range lo hi b s {c} h told is =
-    stands-got Counted _ (stands-ranged s Counted (keeps-counted s) form range lo hi b c h) (sym told ∙ ap toldField is)
+    stands-got Counted AnyNumber _ (stands-ranged s Counted (keeps-counted s) AnyNumber form range lo hi b tt tt c h) (sym told ∙ ap toldField is)

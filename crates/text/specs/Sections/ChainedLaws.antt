@@ -78,14 +78,14 @@ module _ {S A : Type 0} (after : S → A → S) (part : S → List ℕ → Curso
 
 -- ---- places
 
-module _ (P : Cursor → Type 0) where
+module _ (P : Cursor → Type 0) (Q : ℕ → Type 0) where
   pub stands-chained : {S A : Type 0} (after : S → A → S) (part : S → List ℕ → Cursor → Parsed A) (s : List ℕ) →
-      ((so-far : S) (c : Cursor) → P c → HoldsOn P (part so-far s c)) → (k : ℕ) (so-far : S) (c : Cursor) → P c → HoldsOn P (chained after part k so-far s c)
+      ((so-far : S) (c : Cursor) → P c → HoldsOn P Q (part so-far s c)) → (k : ℕ) (so-far : S) (c : Cursor) → P c → HoldsOn P Q (chained after part k so-far s c)
   unfolding chained
   stands-chained after part s one zero so-far c h = h
   stands-chained after part s one (suc k) so-far c h =
-      stands-then P (part so-far s c) _ (one so-far c h)
-      (λ x next h₁. stands-then P (chained after part k (after so-far x) s next) _ (stands-chained after part s one k (after so-far x) next h₁)
+      stands-then P Q (part so-far s c) _ (one so-far c h)
+      (λ x next h₁. stands-then P Q (chained after part k (after so-far x) s next) _ (stands-chained after part s one k (after so-far x) next h₁)
       (λ xs end h₂. h₂))
 
 -- ---- an optional section
@@ -170,14 +170,15 @@ module _ {A : Type 0} (range : ℕ) (none : A) (empty : A → Bool) (none-empty 
           })
 
   -- places
-  pub stands-optional : (Q : Cursor → Type 0) (c : Cursor) → Q c → HoldsOn Q (section s c) → HoldsOn Q (optionalAt range none empty section s c)
+  pub stands-optional : (P : Cursor → Type 0) (Q : ℕ → Type 0) → Q range → (c : Cursor) → P c → HoldsOn P Q (section s c) →
+      HoldsOn P Q (optionalAt range none empty section s c)
   unfolding optionalAt
-  stands-optional Q c h k = go (left s c)
+  stands-optional P Q q c h k = go (left s c)
     where
       go : (b : Bool) →
-          HoldsOn Q
+          HoldsOn P Q
           (pick b (thenRead (section s c) (λ y end. pick (empty y && not (left s end)) (Parsed.bad range (c .line)) (Parsed.got y end))) (Parsed.got none c))
-      go true = stands-then Q (section s c) _ k (λ x next h₁. stands-test Q (empty x && not (left s next)) range c (Parsed.got x next) h h₁)
+      go true = stands-then P Q (section s c) _ k (λ x next h₁. stands-test P Q (empty x && not (left s next)) range c (Parsed.got x next) q h h₁)
       go false = h
 
 -- its text takes no more than the section's own

@@ -1,4 +1,4 @@
--- Laws of writing into lent bytes: a copy byte by byte, and its two endings.
+-- Laws of writing into lent bytes: a copy byte by byte, its two endings, and what an answer says.
 use Prim.Native.Nat.{ℕ, _+_, _<_, _≤_}
 use mathlib.Core.Path.{_≡_, refl, sym, ap, _∙_}
 use mathlib.Core.List.{List, _++_}
@@ -10,7 +10,7 @@ use lib.Seq.{sets, sets-eq, take-append-seam}
 use Rattle.text.specs.declared.Written.{Written}
 use Rattle.text.specs.Elements.LeftLaws.{left-cons, left-none}
 use Rattle.text.specs.Writing.Splice.{Put}
-use Rattle.text.specs.Writing.Lend.{Spelling, writtenOf, Lent}
+use Rattle.text.specs.Writing.Lend.{Spelling, writtenOf, bytesAfter, Lent}
 
 -- ---- the copy of the first n bytes of s, of which i are copied
 
@@ -40,6 +40,40 @@ lent-whole t entry exit n e h w =
 pub lent-refused : {what : Spelling} {r : Written} {n p : ℕ} (out : List ℕ) → r ≡ Written.Refused n p → what ≡ Spelling.refused n p → Lent what out out r
 unfolding writtenOf
 lent-refused out e w = rw (e, w) (record { answer = refl; bytes = refl })
+
+-- ---- what an answer says
+
+-- there is one answer, with one content of the lent bytes
+pub lent-there : (what : Spelling) (entry : List ℕ) →
+    Lent what entry (bytesAfter (writtenOf what (length entry)) what entry) (writtenOf what (length entry))
+lent-there what entry = record { answer = refl; bytes = refl }
+
+pub lent-only : {what : Spelling} {entry exit exit′ : List ℕ} {r r′ : Written} → Lent what entry exit r → Lent what entry exit′ r′ → (r ≡ r′) × (exit ≡ exit′)
+lent-only {what} {entry} x y =
+    let same = x .answer ∙ sym (y .answer) in
+    (same, x .bytes ∙ ap (λ (w : Written). bytesAfter w what entry) same ∙ sym (y .bytes))
+
+-- of a text: it is written exactly where it is no longer than the lent bytes, and 6 comes otherwise
+module _ {t entry exit : List ℕ} {r : Written} (lent : Lent (Spelling.text t) entry exit r) where
+  pub text-written : length t ≤ length entry → (r ≡ Written.Length (length t)) × (exit ≡ t ++ drop (length t) entry)
+  unfolding writtenOf
+  text-written h =
+      let length-is : r ≡ Written.Length (length t) = lent .answer ∙ (rw (le-leb (length t) (length entry) h) refl) in
+      (length-is, lent .bytes ∙ ap (λ (w : Written). bytesAfter w (Spelling.text t) entry) length-is)
+
+  pub text-refused : length entry < length t → (r ≡ Written.Refused 6 0) × (exit ≡ entry)
+  unfolding writtenOf
+  text-refused h =
+      let six : r ≡ Written.Refused 6 0 = lent .answer ∙ (rw (lt-leb (length t) (length entry) h) refl) in
+      (six, lent .bytes ∙ ap (λ (w : Written). bytesAfter w (Spelling.text t) entry) six)
+
+-- of a refusal: it is handed on
+pub refusal-lent : {n p : ℕ} {entry exit : List ℕ} {r : Written} → Lent (Spelling.refused n p) entry exit r → (r ≡ Written.Refused n p) × (exit ≡ entry)
+unfolding writtenOf
+refusal-lent {n} {p} {entry} lent =
+    (lent .answer, lent .bytes ∙ ap (λ (w : Written). bytesAfter w (Spelling.refused n p) entry) (lent .answer))
+
+-- ---- lending the front of a buffer
 
 -- what was put at the front of a buffer stands there
 pub put-front : (entry exit t : List ℕ) (n : ℕ) → Put entry exit 0 t n → length t ≤ length entry → take n exit ≡ t

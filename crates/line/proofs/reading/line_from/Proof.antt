@@ -1,12 +1,12 @@
 -- `line::reading::line_from` meets its contract: each `return` is the law of where it ends: in a section, at bytes after the last, or there. The
 -- count of stations is in its range, and after each section there are still no more lines than bytes. Assumes nothing.
 use mathlib.Core.Path.{_∙_, sym, ap, refl}
-use Rattle.text.specs.Places.Lines.{Counted}
+use Rattle.text.specs.Places.Lines.{Counted, AnyNumber}
 use Rattle.text.specs.Places.LinesLaws.{keeps-counted}
 use Rattle.line.specs.File.{answered}
 use Rattle.line.specs.FileLaws.{ended-told}
 use Rattle.line.specs.SectionLaws.{section-range, no-stations, no-segments, no-trains, bytes-after, line-read, refusal}
-use Rattle.line.specs.PlaceLaws.{stands-stations, stands-segments, part-counted}
+use Rattle.line.specs.PlaceLaws.{any-line-number, stands-stations, stands-segments, part-counted}
 use borrow.Author.Needs.{needs}
 use Rattle.line.proofs.reading.line_from.Statement.{statement}
 use Rattle.line.proofs.reading.line_from.Tie as tie
@@ -33,7 +33,7 @@ segment-section-requires c κs =
     let x = c .before in
     let stations = sym (x .before .before .station-section .ensures) ∙ ended-told _ (x .stations-end .given .1) in
     let range = section-range _ _ _ _ _ _ _ _ stations in
-    let after = part-counted _ _ (stands-stations _ Counted (keeps-counted _) _ (x .before .before .before .before .pre)) (x .before .before .station-section .ensures) (x .stations-end .given .1) in
+    let after = part-counted _ _ (stands-stations _ Counted (keeps-counted _) AnyNumber any-line-number _ (x .before .before .before .before .pre)) (x .before .before .station-section .ensures) (x .stations-end .given .1) in
     (range .0, range .1, after)
 
 enum-known-segments-end : tie.Need-enum-known-segments-end
@@ -57,9 +57,9 @@ train-section-requires c κs =
     let y = c .before in
     let x = c .before .before .before .before .before in
     let stations = sym (x .before .before .station-section .ensures) ∙ ended-told _ (x .stations-end .given .1) in
-    let after-stations = part-counted _ _ (stands-stations _ Counted (keeps-counted _) _ (x .before .before .before .before .pre)) (x .before .before .station-section .ensures)
+    let after-stations = part-counted _ _ (stands-stations _ Counted (keeps-counted _) AnyNumber any-line-number _ (x .before .before .before .before .pre)) (x .before .before .station-section .ensures)
     (x .stations-end .given .1) in
-    let after = part-counted _ _ (stands-segments _ Counted (keeps-counted _) _ _ after-stations) (y .before .before .segment-section .ensures)
+    let after = part-counted _ _ (stands-segments _ Counted (keeps-counted _) AnyNumber any-line-number _ _ after-stations) (y .before .before .segment-section .ensures)
     (y .segments-end .given .1) in
     (section-range _ _ _ _ _ _ _ _ stations .1, after)
 

@@ -7,13 +7,13 @@ use native.Mathlib.Nat.{sub-zero}
 use denote.Ref.{now}
 use lib.ListN.{replicate}
 use Rattle.text.specs.Elements.Padded.{padded}
-use Rattle.text.specs.Places.Lines.{Counted}
+use Rattle.text.specs.Places.Lines.{Counted, AnyNumber}
 use Rattle.text.specs.Places.LinesLaws.{keeps-counted}
 use Rattle.text.specs.Elements.LayLaws.{layMany, lay-done, lay-step, lay-stop}
 use Rattle.line.specs.declared.Segment.{Segment}
 use Rattle.line.specs.File.{segmentLine}
 use Rattle.line.specs.FileLaws.{ended-told}
-use Rattle.line.specs.PlaceLaws.{stands-segment, part-counted}
+use Rattle.line.specs.PlaceLaws.{any-line-number, stands-segment, part-counted}
 use borrow.Author.Needs.{needs}
 use Rattle.line.proofs.reading.segment_lines.Statement.{statement}
 use Rattle.line.proofs.reading.segment_lines.Tie as tie
@@ -59,7 +59,7 @@ lines-again c =
     let a = c .before .before .before .before .before .before .before .before .before .args in
     let line = sym (c .before .before .before .before .segment-line .ensures) ∙ ended-told _ (c .before .before .ended .given .1) in
     let k : a .count - w .i ≡ suc (a .count - (w .i + 1)) = omega arith in
-    let counted = part-counted _ _ (stands-segment _ Counted (keeps-counted _) _ (w .inv .2)) (c .before .before .before .before .segment-line .ensures)
+    let counted = part-counted _ _ (stands-segment _ Counted (keeps-counted _) AnyNumber any-line-number _ (w .inv .2)) (c .before .before .before .before .segment-line .ensures)
     (c .before .before .ended .given .1) in
     (sym (lay-step (λ left. segmentLine) _ _ _ _ _ _ k _ _ line) ∙ w .inv .0, omega arith, counted)
 

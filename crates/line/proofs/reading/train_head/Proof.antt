@@ -3,11 +3,11 @@
 use mathlib.Core.Path.{_∙_, sym, ap, refl}
 use denote.Ref.{now}
 use Rattle.text.specs.Reading.Told.{stoppedBy}
-use Rattle.text.specs.Places.Lines.{Counted}
+use Rattle.text.specs.Places.Lines.{Counted, AnyNumber}
 use Rattle.text.specs.Places.LinesLaws.{keeps-counted, field-counted}
 use Rattle.text.specs.Reading.ToldLaws.{ranged-told}
 use Rattle.line.specs.Ranges.{time, weight}
-use Rattle.line.specs.PlaceLaws.{stands-path, part-counted}
+use Rattle.line.specs.PlaceLaws.{any-line-number, stands-path, part-counted}
 use Rattle.line.specs.FileLaws.{ended-told, head-no-path, head-no-earliest, head-no-latest, head-no-weight, head-got}
 use borrow.Author.Needs.{needs}
 use Rattle.line.proofs.reading.train_head.Statement.{statement}
@@ -32,7 +32,7 @@ returns c =
 
 ranged-requires : tie.Need-ranged-requires
 ranged-requires c κs =
-    part-counted _ _ (stands-path _ Counted (keeps-counted _) _ _ (c .before .before .before .before .before .pre)) (c .before .before .before .path-fields .ensures) (c .before .ending .given .1)
+    part-counted _ _ (stands-path _ Counted (keeps-counted _) AnyNumber any-line-number _ _ (c .before .before .before .before .before .pre)) (c .before .before .before .path-fields .ensures) (c .before .ending .given .1)
 
 enum-known-e : tie.Need-enum-known-e
 enum-known-e c = search needs
@@ -59,7 +59,7 @@ returns-2 c =
 ranged-requires-2 : tie.Need-ranged-requires-2
 ranged-requires-2 c κs =
     let p = c .before .before .before .before .before in
-    let path = part-counted _ _ (stands-path _ Counted (keeps-counted _) _ _ (p .before .before .before .before .pre)) (p .before .before .path-fields .ensures) (p .ending .given .1) in
+    let path = part-counted _ _ (stands-path _ Counted (keeps-counted _) AnyNumber any-line-number _ _ (p .before .before .before .before .pre)) (p .before .before .path-fields .ensures) (p .ending .given .1) in
     field-counted _ _ _ _ _ _ path (c .before .before .before .ranged .ensures) (c .before .e .given .1)
 
 enum-known-l : tie.Need-enum-known-l
@@ -90,7 +90,7 @@ ranged-requires-3 : tie.Need-ranged-requires-3
 ranged-requires-3 c κs =
     let e = c .before .before .before .before .before in
     let p = e .before .before .before .before in
-    let path = part-counted _ _ (stands-path _ Counted (keeps-counted _) _ _ (p .before .before .before .before .pre)) (p .before .before .path-fields .ensures) (p .ending .given .1) in
+    let path = part-counted _ _ (stands-path _ Counted (keeps-counted _) AnyNumber any-line-number _ _ (p .before .before .before .before .pre)) (p .before .before .path-fields .ensures) (p .ending .given .1) in
     let earliest = field-counted _ _ _ _ _ _ path (e .before .before .ranged .ensures) (e .e .given .1) in
     field-counted _ _ _ _ _ _ earliest (c .before .before .before .ranged2 .ensures) (c .before .l .given .1)
 

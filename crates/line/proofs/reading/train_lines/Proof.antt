@@ -10,7 +10,7 @@ use lib.ListN.{replicate}
 use Rattle.text.specs.Reading.Parsed.{Parsed, mapParsed}
 use Rattle.text.specs.Elements.Padded.{padded}
 use Rattle.text.specs.Reading.Told.{stoppedBy}
-use Rattle.text.specs.Places.Lines.{Counted}
+use Rattle.text.specs.Places.Lines.{Counted, AnyNumber}
 use Rattle.text.specs.Places.LinesLaws.{keeps-counted, field-counted}
 use Rattle.text.specs.Elements.LayLaws.{layMany, lay-done}
 use Rattle.text.specs.Reading.ToldLaws.{ranged-told}
@@ -18,7 +18,7 @@ use Rattle.line.specs.Record.{noTrain}
 use Rattle.line.specs.File.{Journey, trainLine}
 use Rattle.line.specs.Ranges.{run, stop}
 use Rattle.line.specs.FileLaws.{ended-told}
-use Rattle.line.specs.PlaceLaws.{stands-head, part-counted}
+use Rattle.line.specs.PlaceLaws.{any-line-number, stands-head, part-counted}
 use Rattle.line.specs.TrainLaws.{layJourney, trainOf, journey-stop-run, journey-stop-stop, journey-step, journey-last-read, journey-last-stop, train-stop-head, train-from, lines-begin, lines-read, lines-stop, head-legs}
 use borrow.Author.Needs.{needs}
 use Rattle.line.proofs.reading.train_lines.Statement.{statement}
@@ -106,7 +106,7 @@ loop-holds : tie.Need-loop-holds Inv-loop μ-loop Inv-lines μ-lines
 loop-holds c =
     let head = sym (c .before .before .before .before .before .train-head .ensures) ∙ ended-told _ (c .before .before .before .ended .given .1) in
     let legs = head-legs _ _ _ _ _ (c .before .before .before .before .before .before .before .before .before .before .pre .1) head in
-    let counted = part-counted _ _ (stands-head _ Counted (keeps-counted _) _ _ (c .before .before .before .before .before .before .before .lines .inv .2)) (c .before .before .before .before .before .train-head .ensures) (c .before .before .before .ended .given .1) in
+    let counted = part-counted _ _ (stands-head _ Counted (keeps-counted _) AnyNumber any-line-number _ _ (c .before .before .before .before .before .before .before .lines .inv .2)) (c .before .before .before .before .before .train-head .ensures) (c .before .before .before .ended .given .1) in
     (rw sub-zero refl, omega (arith, legs .0, c .legs-between .ensures), omega (arith, legs .1, c .legs-between .ensures), counted)
 
 add-loop : tie.Need-add-loop Inv-loop μ-loop Inv-lines μ-lines

@@ -7,14 +7,14 @@ use native.Mathlib.Nat.{sub-zero}
 use borrow.Author.Needs.{needs}
 use lib.ListN.{length, take, length-set}
 use Rattle.text.specs.Reading.Parsed.{Parsed, lines}
-use Rattle.text.specs.Places.Lines.{Counted}
+use Rattle.text.specs.Places.Lines.{Counted, AnyNumber}
 use Rattle.text.specs.Places.LinesLaws.{keeps-counted}
 use Rattle.line.specs.PlaceLaws.{part-counted}
 use Rattle.line.specs.FileLaws.{ended-told}
 use Rattle.rules.specs.Lists.Orders.{listed}
 use Rattle.rules.specs.Lists.ListsLaws.{listed-more}
 use Rattle.timetable.specs.Reading.{listAt}
-use Rattle.timetable.specs.PlaceLaws.{stands-list}
+use Rattle.timetable.specs.PlaceLaws.{any-timetable-number, stands-list}
 use Rattle.timetable.specs.RestLaws.{after, after-none, after-done, after-step, after-stop}
 use Rattle.timetable.proofs.reading.list_lines.Statement.{statement}
 use Rattle.timetable.proofs.reading.list_lines.Tie as tie
@@ -68,7 +68,7 @@ lines-again c =
           (listed-more (w .lists) (w .k) o room)) ∙ w .inv .0,
       omega (arith, more),
       length-set (w .lists) (w .k) o ∙ w .inv .2,
-      part-counted _ _ (stands-list _ Counted (keeps-counted _) _ _ (w .inv .3)) (c .before .before .before .before .list-line .ensures)
+      part-counted _ _ (stands-list _ Counted (keeps-counted _) AnyNumber any-timetable-number _ _ (w .inv .3)) (c .before .before .before .before .list-line .ensures)
           (c .before .before .ended .given .1),
     )
 

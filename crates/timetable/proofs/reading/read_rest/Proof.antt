@@ -6,14 +6,14 @@ use native.Mathlib.Omega.{arith}
 use borrow.Author.Needs.{needs}
 use lib.ListN.{take}
 use Rattle.text.specs.Reading.Parsed.{Parsed}
-use Rattle.text.specs.Places.Lines.{Counted}
+use Rattle.text.specs.Places.Lines.{Counted, AnyNumber}
 use Rattle.text.specs.Places.LinesLaws.{keeps-counted, field-counted}
 use Rattle.text.specs.Reading.Told.{stoppedBy}
 use Rattle.text.specs.Reading.ToldLaws.{ranged-told}
 use Rattle.line.specs.FileLaws.{ended-told}
 use Rattle.line.specs.PlaceLaws.{part-counted}
 use Rattle.rules.specs.Lists.Orders.{listed}
-use Rattle.timetable.specs.PlaceLaws.{stands-lists}
+use Rattle.timetable.specs.PlaceLaws.{any-timetable-number, stands-lists}
 use Rattle.timetable.specs.RestLaws.{rest-no-count, rest-no-lists, rest-no-total, rest-more, rest-whole}
 use Rattle.timetable.proofs.reading.read_rest.Statement.{statement}
 use Rattle.timetable.proofs.reading.read_rest.Tie as tie
@@ -75,7 +75,7 @@ number-field-requires : tie.Need-number-field-requires
 number-field-requires c κs =
     let f = c .before .before .before .before .before in
     let after-count = field-counted _ _ _ _ _ _ (f .before .before .before .before .before .pre .1) (f .before .before .ranged .ensures) (f .field .given .1) in
-    let after-lists = part-counted _ _ (stands-lists _ Counted (keeps-counted _) _ _ _ after-count) (c .before .before .before .list-lines .ensures)
+    let after-lists = part-counted _ _ (stands-lists _ Counted (keeps-counted _) AnyNumber any-timetable-number _ _ _ after-count) (c .before .before .before .list-lines .ensures)
     (c .before .ended .given .1) in
     (omega arith, omega arith, after-lists)
 

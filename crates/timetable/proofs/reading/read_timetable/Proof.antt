@@ -2,11 +2,11 @@
 use mathlib.Core.Path.{_∙_, sym}
 use native.Mathlib.Omega.{arith}
 use borrow.Author.Needs.{needs}
-use Rattle.text.specs.Places.Lines.{Counted}
+use Rattle.text.specs.Places.Lines.{Counted, AnyNumber}
 use Rattle.text.specs.Places.LinesLaws.{keeps-counted}
 use Rattle.line.specs.FileLaws.{ended-told}
 use Rattle.line.specs.PlaceLaws.{part-counted}
-use Rattle.timetable.specs.PlaceLaws.{stands-minutes}
+use Rattle.timetable.specs.PlaceLaws.{any-timetable-number, stands-minutes}
 use Rattle.timetable.specs.RestLaws.{told-map, file-long, file-no-minutes, file-rest}
 use Rattle.timetable.proofs.reading.read_timetable.Statement.{statement}
 use Rattle.timetable.proofs.reading.read_timetable.Tie as tie
@@ -40,7 +40,7 @@ read-rest-requires : tie.Need-read-rest-requires
 read-rest-requires c κs =
     let start = c .before .before .before .before .before .before .pre in (
       start,
-      part-counted _ _ (stands-minutes _ Counted (keeps-counted _) _ _ (record { fits = omega arith })) (c .before .before .before .read-minutes .ensures)
+      part-counted _ _ (stands-minutes _ Counted (keeps-counted _) AnyNumber any-timetable-number _ _ (record { fits = omega arith })) (c .before .before .before .read-minutes .ensures)
           (c .before .ended .given .1),
     )
 

@@ -5,13 +5,13 @@ use mathlib.Core.Path.{_≡_, _∙_, sym, refl}
 use native.Mathlib.Omega.{arith}
 use native.Mathlib.Nat.{sub-zero}
 use lib.ListN.{length, length-map, replicate}
-use Rattle.text.specs.Places.Lines.{Counted}
+use Rattle.text.specs.Places.Lines.{Counted, AnyNumber}
 use Rattle.text.specs.Places.LinesLaws.{keeps-counted}
 use Rattle.line.specs.FileLaws.{ended-told}
 use Rattle.line.specs.PlaceLaws.{part-counted}
 use Rattle.rules.specs.StatementLaws.PathsLaws.{routed}
 use Rattle.timetable.specs.Reading.{trainsAt}
-use Rattle.timetable.specs.PlaceLaws.{stands-legs}
+use Rattle.timetable.specs.PlaceLaws.{any-timetable-number, stands-legs}
 use Rattle.timetable.specs.ReadingLaws.{trains-done, trains-refused, trains-step}
 use borrow.Author.Needs.{needs}
 use Rattle.timetable.proofs.reading.train_lines.Statement.{statement}
@@ -63,7 +63,7 @@ lines-again c =
     let k : l .traffic .«train_count» - w .i ≡ suc (l .traffic .«train_count» - (w .i + 1)) = omega
     (arith, w .inv .1, c .before .before .before .before .before .before .before .if1 .left) in
     let train = sym (c .before .before .before .before .train-line .ensures) ∙ ended-told _ (c .before .before .ended .given .1) in
-    let counted = part-counted _ _ (stands-legs _ Counted (keeps-counted _) _ _ _ _ _ _ (w .inv .2)) (c .before .before .before .before .train-line .ensures)
+    let counted = part-counted _ _ (stands-legs _ Counted (keeps-counted _) AnyNumber any-timetable-number _ _ _ _ _ _ (w .inv .2)) (c .before .before .before .before .train-line .ensures)
     (c .before .before .ended .given .1) in
     (sym (trains-step _ l _ _ _ _ _ k train) ∙ w .inv .0, omega (arith, k), counted)
 
