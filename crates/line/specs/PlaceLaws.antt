@@ -158,13 +158,13 @@ pub record Refusal (n p : ℕ) : Type 0 where
 pub file-refusal : (s : List ℕ) (n p : ℕ) → lineFile s ≡ Parsed.bad n p → Refusal n p
 file-refusal s n p e = elim (decLe (length s) 4096) [
   | yes short ↦ (
-    let w = refused-at s n p short e in
-    record { number = (omega (arith, w .number), omega (arith, w .number)); place = omega (arith, line-most (stood-line w)) })
+      let w = refused-at s n p short e in
+      record { number = (omega (arith, w .number), omega (arith, w .number)); place = omega (arith, line-most (stood-line w)) })
   | no long ↦ (
-    let q : _≡_ {A = Parsed Line} (Parsed.bad 1 0) (Parsed.bad n p) = sym (file-long s 0 (omega arith)) ∙ file-first s ∙ e in
-    let one : 1 ≡ n = cc in
-    let zero : 0 ≡ p = cc in
-    record { number = (omega arith, omega arith); place = omega arith })
+      let q : _≡_ {A = Parsed Line} (Parsed.bad 1 0) (Parsed.bad n p) = sym (file-long s 0 (omega arith)) ∙ file-first s ∙ e in
+      let one : 1 ≡ n = cc in
+      let zero : 0 ≡ p = cc in
+      record { number = (omega arith, omega arith); place = omega arith })
 ]
 
 -- ---- for the reader's code

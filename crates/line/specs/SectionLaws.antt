@@ -94,8 +94,3 @@ file-short s i short = rw (le-ltb 4096 (length s) short) refl
 pub file-first : (s : List ℕ) → fileFrom s 0 ≡ lineFile s
 unfolding lineFile
 file-first s = refl
-
--- a refusal is answered by its number and place
-pub refusal : {r : ReadLine} {e : Ending} {whole : Parsed Line} {m q : ℕ} → r ≡ answered (toldEnding e emptyLine) → e ≡ Ending.Refused m q →
-    whole ≡ Parsed.bad m q → r ≡ answered whole
-refusal h e w = h ∙ ap (λ (x : Ending). answered (toldEnding x emptyLine)) e ∙ sym (ap answered w)

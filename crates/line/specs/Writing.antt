@@ -3,7 +3,6 @@ use Prim.Native.Nat.{ℕ, _+_}
 use mathlib.Core.List.{List, [], _∷_}
 use lib.Dec.{eqb}
 use Rattle.text.specs.declared.Limits.{Limits}
-use Rattle.text.specs.declared.Written.{Written}
 use Rattle.text.specs.Reading.Choice.{pick, onBounded}
 use Rattle.text.specs.Reading.Limits.{boundedOf}
 use Rattle.text.specs.Writing.Lend.{Spelling}
@@ -73,11 +72,6 @@ faultOf l =
 abbrev pub onFault : {A : Type 0} → Fault → A → (ℕ → ℕ → A) → A
 onFault Fault.None a f = a
 onFault (Fault.At n p) a f = f n p
-
--- the answer to a bad field
-abbrev pub refusedBy : Fault → Written
-refusedBy Fault.None = Written.Length 0
-refusedBy (Fault.At n p) = Written.Refused n p
 
 -- what there is to write for a record: the refusal of its first bad field, or its text
 unfoldable pub spelling : Line → Spelling

@@ -5,7 +5,7 @@ ghost use Rattle.text.specs.Places.Lines.{Counted};
 ghost use Rattle.text.specs.Reading.Parsed.{mapParsed, lines};
 ghost use Rattle.text.specs.Reading.Told.{toldEnding};
 ghost use Rattle.text.specs.Elements.Padded.{padded};
-ghost use Rattle.line.specs.Record.{noSegment, noTrain, emptyLine};
+ghost use Rattle.line.specs.Record.{noSegment, noTrain, lineWith, emptyLine};
 ghost use Rattle.line.specs.File.{toldKind, stationLine, stationSection, letterOf, kindAt, segmentLine, segmentSection, pathAt, headAt, trainWith, trainLine, trainSection, lineAt, fileFrom, lineFile, answered};
 use crate::Answer;
 use crate::Kind;
@@ -29,7 +29,7 @@ use text::LINE_FEED;
 use text::Limits;
 use text::SPACE;
 use text::Step;
-use text::stopped;
+use text::ending_of;
 
 pub enum Letter {
     Found(Kind),
@@ -106,6 +106,12 @@ pub struct TrainSection {
     pub trains: [Train; 12],
 }
 
+// The whole file.
+pub struct LinePart {
+    pub ending: Ending,
+    pub line: Line,
+}
+
 // The numbers of a line file's refusals.
 const FAULTS: Faults = Faults { form: 2, range: 3 };
 
@@ -166,14 +172,14 @@ fn segment_line(s: &[u8], cursor: Cursor) -> SegmentPart
     let f = after_kind.ranged(s, SPACE, Segment::GAP, FAULTS);
     let Field::Value(following, after_following) = f else {
         return SegmentPart {
-            ending: stopped(f),
+            ending: ending_of(f),
             segment: none,
         };
     };
     let o = after_following.ranged(s, LINE_FEED, Segment::GAP, FAULTS);
     let Field::Value(opposing, next) = o else {
         return SegmentPart {
-            ending: stopped(o),
+            ending: ending_of(o),
             segment: none,
         };
     };
@@ -207,11 +213,11 @@ fn path_fields(s: &[u8], cursor: Cursor, stations: u16) -> PathPart
 {
     let o = cursor.ranged(s, SPACE, Station::numbers(stations), FAULTS);
     let Field::Value(origin, after_origin) = o else {
-        return no_path(stopped(o));
+        return no_path(ending_of(o));
     };
     let d = after_origin.ranged(s, SPACE, Station::numbers(stations), FAULTS);
     let Field::Value(destination, next) = d else {
-        return no_path(stopped(d));
+        return no_path(ending_of(d));
     };
     if destination == origin {
         return no_path(Ending::Refused(4, after_origin.line));
@@ -253,15 +259,15 @@ fn train_head(s: &[u8], cursor: Cursor, stations: u16) -> HeadPart
     };
     let e = after_path.ranged(s, SPACE, Time::LIMITS, FAULTS);
     let Field::Value(earliest, after_earliest) = e else {
-        return no_head(stopped(e));
+        return no_head(ending_of(e));
     };
     let l = after_earliest.ranged(s, SPACE, Time::LIMITS, FAULTS);
     let Field::Value(latest, after_latest) = l else {
-        return no_head(stopped(l));
+        return no_head(ending_of(l));
     };
     let w = after_latest.ranged(s, SPACE, Train::WEIGHT, FAULTS);
     let Field::Value(weight, next) = w else {
-        return no_head(stopped(w));
+        return no_head(ending_of(w));
     };
     HeadPart {
         ending: Ending::Done(next),
@@ -289,7 +295,7 @@ fn station_lines(s: &[u8], start: Cursor, count: usize) -> StationLines
         }
         let field = cursor.ranged(s, LINE_FEED, Station::TRACKS, FAULTS);
         let Field::Value(t, next) = field else {
-            break 'lines stopped(field);
+            break 'lines ending_of(field);
         };
         tracks[i] = t;
         cursor = next;
@@ -306,7 +312,7 @@ fn station_section(s: &[u8], start: Cursor) -> StationSection
     let field = start.ranged(s, LINE_FEED, Station::COUNT, FAULTS);
     let Field::Value(count, next) = field else {
         return StationSection {
-            ending: stopped(field),
+            ending: ending_of(field),
             count: 0,
             tracks: [0; 12],
         };
@@ -360,7 +366,7 @@ fn segment_section(s: &[u8], start: Cursor, stations: u16) -> SegmentSection
     let field = start.ranged(s, LINE_FEED, joins, FAULTS);
     let Field::Value(count, next) = field else {
         return SegmentSection {
-            ending: stopped(field),
+            ending: ending_of(field),
             count: 0,
             segments: [none; 11],
         };
@@ -416,11 +422,11 @@ fn train_lines(s: &[u8], start: Cursor, count: usize, stations: u16) -> TrainLin
         while k + 1 < legs {
             let r = cursor.ranged(s, SPACE, Train::RUN, FAULTS);
             let Field::Value(run, after_run) = r else {
-                break 'lines stopped(r);
+                break 'lines ending_of(r);
             };
             let t = after_run.ranged(s, SPACE, Train::STOP, FAULTS);
             let Field::Value(stop, after_stop) = t else {
-                break 'lines stopped(t);
+                break 'lines ending_of(t);
             };
             runs[k] = run;
             stops[k] = stop;
@@ -429,7 +435,7 @@ fn train_lines(s: &[u8], start: Cursor, count: usize, stations: u16) -> TrainLin
         }
         let last = cursor.ranged(s, LINE_FEED, Train::RUN, FAULTS);
         let Field::Value(run, next) = last else {
-            break 'lines stopped(last);
+            break 'lines ending_of(last);
         };
         runs[k] = run;
         trains[i] = train_of(head, runs, stops);
@@ -453,35 +459,6 @@ fn train_of(head: Head, runs: [u16; 11], stops: [u16; 11]) -> Train
     }
 }
 
-// A file that was refused.
-fn refused(ending: Ending) -> ReadLine
-    ensures { λ r. ⌜ r ≡ answered (toldEnding ending emptyLine) ⌝ }
-{
-    let segment = no_segment();
-    let train = no_train();
-    let line = Line {
-        track: Track {
-            station_count: 0,
-            tracks: [0; 12],
-            segments: [segment; 11],
-        },
-        traffic: Traffic {
-            train_count: 0,
-            trains: [train; 12],
-        },
-    };
-    match ending {
-        Ending::Refused(number, place) => ReadLine {
-            answer: Answer::Refused(number, place),
-            line,
-        },
-        Ending::Done(_) => ReadLine {
-            answer: Answer::Accepted,
-            line,
-        },
-    }
-}
-
 // 3. Trains, of a line with so many stations: their count and a line each.
 fn train_section(s: &[u8], start: Cursor, stations: u16) -> TrainSection
     requires { ⌜ (stations ≤ 12) × Counted start ⌝ }
@@ -491,7 +468,7 @@ fn train_section(s: &[u8], start: Cursor, stations: u16) -> TrainSection
     let field = start.ranged(s, LINE_FEED, Train::COUNT, FAULTS);
     let Field::Value(count, next) = field else {
         return TrainSection {
-            ending: stopped(field),
+            ending: ending_of(field),
             count: 0,
             trains: [none; 12],
         };
@@ -506,46 +483,98 @@ fn train_section(s: &[u8], start: Cursor, stations: u16) -> TrainSection
     }
 }
 
+// The line of these entries; nothing else makes one.
+fn line_with(
+    stations: u16,
+    tracks: [u16; 12],
+    segments: [Segment; 11],
+    count: u16,
+    trains: [Train; 12],
+) -> Line
+    ensures { λ r. ⌜ r ≡ lineWith stations tracks segments count trains ⌝ }
+{
+    Line {
+        track: Track {
+            station_count: stations,
+            tracks,
+            segments,
+        },
+        traffic: Traffic {
+            train_count: count,
+            trains,
+        },
+    }
+}
+
+fn empty_line() -> Line
+    ensures { λ r. ⌜ r ≡ emptyLine ⌝ }
+{
+    let segment = no_segment();
+    let train = no_train();
+    let tracks = [0u16; 12];
+    let segments = [segment; 11];
+    let trains = [train; 12];
+    line_with(0, tracks, segments, 0, trains)
+}
+
+// A line that was not read.
+fn no_line(ending: Ending) -> LinePart
+    ensures { λ r. ⌜ r .ending ≡ ending ⌝ }
+{
+    let line = empty_line();
+    LinePart { ending, line }
+}
+
 // The three sections in their order, and nothing after the last.
-fn line_from(s: &[u8], start: Cursor) -> ReadLine
+fn line_from(s: &[u8], start: Cursor) -> LinePart
     requires { ⌜ Counted start ⌝ }
-    ensures { λ r. ⌜ r ≡ answered (lineAt (now (s .entry)) start) ⌝ }
+    ensures { λ r. ⌜ toldEnding (r .ending) (r .line) ≡ lineAt (now (s .entry)) start ⌝ }
 {
     let first = station_section(s, start);
     let stations_end = first.ending;
     let Ending::Done(after_stations) = stations_end else {
-        return refused(stations_end);
+        return no_line(stations_end);
     };
     let stations = first.count;
     let second = segment_section(s, after_stations, stations);
     let segments_end = second.ending;
     let Ending::Done(after_segments) = segments_end else {
-        return refused(segments_end);
+        return no_line(segments_end);
     };
     let third = train_section(s, after_segments, stations);
     let trains_end = third.ending;
     let Ending::Done(last) = trains_end else {
-        return refused(trains_end);
+        return no_line(trains_end);
     };
     if last.at < s.len() {
-        return refused(Ending::Refused(2, last.line));
+        return no_line(Ending::Refused(2, last.line));
     }
     let tracks = first.tracks;
     let segments = second.segments;
     let trains = third.trains;
-    ReadLine {
-        answer: Answer::Accepted,
-        line: Line {
-            track: Track {
-                station_count: stations,
-                tracks,
-                segments,
-            },
-            traffic: Traffic {
-                train_count: third.count,
-                trains,
-            },
+    let line = line_with(stations, tracks, segments, third.count, trains);
+    LinePart {
+        ending: Ending::Done(last),
+        line,
+    }
+}
+
+// What reading gives where it ended so: this line; or a refusal and the empty one.
+fn answer_for(ending: Ending, line: Line) -> ReadLine
+    ensures { λ r. ⌜ r ≡ answered (toldEnding ending line) ⌝ }
+{
+    match ending {
+        Ending::Done(_) => ReadLine {
+            answer: Answer::Accepted,
+            line,
         },
+        Ending::Refused(number, place) => {
+            let empty = empty_line();
+            ReadLine {
+                answer: Answer::Refused(number, place),
+                line: empty,
+            }
+        }
     }
 }
 
@@ -554,9 +583,12 @@ pub fn file_from(s: &[u8], at: usize) -> ReadLine
     ensures { λ r. ⌜ r ≡ answered (fileFrom (now (s .entry)) at) ⌝ }
 {
     if MAX_BYTES < s.len() {
-        return refused(Ending::Refused(1, 0));
+        return answer_for(Ending::Refused(1, 0), empty_line());
     }
-    line_from(s, Cursor { at, line: 1 })
+    let part = line_from(s, Cursor { at, line: 1 });
+    let ending = part.ending;
+    let line = part.line;
+    answer_for(ending, line)
 }
 
 // Reads a line file: its line, or the number and place of its first fault.

@@ -6,11 +6,11 @@ ghost use lib.ListN.{length, take};
 ghost use Rattle.text.specs.Elements.EachThen.{eachThen};
 ghost use Rattle.finite.specs.Each.{Each};
 ghost use Rattle.text.specs.Writing.Splice.{Put};
-ghost use Rattle.text.specs.Writing.Lend.{Lent};
+ghost use Rattle.text.specs.Writing.Lend.{Spelling, Lent};
 ghost use Rattle.line.specs.Within.{Within};
 ghost use Rattle.line.specs.Record.{legsOf, HasPath};
 ghost use Rattle.line.specs.Spell.{stationText, letterByte, segmentText, journeyText, headText, trainText, textOf};
-ghost use Rattle.line.specs.Writing.{numberFault, linesFault, timesFault, trackFault, segmentFault, pathFault, headFault, trainFault, faultOf, refusedBy, spelling};
+ghost use Rattle.line.specs.Writing.{numberFault, linesFault, timesFault, trackFault, segmentFault, pathFault, headFault, trainFault, faultOf, spelling};
 use crate::Kind;
 use crate::Line;
 use crate::MAX_BYTES;
@@ -70,7 +70,7 @@ fn segment_fault(segment: Segment, line: usize) -> Fault
 }
 
 fn segment_faults(segments: [Segment; 11], count: usize, first: usize) -> Fault
-    requires { ⌜ (count ≤ 11) × (first ≤ 100) ⌝ }
+    requires { ⌜ (count ≤ 11) × (first ≤ 15) ⌝ }
     ensures { λ r. ⌜ r ≡ linesFault (take count segments) segmentFault first ⌝ }
 {
     let mut i: usize = 0;
@@ -156,7 +156,7 @@ fn train_fault(train: Train, stations: u16, line: usize) -> Fault
 }
 
 fn train_faults(trains: [Train; 12], count: usize, stations: u16, first: usize) -> Fault
-    requires { ⌜ (count ≤ 12) × (stations ≤ 12) × (first ≤ 100) ⌝ }
+    requires { ⌜ (count ≤ 12) × (stations ≤ 12) × (first ≤ 27) ⌝ }
     ensures { λ r. ⌜ r ≡ linesFault (take count trains) (trainFault stations) first ⌝ }
 {
     let mut i: usize = 0;
@@ -332,13 +332,14 @@ fn put_line(out: &mut [u8], line: Line) -> usize
     put_trains(out, after_number, trains, line.traffic.train_count as usize)
 }
 
-pub fn refused_by(fault: Fault) -> Written
-    ensures { λ r. ⌜ r ≡ refusedBy fault ⌝ }
+// Writes the text of a line within the limits into the lent bytes: its length, or 6 and no byte changed.
+fn write_text(line: Line, out: &mut [u8]) -> Written
+    requires { ⌜ Within line ⌝ }
+    ensures { λ r. ⌜ Lent (Spelling.text (textOf line)) (now (out .entry)) (now (out .exit)) r ⌝ }
 {
-    match fault {
-        Fault::None => Written::Length(0),
-        Fault::At(number, place) => Written::Refused(number, place),
-    }
+    let mut text = [0u8; MAX_BYTES];
+    let count = put_line(&mut text, line);
+    lend_text(&text[..count], out)
 }
 
 // Writes the record of a line, in range or not, into the lent bytes: the length of its text, or 3, 4 or 6 and no byte changed.
@@ -346,10 +347,8 @@ pub fn write(line: Line, out: &mut [u8]) -> Written
     ensures { λ r. ⌜ Lent (spelling line) (now (out .entry)) (now (out .exit)) r ⌝ }
 {
     let fault = fault_of(line);
-    let Fault::None = fault else {
-        return refused_by(fault);
-    };
-    let mut text = [0u8; MAX_BYTES];
-    let count = put_line(&mut text, line);
-    lend_text(&text, count, out)
+    match fault {
+        Fault::None => write_text(line, out),
+        Fault::At(number, place) => Written::Refused(number, place),
+    }
 }

@@ -10,7 +10,7 @@ ghost use Rattle.text.specs.Writing.Digits.{digits, fieldText};
 ghost use Rattle.text.specs.Writing.Splice.{Put};
 ghost use Rattle.text.specs.Reading.Limits.{boundedOf};
 ghost use Rattle.text.specs.Reading.Parsed.{rangedAt};
-ghost use Rattle.text.specs.Reading.Told.{toldField, stoppedBy};
+ghost use Rattle.text.specs.Reading.Told.{toldField, endingOf};
 ghost use Rattle.text.specs.Writing.Lend.{Spelling, Lent};
 
 pub const LINE_FEED: u8 = 10;
@@ -202,9 +202,9 @@ impl Cursor {
     }
 }
 
-// A field's refusal ends the part of the file that it stands in.
-pub fn stopped(field: Field) -> Ending
-    ensures { λ r. ⌜ r ≡ stoppedBy field ⌝ }
+// How the reading of a field ended: after its value, or refused.
+pub fn ending_of(field: Field) -> Ending
+    ensures { λ r. ⌜ r ≡ endingOf field ⌝ }
 {
     match field {
         Field::Value(_, next) => Ending::Done(next),
@@ -242,11 +242,11 @@ pub fn put_field(out: &mut [u8], at: usize, n: u32, b: u8) -> usize
     put_byte(out, next, b)
 }
 
-// The first `count` bytes of a text, copied into the lent bytes if they fit; refused by 6, and nothing changed, if they do not.
-pub fn lend_text(text: &[u8], count: usize, out: &mut [u8]) -> Written
-    requires { ⌜ count ≤ length (now text) ⌝ }
-    ensures { λ r. ⌜ Lent (Spelling.text (take count (now (text .entry)))) (now (out .entry)) (now (out .exit)) r ⌝ }
+// A text, copied into the lent bytes if it fits; refused by 6, and nothing changed, if it does not.
+pub fn lend_text(text: &[u8], out: &mut [u8]) -> Written
+    ensures { λ r. ⌜ Lent (Spelling.text (now (text .entry))) (now (out .entry)) (now (out .exit)) r ⌝ }
 {
+    let count = text.len();
     if out.len() < count {
         return Written::Refused(6, 0);
     }

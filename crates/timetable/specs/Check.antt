@@ -5,10 +5,8 @@ use mathlib.Core.Option.{Option, some, none}
 use mathlib.Core.List.{List, []}
 use lib.ListN.{length, getD}
 use lib.Dec.{eqb}
-use Rattle.text.specs.declared.Ending.{Ending}
 use Rattle.finite.specs.Below.{first, all}
 use Rattle.text.specs.Reading.Parsed.{Parsed}
-use Rattle.line.specs.declared.Answer.{Answer}
 use Rattle.line.specs.declared.Line.{Line}
 use Rattle.line.specs.File.{lineFile}
 use Rattle.rules.specs.declared.rules.Breach.{Breach}
@@ -51,14 +49,6 @@ timetableBreach l t = orBreach (breachOf l (t .minutes)) (restBreach l (t .minut
 abbrev pub verdictOf : Breach → Verdict
 verdictOf Breach.None = Verdict.Passed
 verdictOf (Breach.Rule n p) = Verdict.Refused n p
-
-abbrev pub endingVerdict : Ending → Verdict
-endingVerdict (Ending.Done c) = Verdict.Passed
-endingVerdict (Ending.Refused n p) = Verdict.Refused n p
-
-abbrev pub answerVerdict : Answer → Verdict
-answerVerdict Answer.Accepted = Verdict.Passed
-answerVerdict (Answer.Refused n p) = Verdict.Refused n p
 
 -- a text that was read for the line (7, 8, 9 refuse it) against the rules
 abbrev pub judged : Line → Parsed Timetable → Verdict

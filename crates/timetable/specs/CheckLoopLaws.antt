@@ -29,7 +29,7 @@ use Rattle.rules.specs.Check.Breaches.{breachOf}
 use Rattle.rules.specs.Check.BreachesLaws.{breach-first, breach-later}
 use Rattle.timetable.specs.Reading.{Rest, Timetable, timetableFile}
 use Rattle.timetable.specs.declared.checking.Verdict.{Verdict}
-use Rattle.timetable.specs.Check.{sameList, atList, listsBreach, restBreach, timetableBreach, verdictOf, endingVerdict, answerVerdict, judged, checked, checkOf}
+use Rattle.timetable.specs.Check.{sameList, atList, listsBreach, restBreach, timetableBreach, verdictOf, judged, checked, checkOf}
 
 -- ---- one list
 
@@ -105,9 +105,9 @@ module _ (l : Line) (m : List ℕ) (r : Rest) {b : Breach} (lists : b ≡ listsB
 
 module _ (l : Line) (s : List ℕ) where
   -- a text that was refused
-  pub judged-refused : (t : Timetable) {e : Ending} {n p : ℕ} {v : Verdict} → toldEnding e t ≡ timetableFile l s → e ≡ Ending.Refused n p →
-      v ≡ endingVerdict e → v ≡ judged l (timetableFile l s)
-  judged-refused t told is v = v ∙ ap endingVerdict is ∙ ap (judged l) (ap (λ (k : Ending). toldEnding k t) (sym is) ∙ told)
+  pub judged-refused : (t : Timetable) {e : Ending} {n p : ℕ} → toldEnding e t ≡ timetableFile l s → e ≡ Ending.Refused n p →
+      Verdict.Refused n p ≡ judged l (timetableFile l s)
+  judged-refused t told is = ap (judged l) (ap (λ (k : Ending). toldEnding k t) (sym is) ∙ told)
 
   -- a text that was read
   pub judged-read : (t : Timetable) {e : Ending} {v : Verdict} {c : Cursor} → toldEnding e t ≡ timetableFile l s → e ≡ Ending.Done c →
@@ -131,13 +131,16 @@ file-within file {r} told is = accepts-read file (r .line) (sym told ∙ (λ i. 
 
 -- what was read of a file, which the code answers with r
 module _ (file s : List ℕ) {r : ReadLine} (told : r ≡ answered (lineFile file)) where
-  pub file-refused : {n p : ℕ} {v : Verdict} → r .answer ≡ Answer.Refused n p → v ≡ answerVerdict (r .answer) → v ≡ checkOf file s
+  pub file-refused : {n p : ℕ} → r .answer ≡ Answer.Refused n p → Verdict.Refused n p ≡ checkOf file s
   unfolding checkOf
-  file-refused {n} {p} is h = h ∙ ap answerVerdict is ∙ go (lineFile file) (sym (ap (λ (x : ReadLine). x .answer) told) ∙ is)
+  file-refused {n} {p} is = go (lineFile file) (sym (ap (λ (x : ReadLine). x .answer) told) ∙ is)
     where
       go : (a : Parsed Line) → answered a .answer ≡ Answer.Refused n p → Verdict.Refused n p ≡ checked a s
       go (Parsed.got l c) e = let z : _≡_ {A = ℕ} 0 1 = cc in absurd (omega arith)
-      go (Parsed.bad m q) e = ap answerVerdict (sym e)
+      go (Parsed.bad m q) e =
+          let number : m ≡ n = cc in
+          let place : q ≡ p = cc in
+          rw (number, place) refl
 
   pub file-accepted : {v : Verdict} → r .answer ≡ Answer.Accepted → v ≡ judged (r .line) (timetableFile (r .line) s) → v ≡ checkOf file s
   unfolding checkOf

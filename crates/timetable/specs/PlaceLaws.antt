@@ -145,13 +145,13 @@ pub record TextRefusal (n p : ℕ) : Type 0 where
 pub text-refusal : (l : Line) (s : List ℕ) (n p : ℕ) → timetableFile l s ≡ Parsed.bad n p → TextRefusal n p
 text-refusal l s n p e = elim (decLe (length s) 4096) [
   | yes short ↦ (
-    let w = refused-at l s n p short e in
-    record { number = (omega (arith, w .number), omega (arith, w .number)); place = omega (arith, line-most (stood-line w)) })
+      let w = refused-at l s n p short e in
+      record { number = (omega (arith, w .number), omega (arith, w .number)); place = omega (arith, line-most (stood-line w)) })
   | no long ↦ (
-    let q = sym (file-long l s (omega arith)) ∙ e in
-    let seven : 7 ≡ n = cc in
-    let zero : 0 ≡ p = cc in
-    record { number = (omega arith, omega arith); place = omega arith })
+      let q = sym (file-long l s (omega arith)) ∙ e in
+      let seven : 7 ≡ n = cc in
+      let zero : 0 ≡ p = cc in
+      record { number = (omega arith, omega arith); place = omega arith })
 ]
 
 -- ---- for the reader's code

@@ -10,7 +10,7 @@ use Rattle.line.specs.declared.Train.{Train}
 use Rattle.line.specs.declared.Line.{Line}
 use Rattle.line.specs.declared.writing.Fault.{Fault}
 use Rattle.line.specs.Record.{legsOf}
-use Rattle.line.specs.Writing.{thenFault, onFault, faultOf}
+use Rattle.line.specs.Writing.{onFault, faultOf}
 use Rattle.rules.specs.Statement.Paths.{train}
 use Rattle.rules.specs.Check.Tests.{departureOf, arrivalOf}
 use Rattle.timetable.specs.Spell.{timetableText}
@@ -28,6 +28,10 @@ onLine (some i) = Fault.At 9 (i + 2)
 unfoldable pub minutesFault : Line → List ℕ → Fault
 minutesFault l m = onLine (first (λ i. not (timesRight (train l i) m i)) (l .traffic .«train_count»))
 
--- what there is to write for a line and its minutes: a refusal, or the text
+-- what there is to write for the minutes of a line: the refusal of the first bad one, or the text
+unfoldable pub minutesSpelling : Line → List ℕ → Spelling
+minutesSpelling l m = onFault (minutesFault l m) (Spelling.text (timetableText l m)) Spelling.refused
+
+-- and for a line and its minutes: the line's first bad field comes before
 unfoldable pub spelling : Line → List ℕ → Spelling
-spelling l m = onFault (thenFault (faultOf l) (minutesFault l m)) (Spelling.text (timetableText l m)) Spelling.refused
+spelling l m = onFault (faultOf l) (minutesSpelling l m) Spelling.refused

@@ -23,10 +23,8 @@ use Rattle.line.specs.declared.Train.{Train}
 use Rattle.line.specs.declared.Line.{Line}
 use Rattle.line.specs.declared.writing.Fault.{Fault}
 use Rattle.line.specs.Record.{legsOf}
-use Rattle.line.specs.Within.{Within}
-use Rattle.line.specs.WithinLaws.{within-of}
 use Rattle.line.specs.Spell.{field}
-use Rattle.line.specs.Writing.{thenFault, onFault, faultOf}
+use Rattle.line.specs.Writing.{faultOf}
 use Rattle.line.specs.SpellLaws.{each-then}
 use Rattle.rules.specs.Statement.Paths.{train, legs, EachTrain}
 use Rattle.rules.specs.Check.Tests.{departureOf, arrivalOf}
@@ -36,10 +34,9 @@ use Rattle.rules.specs.declared.orders.OrderList.{OrderList}
 use Rattle.rules.specs.Lists.Orders.{listCount, listed}
 use Rattle.timetable.specs.Reading.{afterField}
 use Rattle.timetable.specs.Spell.{legsText, trainsText, minutesText, namesText, listText, restText, numbers, listNumbers, timetableText}
-use Rattle.timetable.specs.Writing.{timesRight, onLine, minutesFault, spelling}
+use Rattle.timetable.specs.Writing.{timesRight, onLine, minutesFault, minutesSpelling, spelling}
 use Rattle.timetable.specs.CheckLaws.{number-at}
 use Rattle.timetable.specs.SpeltLaws.{DaysAt}
-use Rattle.timetable.specs.FitsLaws.{timetable-fits}
 
 -- ---- the times of a train, and the first train with a time that is too late
 
@@ -61,7 +58,7 @@ module _ (l : Line) (m : List ℕ) where
   late-none k = ap onLine (sym (first-none _ _ (λ j s. ap not (k j s))))
 
   -- minutes without a fault are of the two days
-  days-of : minutesFault l m ≡ Fault.None → EachTrain l (InDays l m)
+  pub days-of : minutesFault l m ≡ Fault.None → EachTrain l (InDays l m)
   unfolding minutesFault
   days-of e i h = decides-times (train l i) m i .yea (not-false _ (none-first _ _ (nobody _ e) i h))
     where
@@ -73,22 +70,25 @@ module _ (l : Line) (m : List ℕ) where
   pub days-clean : EachTrain l (InDays l m) → minutesFault l m ≡ Fault.None
   days-clean h = sym (late-none (λ i b. is-true (decides-times (train l i) m i) (h i b)))
 
-  -- of a line and minutes in which the checks f and g found no fault, the line is within the limits, the times in the two days, and the text fits
-  pub clean-fits : {f g : Fault} → f ≡ faultOf l → f ≡ Fault.None → g ≡ minutesFault l m → g ≡ Fault.None →
-      Within l × EachTrain l (InDays l m) × (length (timetableText l m) ≤ 4096)
-  clean-fits line clean minutes late =
-      let within = within-of l (sym line ∙ clean) in
-      let days = days-of (sym minutes ∙ late) in
-      (within, days, timetable-fits l m within days)
-
   -- what there is to write, by the fault that was found
-  pub spelling-refused : {r : Fault} {n p : ℕ} → r ≡ thenFault (faultOf l) (minutesFault l m) → r ≡ Fault.At n p → spelling l m ≡ Spelling.refused n p
+  pub minutes-refused : {n p : ℕ} → minutesFault l m ≡ Fault.At n p → minutesSpelling l m ≡ Spelling.refused n p
+  unfolding minutesSpelling
+  minutes-refused e = rw e refl
+
+  pub minutes-text : minutesFault l m ≡ Fault.None → minutesSpelling l m ≡ Spelling.text (timetableText l m)
+  unfolding minutesSpelling
+  minutes-text e = rw e refl
+
+  pub spelling-refused : {n p : ℕ} → faultOf l ≡ Fault.At n p → spelling l m ≡ Spelling.refused n p
   unfolding spelling
-  spelling-refused e g = ap (λ (f : Fault). onFault f (Spelling.text (timetableText l m)) Spelling.refused) (sym e ∙ g)
+  spelling-refused e = rw e refl
+
+  pub spelling-minutes : faultOf l ≡ Fault.None → spelling l m ≡ minutesSpelling l m
+  unfolding spelling
+  spelling-minutes e = rw e refl
 
   pub spelling-text : faultOf l ≡ Fault.None → minutesFault l m ≡ Fault.None → spelling l m ≡ Spelling.text (timetableText l m)
-  unfolding spelling
-  spelling-text e g = rw (e, g) refl
+  spelling-text e g = spelling-minutes e ∙ minutes-text g
 
 -- ---- each part, and then what follows it
 

@@ -6,7 +6,8 @@ ghost use lib.ListN.{length, take};
 ghost use Rattle.line.specs.Within.{Within};
 ghost use Rattle.rules.specs.Lists.Orders.{listCount, listed, listsIn};
 ghost use Rattle.timetable.specs.Reading.{timetableFile};
-ghost use Rattle.timetable.specs.Check.{sameList, listsBreach, restBreach, verdictOf, endingVerdict, answerVerdict, judged, checkOf};
+ghost use Rattle.timetable.specs.Told.{restOf};
+ghost use Rattle.timetable.specs.Check.{sameList, listsBreach, restBreach, timetableBreach, verdictOf, judged, checkOf};
 use crate::reading::read_timetable;
 use line::Answer;
 use line::Line;
@@ -65,7 +66,7 @@ fn lists_breach(lists: [OrderList; 22], own: OrderLists) -> Breach
 // The part of the check over the order lists and the total.
 fn rest_breach(line: Line, m: &[u16], lists: [OrderList; 22], total: u32) -> Breach
     requires { ⌜ Within line × (length (now m) ≡ 352) ⌝ }
-    ensures { λ r. ⌜ r ≡ restBreach line (now (m .entry)) (record { lists = map listed (take (listCount line) lists); total = total }) ⌝ }
+    ensures { λ r. ⌜ r ≡ restBreach line (now (m .entry)) (restOf line lists total) ⌝ }
 {
     let own = order_lists(line, m);
     let wrong = lists_breach(lists, own);
@@ -88,41 +89,33 @@ fn verdict_of(breach: Breach) -> Verdict
     }
 }
 
-fn ending_verdict(ending: Ending) -> Verdict
-    ensures { λ r. ⌜ r ≡ endingVerdict ending ⌝ }
+// A timetable that was read for a line: the rules over the minutes, then the lists and the total.
+fn judge(line: Line, minutes: [u16; 352], lists: [OrderList; 22], total: u32) -> Verdict
+    requires { ⌜ Within line ⌝ }
+    ensures { λ r. ⌜ r ≡ verdictOf (timetableBreach line (record { minutes = minutes; rest = restOf line lists total })) ⌝ }
 {
-    match ending {
-        Ending::Done(_) => Verdict::Passed,
-        Ending::Refused(number, place) => Verdict::Refused(number, place),
-    }
+    let broken = breach_of(line, &minutes);
+    let Breach::None = broken else {
+        return verdict_of(broken);
+    };
+    verdict_of(rest_breach(line, &minutes, lists, total))
 }
 
-fn answer_verdict(answer: Answer) -> Verdict
-    ensures { λ r. ⌜ r ≡ answerVerdict answer ⌝ }
-{
-    match answer {
-        Answer::Accepted => Verdict::Passed,
-        Answer::Refused(number, place) => Verdict::Refused(number, place),
-    }
-}
-
-// A timetable's text for a line: read whole, then the rules over the minutes, then the lists and the total.
+// A timetable's text for a line: read whole, then judged.
 fn check_line(line: Line, timetable: &[u8]) -> Verdict
     requires { ⌜ Within line ⌝ }
     ensures { λ r. ⌜ r ≡ judged line (timetableFile line (now (timetable .entry))) ⌝ }
 {
     let part = read_timetable(timetable, line);
     let ending = part.ending;
-    let Ending::Done(_) = ending else {
-        return ending_verdict(ending);
-    };
-    let minutes = part.minutes;
-    let broken = breach_of(line, &minutes);
-    let Breach::None = broken else {
-        return verdict_of(broken);
-    };
-    let lists = part.lists;
-    verdict_of(rest_breach(line, &minutes, lists, part.total))
+    match ending {
+        Ending::Done(_) => {
+            let minutes = part.minutes;
+            let lists = part.lists;
+            judge(line, minutes, lists, part.total)
+        }
+        Ending::Refused(number, place) => Verdict::Refused(number, place),
+    }
 }
 
 // Checks a timetable's text against a line file, whatever the bytes: passed, or the number and place of document 01.
@@ -131,9 +124,11 @@ pub fn check(file: &[u8], timetable: &[u8]) -> Verdict
 {
     let reading = read(file);
     let answer = reading.answer;
-    let Answer::Accepted = answer else {
-        return answer_verdict(answer);
-    };
-    let line = reading.line;
-    check_line(line, timetable)
+    match answer {
+        Answer::Accepted => {
+            let line = reading.line;
+            check_line(line, timetable)
+        }
+        Answer::Refused(number, place) => Verdict::Refused(number, place),
+    }
 }

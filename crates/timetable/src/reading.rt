@@ -32,7 +32,7 @@ use text::Number;
 use text::NumberField;
 use text::SPACE;
 use text::Step;
-use text::stopped;
+use text::ending_of;
 
 // The minutes read so far, with how the reading ended; refused, they say nothing.
 pub struct MinutesPart {
@@ -92,11 +92,11 @@ fn train_line(s: &[u8], start: Cursor, train: Train, i: usize, minutes: [u16; 35
         }
         let d = cursor.ranged(s, SPACE, Time::LIMITS, FAULTS);
         let Field::Value(departure, after_departure) = d else {
-            break 'fields stopped(d);
+            break 'fields ending_of(d);
         };
         let a = after_departure.ranged(s, after_field(legs - (j + 1)), Time::LIMITS, FAULTS);
         let Field::Value(arrival, next) = a else {
-            break 'fields stopped(a);
+            break 'fields ending_of(a);
         };
         let p = segment_between(train.origin, train.destination, j);
         at[16 * p + i] = departure;
@@ -147,7 +147,7 @@ pub fn read_minutes(s: &[u8], start: Cursor, line: Line) -> MinutesPart
     let count = start.ranged(s, LINE_FEED, limits, FAULTS);
     let Field::Value(_, next) = count else {
         return MinutesPart {
-            ending: stopped(count),
+            ending: ending_of(count),
             at: [0; 352],
         };
     };
@@ -182,7 +182,7 @@ fn list_line(s: &[u8], start: Cursor, n: u16) -> ListPart
     let mut trains = [0u16; 12];
     let Field::Value(own, after_count) = field else {
         return ListPart {
-            ending: stopped(field),
+            ending: ending_of(field),
             list: OrderList { count: 0, trains },
         };
     };
@@ -196,7 +196,7 @@ fn list_line(s: &[u8], start: Cursor, n: u16) -> ListPart
         }
         let number = cursor.ranged(s, after_field(count - (k + 1)), limits, FAULTS);
         let Field::Value(train, next) = number else {
-            break 'fields stopped(number);
+            break 'fields ending_of(number);
         };
         trains[k] = train;
         cursor = next;
@@ -249,13 +249,13 @@ fn no_rest(ending: Ending) -> RestPart
 // The second part of the text: the order lists and the total, and nothing after them.
 pub fn read_rest(s: &[u8], start: Cursor, line: Line) -> RestPart
     requires { ⌜ Within line × Counted start ⌝ }
-    ensures { λ r. ⌜ toldEnding (r .ending) (restOf line r) ≡ restAt line (now (s .entry)) start ⌝ }
+    ensures { λ r. ⌜ toldEnding (r .ending) (restOf line (r .lists) (r .total)) ≡ restAt line (now (s .entry)) start ⌝ }
 {
     let own = list_count(line);
     let limits = Limits { min: own, max: own };
     let field = start.ranged(s, LINE_FEED, limits, FAULTS);
     let Field::Value(_, next) = field else {
-        return no_rest(stopped(field));
+        return no_rest(ending_of(field));
     };
     let count = own as usize;
     let part = list_lines(s, next, line.traffic.train_count, count);

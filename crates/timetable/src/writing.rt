@@ -5,14 +5,14 @@ ghost use Prim.Native.Nat.{_+_, _≤_, _<_};
 ghost use lib.ListN.{length};
 ghost use Rattle.text.specs.Elements.EachThen.{eachThen};
 ghost use Rattle.text.specs.Writing.Splice.{Put};
-ghost use Rattle.text.specs.Writing.Lend.{Lent};
+ghost use Rattle.text.specs.Writing.Lend.{Spelling, Lent};
 ghost use Rattle.line.specs.Record.{legsOf};
 ghost use Rattle.line.specs.Within.{Within};
 ghost use Rattle.rules.specs.Statement.Paths.{Routed, EachTrain};
 ghost use Rattle.rules.specs.Statement.Rules.{InDays};
 ghost use Rattle.rules.specs.Lists.Orders.{listed, listsIn};
 ghost use Rattle.timetable.specs.Spell.{legsText, trainsText, listText, numbers, timetableText};
-ghost use Rattle.timetable.specs.Writing.{timesRight, minutesFault, spelling};
+ghost use Rattle.timetable.specs.Writing.{timesRight, minutesFault, minutesSpelling, spelling};
 use crate::reading::after_field;
 use line::Line;
 use line::MAX_BYTES;
@@ -20,7 +20,6 @@ use line::Train;
 use line::legs_between;
 use line::writing::Fault;
 use line::writing::fault_of;
-use line::writing::refused_by;
 use rules::delay::weighted_delay;
 use rules::orders::OrderList;
 use rules::orders::OrderLists;
@@ -158,19 +157,35 @@ fn put_timetable(out: &mut [u8], line: Line, m: &[u16]) -> usize
     put_field(out, after_lists, weighted_delay(line, m), LINE_FEED)
 }
 
+// Writes the text of minutes within the two days into the lent bytes: its length, or 6 and no byte changed.
+fn write_text(line: Line, minutes: [u16; 352], out: &mut [u8]) -> Written
+    requires { ⌜ Within line × EachTrain line (InDays line minutes) ⌝ }
+    ensures { λ r. ⌜ Lent (Spelling.text (timetableText line minutes)) (now (out .entry)) (now (out .exit)) r ⌝ }
+{
+    let mut text = [0u8; MAX_BYTES];
+    let count = put_timetable(&mut text, line, &minutes);
+    lend_text(&text[..count], out)
+}
+
+// Writes the text of minutes, in range or not, of a line within the limits: its length, or 9 or 6 and no byte changed.
+fn write_minutes(line: Line, minutes: [u16; 352], out: &mut [u8]) -> Written
+    requires { ⌜ Within line ⌝ }
+    ensures { λ r. ⌜ Lent (minutesSpelling line minutes) (now (out .entry)) (now (out .exit)) r ⌝ }
+{
+    let late = minutes_fault(line, &minutes);
+    match late {
+        Fault::None => write_text(line, minutes, out),
+        Fault::At(number, place) => Written::Refused(number, place),
+    }
+}
+
 // Writes the text of a line's minutes, in range or not, into the lent bytes: its length, or 3, 4, 9 or 6 and no byte changed.
 pub fn write(line: Line, minutes: [u16; 352], out: &mut [u8]) -> Written
     ensures { λ r. ⌜ Lent (spelling line minutes) (now (out .entry)) (now (out .exit)) r ⌝ }
 {
     let fault = fault_of(line);
-    let Fault::None = fault else {
-        return refused_by(fault);
-    };
-    let late = minutes_fault(line, &minutes);
-    let Fault::None = late else {
-        return refused_by(late);
-    };
-    let mut text = [0u8; MAX_BYTES];
-    let count = put_timetable(&mut text, line, &minutes);
-    lend_text(&text, count, out)
+    match fault {
+        Fault::None => write_minutes(line, minutes, out),
+        Fault::At(number, place) => Written::Refused(number, place),
+    }
 }

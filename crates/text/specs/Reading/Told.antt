@@ -13,6 +13,7 @@ abbrev pub toldEnding : {A : Type 0} → Ending → A → Parsed A
 toldEnding (Ending.Done c) x = Parsed.got x c
 toldEnding (Ending.Refused n p) x = Parsed.bad n p
 
-abbrev pub stoppedBy : Field → Ending
-stoppedBy (Field.Value n c) = Ending.Done c
-stoppedBy (Field.Refused n p) = Ending.Refused n p
+-- how the reading of a field ended: after its value, or refused
+abbrev pub endingOf : Field → Ending
+endingOf (Field.Value n c) = Ending.Done c
+endingOf (Field.Refused n p) = Ending.Refused n p

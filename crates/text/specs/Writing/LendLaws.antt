@@ -5,21 +5,20 @@ use mathlib.Core.List.{List, _++_}
 use native.Mathlib.Omega.{arith}
 use native.Mathlib.Numerals.{add-one}
 use borrow.Author.Tests.{le-leb, lt-leb}
-use lib.ListN.{length, set, getD, take, drop}
-use lib.Seq.{sets, sets-eq, take-append-seam}
+use lib.ListN.{length, set, getD, take, drop, drop-of-length-le}
+use lib.Seq.{sets, sets-eq, drop-cons, take-append-seam}
 use Rattle.text.specs.declared.Written.{Written}
-use Rattle.text.specs.Elements.LeftLaws.{left-cons, left-none}
 use Rattle.text.specs.Writing.Splice.{Put}
 use Rattle.text.specs.Writing.Lend.{Spelling, writtenOf, bytesAfter, Lent}
 
--- ---- the copy of the first n bytes of s, of which i are copied
+-- ---- the copy of a text, of which i bytes are copied
 
-module _ (s out : List ℕ) (n i : ℕ) (full : length (take n s) ≡ n) where
-  pub copy-step : i < n → sets out i (drop i (take n s)) ≡ sets (set out i (getD s i 0)) (i + 1) (drop (i + 1) (take n s))
-  copy-step h = rw (left-cons n s i full 0 h, add-one i) refl
+module _ (s out : List ℕ) (i : ℕ) where
+  pub copy-step : i < length s → sets out i (drop i s) ≡ sets (set out i (getD s i 0)) (i + 1) (drop (i + 1) s)
+  copy-step h = rw (drop-cons s i 0 h, add-one i) refl
 
-  pub copy-end : i ≡ n → sets out i (drop i (take n s)) ≡ out
-  copy-end e = rw (left-none n s i full e) refl
+  pub copy-end : length s ≤ i → sets out i (drop i s) ≡ out
+  copy-end e = rw (drop-of-length-le s e) refl
 
 -- ---- the two endings
 
@@ -74,6 +73,10 @@ refusal-lent {n} {p} {entry} lent =
     (lent .answer, lent .bytes ∙ ap (λ (w : Written). bytesAfter w (Spelling.refused n p) entry) (lent .answer))
 
 -- ---- lending the front of a buffer
+
+-- what there is to write may be given by another name
+pub lent-as : {what other : Spelling} {entry exit : List ℕ} {r : Written} → what ≡ other → Lent other entry exit r → Lent what entry exit r
+lent-as is lent = rw is lent
 
 -- what was put at the front of a buffer stands there
 pub put-front : (entry exit t : List ℕ) (n : ℕ) → Put entry exit 0 t n → length t ≤ length entry → take n exit ≡ t

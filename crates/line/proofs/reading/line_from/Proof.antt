@@ -1,15 +1,21 @@
 -- `line::reading::line_from` meets its contract: each `return` is the law of where it ends: in a section, at bytes after the last, or there. The
 -- count of stations is in its range, and after each section there are still no more lines than bytes. Assumes nothing.
-use mathlib.Core.Path.{_∙_, sym, ap, refl}
+use mathlib.Core.Path.{_≡_, _∙_, sym, ap}
 use Rattle.text.specs.Places.Lines.{Counted, AnyNumber}
 use Rattle.text.specs.Places.LinesLaws.{keeps-counted}
-use Rattle.line.specs.File.{answered}
+use Rattle.text.specs.declared.Cursor.{Cursor}
+use Rattle.text.specs.Reading.Parsed.{Parsed}
+use Rattle.line.specs.declared.Line.{Line}
 use Rattle.line.specs.FileLaws.{ended-told}
-use Rattle.line.specs.SectionLaws.{section-range, no-stations, no-segments, no-trains, bytes-after, line-read, refusal}
+use Rattle.line.specs.SectionLaws.{section-range, no-stations, no-segments, no-trains, bytes-after, line-read}
 use Rattle.line.specs.PlaceLaws.{any-line-number, stands-stations, stands-segments, part-counted}
 use borrow.Author.Needs.{needs}
 use Rattle.line.proofs.reading.line_from.Statement.{statement}
 use Rattle.line.proofs.reading.line_from.Tie as tie
+
+-- the same line read
+got-line : {l k : Line} {c : Cursor} → l ≡ k → Parsed.got l c ≡ Parsed.got k c
+got-line {c = c} e = ap (λ (x : Line). Parsed.got x c) e
 
 station-section-requires : tie.Need-station-section-requires
 station-section-requires c κs = search needs
@@ -20,13 +26,13 @@ enum-known-stations-end c = search needs
 enum-told : tie.Need-enum-told
 enum-told c = search needs
 
-refused-requires : tie.Need-refused-requires
-refused-requires c κs = search needs
+no-line-requires : tie.Need-no-line-requires
+no-line-requires c κs = search needs
 
 returns : tie.Need-returns
 returns c =
     let refused = c .before .enum-told .given .1 in
-    refusal (c .refused .ensures) refused (no-stations _ _ (sym (c .before .before .before .station-section .ensures) ∙ ended-told _ refused))
+    ended-told _ (c .no-line .ensures ∙ refused) ∙ sym (no-stations _ _ (sym (c .before .before .before .station-section .ensures) ∙ ended-told _ refused))
 
 segment-section-requires : tie.Need-segment-section-requires
 segment-section-requires c κs =
@@ -42,15 +48,16 @@ enum-known-segments-end c = search needs
 enum-told-2 : tie.Need-enum-told-2
 enum-told-2 c = search needs
 
-refused-requires-2 : tie.Need-refused-requires-2
-refused-requires-2 c κs = search needs
+no-line-requires-2 : tie.Need-no-line-requires-2
+no-line-requires-2 c κs = search needs
 
 returns-2 : tie.Need-returns-2
 returns-2 c =
     let x = c .before .before .before .before .before in
     let stations = sym (x .before .before .station-section .ensures) ∙ ended-told _ (x .stations-end .given .1) in
     let refused = c .before .enum-told2 .given .1 in
-    refusal (c .refused2 .ensures) refused (no-segments _ _ stations (sym (c .before .before .before .segment-section .ensures) ∙ ended-told _ refused))
+    ended-told _ (c .no-line2 .ensures ∙ refused)
+    ∙ sym (no-segments _ _ stations (sym (c .before .before .before .segment-section .ensures) ∙ ended-told _ refused))
 
 train-section-requires : tie.Need-train-section-requires
 train-section-requires c κs =
@@ -69,8 +76,8 @@ enum-known-trains-end c = search needs
 enum-told-3 : tie.Need-enum-told-3
 enum-told-3 c = search needs
 
-refused-requires-3 : tie.Need-refused-requires-3
-refused-requires-3 c κs = search needs
+no-line-requires-3 : tie.Need-no-line-requires-3
+no-line-requires-3 c κs = search needs
 
 returns-3 : tie.Need-returns-3
 returns-3 c =
@@ -79,10 +86,11 @@ returns-3 c =
     let stations = sym (x .before .before .station-section .ensures) ∙ ended-told _ (x .stations-end .given .1) in
     let segments = sym (y .before .before .segment-section .ensures) ∙ ended-told _ (y .segments-end .given .1) in
     let refused = c .before .enum-told3 .given .1 in
-    refusal (c .refused3 .ensures) refused (no-trains _ _ stations segments (sym (c .before .before .before .train-section .ensures) ∙ ended-told _ refused))
+    ended-told _ (c .no-line3 .ensures ∙ refused)
+    ∙ sym (no-trains _ _ stations segments (sym (c .before .before .before .train-section .ensures) ∙ ended-told _ refused))
 
-refused-requires-4 : tie.Need-refused-requires-4
-refused-requires-4 c κs = search needs
+no-line-requires-4 : tie.Need-no-line-requires-4
+no-line-requires-4 c κs = search needs
 
 returns-4 : tie.Need-returns-4
 returns-4 c =
@@ -92,17 +100,21 @@ returns-4 c =
     let stations = sym (x .before .before .station-section .ensures) ∙ ended-told _ (x .stations-end .given .1) in
     let segments = sym (y .before .before .segment-section .ensures) ∙ ended-told _ (y .segments-end .given .1) in
     let trains = sym (z .before .before .train-section .ensures) ∙ ended-told _ (z .trains-end .given .1) in
-    refusal (c .refused4 .ensures) refl (bytes-after _ _ stations segments trains (c .before .if1 .taken))
+    ended-told _ (c .no-line4 .ensures) ∙ sym (bytes-after _ _ stations segments trains (c .before .if1 .taken))
+
+line-with-requires : tie.Need-line-with-requires
+line-with-requires c κs = search needs
 
 returns-5 : tie.Need-returns-5
 returns-5 c =
-    let z = c .before .before .before .before .before .before in
-    let y = c .before .before .before .before .before .before .before .before .before .before in
-    let x = c .before .before .before .before .before .before .before .before .before .before .before .before .before .before in
+    let z = c .before .before .before .before .before .before .before in
+    let y = c .before .before .before .before .before .before .before .before .before .before .before in
+    let x = c .before .before .before .before .before .before .before .before .before .before .before .before .before .before .before in
     let stations = sym (x .before .before .station-section .ensures) ∙ ended-told _ (x .stations-end .given .1) in
     let segments = sym (y .before .before .segment-section .ensures) ∙ ended-told _ (y .segments-end .given .1) in
     let trains = sym (z .before .before .train-section .ensures) ∙ ended-told _ (z .trains-end .given .1) in
-    sym (ap answered (line-read _ _ stations segments trains (c .before .before .before .if1 .left)))
+    got-line (c .line-with .ensures)
+    ∙ sym (line-read _ _ stations segments trains (c .before .before .before .before .if1 .left))
 
 pub line-from-spec : {M : Type 1} → statement M
 line-from-spec =
@@ -111,18 +123,19 @@ line-from-spec =
     station-section-requires
     enum-known-stations-end
     enum-told
-    refused-requires
+    no-line-requires
     returns
     segment-section-requires
     enum-known-segments-end
     enum-told-2
-    refused-requires-2
+    no-line-requires-2
     returns-2
     train-section-requires
     enum-known-trains-end
     enum-told-3
-    refused-requires-3
+    no-line-requires-3
     returns-3
-    refused-requires-4
+    no-line-requires-4
     returns-4
+    line-with-requires
     returns-5)

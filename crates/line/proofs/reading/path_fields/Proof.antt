@@ -2,7 +2,7 @@
 -- there are still no more lines than bytes. Assumes nothing.
 use mathlib.Core.Path.{_∙_, refl, sym, ap}
 use denote.Ref.{now}
-use Rattle.text.specs.Reading.Told.{stoppedBy}
+use Rattle.text.specs.Reading.Told.{endingOf}
 use Rattle.text.specs.Places.LinesLaws.{field-counted}
 use Rattle.text.specs.Reading.ToldLaws.{ranged-told}
 use Rattle.line.specs.Ranges.{station}
@@ -23,8 +23,8 @@ enum-known-o c = search needs
 enum-told : tie.Need-enum-told
 enum-told c = search needs
 
-stopped-requires : tie.Need-stopped-requires
-stopped-requires c κs = search needs
+ending-of-requires : tie.Need-ending-of-requires
+ending-of-requires c κs = search needs
 
 no-path-requires : tie.Need-no-path-requires
 no-path-requires c κs = search needs
@@ -36,7 +36,7 @@ returns c =
     let refused = o .enum-told .given .1 in
     let origin = ranged-told 2 3 (station (a .stations)) 32 (now (a .s)) _ (o .before .before .before .numbers .ensures) refl
     (o .before .before .ranged .ensures) refused in
-    ended-told _ (c .no-path .ensures ∙ c .before .stopped .ensures ∙ ap stoppedBy refused) ∙ sym (path-no-origin _ _ _ origin)
+    ended-told _ (c .no-path .ensures ∙ c .before .ending-of .ensures ∙ ap endingOf refused) ∙ sym (path-no-origin _ _ _ origin)
 
 numbers-requires-2 : tie.Need-numbers-requires-2
 numbers-requires-2 c κs = search needs
@@ -50,8 +50,8 @@ enum-known-d c = search needs
 enum-told-2 : tie.Need-enum-told-2
 enum-told-2 c = search needs
 
-stopped-requires-2 : tie.Need-stopped-requires-2
-stopped-requires-2 c κs = search needs
+ending-of-requires-2 : tie.Need-ending-of-requires-2
+ending-of-requires-2 c κs = search needs
 
 no-path-requires-2 : tie.Need-no-path-requires-2
 no-path-requires-2 c κs = search needs
@@ -66,7 +66,7 @@ returns-2 c =
     let refused = d .enum-told2 .given .1 in
     let destination = ranged-told 2 3 (station (a .stations)) 32 (now (a .s)) _ (d .before .before .before .numbers2 .ensures) refl
     (d .before .before .ranged2 .ensures) refused in
-    ended-told _ (c .no-path2 .ensures ∙ c .before .stopped2 .ensures ∙ ap stoppedBy refused) ∙ sym (path-no-destination _ _ _ origin destination)
+    ended-told _ (c .no-path2 .ensures ∙ c .before .ending-of2 .ensures ∙ ap endingOf refused) ∙ sym (path-no-destination _ _ _ origin destination)
 
 no-path-requires-3 : tie.Need-no-path-requires-3
 no-path-requires-3 c κs = search needs
@@ -101,14 +101,14 @@ path-fields-spec =
     ranged-requires
     enum-known-o
     enum-told
-    stopped-requires
+    ending-of-requires
     no-path-requires
     returns
     numbers-requires-2
     ranged-requires-2
     enum-known-d
     enum-told-2
-    stopped-requires-2
+    ending-of-requires-2
     no-path-requires-2
     returns-2
     no-path-requires-3

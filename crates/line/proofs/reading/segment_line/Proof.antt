@@ -2,7 +2,7 @@
 -- there are still no more lines than bytes. Assumes nothing.
 use mathlib.Core.Path.{_∙_, sym, ap, refl}
 use denote.Ref.{now}
-use Rattle.text.specs.Reading.Told.{stoppedBy}
+use Rattle.text.specs.Reading.Told.{endingOf}
 use Rattle.text.specs.Places.LinesLaws.{field-counted}
 use Rattle.text.specs.Reading.ToldLaws.{ranged-told}
 use Rattle.line.specs.declared.reading.KindField.{KindField}
@@ -40,8 +40,8 @@ enum-known-f c = search needs
 enum-told-2 : tie.Need-enum-told-2
 enum-told-2 c = search needs
 
-stopped-requires : tie.Need-stopped-requires
-stopped-requires c κs = search needs
+ending-of-requires : tie.Need-ending-of-requires
+ending-of-requires c κs = search needs
 
 returns-2 : tie.Need-returns-2
 returns-2 c =
@@ -51,7 +51,7 @@ returns-2 c =
     let kind = sym (k .before .before .kind-field .ensures) ∙ ap (λ (x : KindField). toldKind (a .cursor .line) x) (k .kind .given .1) in
     let refused = f .enum-told2 .given .1 in
     let following = ranged-told 2 3 gap 32 (now (a .s)) _ refl refl (f .before .before .ranged .ensures) refused in
-    ended-told _ (c .stopped .ensures ∙ ap stoppedBy refused) ∙ sym (segment-no-following _ _ kind following)
+    ended-told _ (c .ending-of .ensures ∙ ap endingOf refused) ∙ sym (segment-no-following _ _ kind following)
 
 ranged-requires-2 : tie.Need-ranged-requires-2
 ranged-requires-2 c κs =
@@ -65,8 +65,8 @@ enum-known-o c = search needs
 enum-told-3 : tie.Need-enum-told-3
 enum-told-3 c = search needs
 
-stopped-requires-2 : tie.Need-stopped-requires-2
-stopped-requires-2 c κs = search needs
+ending-of-requires-2 : tie.Need-ending-of-requires-2
+ending-of-requires-2 c κs = search needs
 
 returns-3 : tie.Need-returns-3
 returns-3 c =
@@ -78,7 +78,7 @@ returns-3 c =
     let following = ranged-told 2 3 gap 32 (now (a .s)) _ refl refl (f .before .before .ranged .ensures) (f .f .given .1) in
     let refused = o .enum-told3 .given .1 in
     let opposing = ranged-told 2 3 gap 10 (now (a .s)) _ refl refl (o .before .before .ranged2 .ensures) refused in
-    ended-told _ (c .stopped2 .ensures ∙ ap stoppedBy refused) ∙ sym (segment-no-opposing _ _ kind following opposing)
+    ended-told _ (c .ending-of2 .ensures ∙ ap endingOf refused) ∙ sym (segment-no-opposing _ _ kind following opposing)
 
 returns-4 : tie.Need-returns-4
 returns-4 c =
@@ -103,11 +103,11 @@ segment-line-spec =
     ranged-requires
     enum-known-f
     enum-told-2
-    stopped-requires
+    ending-of-requires
     returns-2
     ranged-requires-2
     enum-known-o
     enum-told-3
-    stopped-requires-2
+    ending-of-requires-2
     returns-3
     returns-4)

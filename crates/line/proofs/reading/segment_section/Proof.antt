@@ -3,7 +3,7 @@ use mathlib.Core.Path.{_∙_, sym, ap, refl}
 use native.Mathlib.Omega.{arith}
 use Rattle.text.specs.Places.LinesLaws.{field-counted}
 use Rattle.text.specs.Reading.ParsedLaws.{ranged-spelt}
-use Rattle.text.specs.Reading.Told.{stoppedBy}
+use Rattle.text.specs.Reading.Told.{endingOf}
 use Rattle.text.specs.Reading.ToldLaws.{ranged-told}
 use Rattle.line.specs.FileLaws.{ended-told}
 use Rattle.line.specs.SectionLaws.{section-no-count, section-lines}
@@ -29,14 +29,14 @@ enum-known-field c = search needs
 enum-told : tie.Need-enum-told
 enum-told c = search needs
 
-stopped-requires : tie.Need-stopped-requires
-stopped-requires c κs = search needs
+ending-of-requires : tie.Need-ending-of-requires
+ending-of-requires c κs = search needs
 
 returns : tie.Need-returns
 returns c =
     let told = c .before .before in
     let count = ranged-told 2 3 (record { min = _; max = _ }) 10 _ _ refl refl (told .before .ranged .ensures) (c .before .enum-told .given .1) in
-    ended-told _ (c .stopped .ensures ∙ ap stoppedBy (c .before .enum-told .given .1)) ∙ sym (section-no-count _ _ _ _ _ _ count)
+    ended-told _ (c .ending-of .ensures ∙ ap endingOf (c .before .enum-told .given .1)) ∙ sym (section-no-count _ _ _ _ _ _ count)
 
 cast-segment-lines : tie.Need-cast-segment-lines
 cast-segment-lines c = search needs
@@ -64,7 +64,7 @@ segment-section-spec =
     ranged-requires
     enum-known-field
     enum-told
-    stopped-requires
+    ending-of-requires
     returns
     cast-segment-lines
     segment-lines-requires

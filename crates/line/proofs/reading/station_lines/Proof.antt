@@ -9,7 +9,7 @@ use Rattle.text.specs.Elements.Padded.{padded}
 use Rattle.text.specs.Places.Lines.{Counted}
 use Rattle.text.specs.Places.LinesLaws.{field-counted}
 use Rattle.text.specs.Elements.LayLaws.{layMany, lay-done, lay-step, lay-stop}
-use Rattle.text.specs.Reading.Told.{stoppedBy}
+use Rattle.text.specs.Reading.Told.{endingOf}
 use Rattle.text.specs.Reading.ToldLaws.{ranged-told}
 use Rattle.line.specs.Ranges.{tracks}
 use Rattle.line.specs.File.{stationLine}
@@ -37,8 +37,8 @@ enum-known-field c = search needs
 enum-told : tie.Need-enum-told Inv-lines μ-lines
 enum-told c = search needs
 
-stopped-requires : tie.Need-stopped-requires Inv-lines μ-lines
-stopped-requires c κs = search needs
+ending-of-requires : tie.Need-ending-of-requires Inv-lines μ-lines
+ending-of-requires c κs = search needs
 
 mul-tracks : tie.Need-mul-tracks Inv-lines μ-lines
 mul-tracks c = search needs
@@ -77,7 +77,7 @@ returns-2 c =
     let refused = c .before .enum-told .given .1 in
     let field = ranged-told 2 3 tracks 10 (now (a .s)) _ refl refl (c .before .before .before .ranged .ensures) refused in
     let k : a .count - w .i ≡ suc (a .count - (w .i + 1)) = omega arith in
-    ended-told _ (c .stopped .ensures ∙ ap stoppedBy refused) ∙ sym (lay-stop (λ left. stationLine) _ _ _ _ _ _ k _ _ field) ∙ w .inv .0
+    ended-told _ (c .ending-of .ensures ∙ ap endingOf refused) ∙ sym (lay-stop (λ left. stationLine) _ _ _ _ _ _ k _ _ field) ∙ w .inv .0
 
 pub station-lines-spec : {M : Type 1} → statement M
 station-lines-spec =
@@ -89,7 +89,7 @@ station-lines-spec =
     ranged-requires
     enum-known-field
     enum-told
-    stopped-requires
+    ending-of-requires
     mul-tracks
     array-write-tracks
     add-i

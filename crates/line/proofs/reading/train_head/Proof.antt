@@ -2,7 +2,7 @@
 -- there are still no more lines than bytes. Assumes nothing.
 use mathlib.Core.Path.{_∙_, sym, ap, refl}
 use denote.Ref.{now}
-use Rattle.text.specs.Reading.Told.{stoppedBy}
+use Rattle.text.specs.Reading.Told.{endingOf}
 use Rattle.text.specs.Places.Lines.{Counted, AnyNumber}
 use Rattle.text.specs.Places.LinesLaws.{keeps-counted, field-counted}
 use Rattle.text.specs.Reading.ToldLaws.{ranged-told}
@@ -40,8 +40,8 @@ enum-known-e c = search needs
 enum-told-2 : tie.Need-enum-told-2
 enum-told-2 c = search needs
 
-stopped-requires : tie.Need-stopped-requires
-stopped-requires c κs = search needs
+ending-of-requires : tie.Need-ending-of-requires
+ending-of-requires c κs = search needs
 
 no-head-requires-2 : tie.Need-no-head-requires-2
 no-head-requires-2 c κs = search needs
@@ -54,7 +54,7 @@ returns-2 c =
     let path = sym (p .before .before .path-fields .ensures) ∙ ended-told _ (p .ending .given .1) in
     let refused = e .enum-told2 .given .1 in
     let earliest = ranged-told 2 3 time 32 (now (a .s)) _ refl refl (e .before .before .ranged .ensures) refused in
-    ended-told _ (c .no-head2 .ensures ∙ c .before .stopped .ensures ∙ ap stoppedBy refused) ∙ sym (head-no-earliest _ _ _ path earliest)
+    ended-told _ (c .no-head2 .ensures ∙ c .before .ending-of .ensures ∙ ap endingOf refused) ∙ sym (head-no-earliest _ _ _ path earliest)
 
 ranged-requires-2 : tie.Need-ranged-requires-2
 ranged-requires-2 c κs =
@@ -68,8 +68,8 @@ enum-known-l c = search needs
 enum-told-3 : tie.Need-enum-told-3
 enum-told-3 c = search needs
 
-stopped-requires-2 : tie.Need-stopped-requires-2
-stopped-requires-2 c κs = search needs
+ending-of-requires-2 : tie.Need-ending-of-requires-2
+ending-of-requires-2 c κs = search needs
 
 no-head-requires-3 : tie.Need-no-head-requires-3
 no-head-requires-3 c κs = search needs
@@ -84,7 +84,7 @@ returns-3 c =
     let earliest = ranged-told 2 3 time 32 (now (a .s)) _ refl refl (e .before .before .ranged .ensures) (e .e .given .1) in
     let refused = l .enum-told3 .given .1 in
     let latest = ranged-told 2 3 time 32 (now (a .s)) _ refl refl (l .before .before .ranged2 .ensures) refused in
-    ended-told _ (c .no-head3 .ensures ∙ c .before .stopped2 .ensures ∙ ap stoppedBy refused) ∙ sym (head-no-latest _ _ _ path earliest latest)
+    ended-told _ (c .no-head3 .ensures ∙ c .before .ending-of2 .ensures ∙ ap endingOf refused) ∙ sym (head-no-latest _ _ _ path earliest latest)
 
 ranged-requires-3 : tie.Need-ranged-requires-3
 ranged-requires-3 c κs =
@@ -100,8 +100,8 @@ enum-known-w c = search needs
 enum-told-4 : tie.Need-enum-told-4
 enum-told-4 c = search needs
 
-stopped-requires-3 : tie.Need-stopped-requires-3
-stopped-requires-3 c κs = search needs
+ending-of-requires-3 : tie.Need-ending-of-requires-3
+ending-of-requires-3 c κs = search needs
 
 no-head-requires-4 : tie.Need-no-head-requires-4
 no-head-requires-4 c κs = search needs
@@ -118,7 +118,7 @@ returns-4 c =
     let latest = ranged-told 2 3 time 32 (now (a .s)) _ refl refl (l .before .before .ranged2 .ensures) (l .l .given .1) in
     let refused = w .enum-told4 .given .1 in
     let weighed = ranged-told 2 3 weight 32 (now (a .s)) _ refl refl (w .before .before .ranged3 .ensures) refused in
-    ended-told _ (c .no-head4 .ensures ∙ c .before .stopped3 .ensures ∙ ap stoppedBy refused) ∙ sym (head-no-weight _ _ _ path earliest latest weighed)
+    ended-told _ (c .no-head4 .ensures ∙ c .before .ending-of3 .ensures ∙ ap endingOf refused) ∙ sym (head-no-weight _ _ _ path earliest latest weighed)
 
 returns-5 : tie.Need-returns-5
 returns-5 c =
@@ -145,19 +145,19 @@ train-head-spec =
     ranged-requires
     enum-known-e
     enum-told-2
-    stopped-requires
+    ending-of-requires
     no-head-requires-2
     returns-2
     ranged-requires-2
     enum-known-l
     enum-told-3
-    stopped-requires-2
+    ending-of-requires-2
     no-head-requires-3
     returns-3
     ranged-requires-3
     enum-known-w
     enum-told-4
-    stopped-requires-3
+    ending-of-requires-3
     no-head-requires-4
     returns-4
     returns-5)

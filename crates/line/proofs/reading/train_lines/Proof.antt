@@ -9,7 +9,7 @@ use denote.Ref.{now}
 use lib.ListN.{replicate}
 use Rattle.text.specs.Reading.Parsed.{Parsed, mapParsed}
 use Rattle.text.specs.Elements.Padded.{padded}
-use Rattle.text.specs.Reading.Told.{stoppedBy}
+use Rattle.text.specs.Reading.Told.{endingOf}
 use Rattle.text.specs.Places.Lines.{Counted, AnyNumber}
 use Rattle.text.specs.Places.LinesLaws.{keeps-counted, field-counted}
 use Rattle.text.specs.Elements.LayLaws.{layMany, lay-done}
@@ -30,7 +30,7 @@ use Rattle.line.proofs.reading.no_train.Reads as no-train-reads
 use Rattle.line.proofs.reading.train_head.Reads as train-head-reads
 use Rattle.line.proofs.reading.train_of.Reads as train-of-reads
 use Rattle.text.proofs.Cursor.ranged.Reads as ranged-reads
-use Rattle.text.proofs.stopped.Reads as stopped-reads
+use Rattle.text.proofs.ending_of.Reads as ending-of-reads
 
 abbrev Inv-loop : tie.InvT-loop
 Inv-loop s count stations trains cursor₀ i head legs runs₀ stops₀ k₀ cursor runs stops k =
@@ -58,8 +58,8 @@ module _ (c : lts.At-loop (
   legs-between-reads.Learnt,
   ranged-reads.Asked,
   ranged-reads.Learnt,
-  stopped-reads.Asked,
-  stopped-reads.Learnt,
+  ending-of-reads.Asked,
+  ending-of-reads.Learnt,
   train-of-reads.Asked,
   train-of-reads.Learnt,
 ) reads.Pre reads.Post Inv-loop μ-loop Inv-lines μ-lines) where
@@ -121,8 +121,8 @@ enum-known-r c = search needs
 enum-told-2 : tie.Need-enum-told-2 Inv-loop μ-loop Inv-lines μ-lines
 enum-told-2 c = search needs
 
-stopped-requires : tie.Need-stopped-requires Inv-loop μ-loop Inv-lines μ-lines
-stopped-requires c κs = search needs
+ending-of-requires : tie.Need-ending-of-requires Inv-loop μ-loop Inv-lines μ-lines
+ending-of-requires c κs = search needs
 
 ranged-requires-2 : tie.Need-ranged-requires-2 Inv-loop μ-loop Inv-lines μ-lines
 ranged-requires-2 c κs = field-counted _ _ _ _ _ _ (c .before .before .before .before .before .loop .inv .3) (c .before .before .before .ranged .ensures) (c .before .r .given .1)
@@ -133,8 +133,8 @@ enum-known-t c = search needs
 enum-told-3 : tie.Need-enum-told-3 Inv-loop μ-loop Inv-lines μ-lines
 enum-told-3 c = search needs
 
-stopped-requires-2 : tie.Need-stopped-requires-2 Inv-loop μ-loop Inv-lines μ-lines
-stopped-requires-2 c κs = search needs
+ending-of-requires-2 : tie.Need-ending-of-requires-2 Inv-loop μ-loop Inv-lines μ-lines
+ending-of-requires-2 c κs = search needs
 
 mul-runs : tie.Need-mul-runs Inv-loop μ-loop Inv-lines μ-lines
 mul-runs c = search needs
@@ -174,8 +174,8 @@ enum-known-last c = search needs
 enum-told-4 : tie.Need-enum-told-4 Inv-loop μ-loop Inv-lines μ-lines
 enum-told-4 c = search needs
 
-stopped-requires-3 : tie.Need-stopped-requires-3 Inv-loop μ-loop Inv-lines μ-lines
-stopped-requires-3 c κs = search needs
+ending-of-requires-3 : tie.Need-ending-of-requires-3 Inv-loop μ-loop Inv-lines μ-lines
+ending-of-requires-3 c κs = search needs
 
 mul-runs-2 : tie.Need-mul-runs-2 Inv-loop μ-loop Inv-lines μ-lines
 mul-runs-2 c = search needs
@@ -250,7 +250,7 @@ returns-3 c =
     let r = ranged-told 2 3 run 32 _ _ refl refl (c .before .before .before .ranged .ensures) (c .before .enum-told2 .given .1) in
     let train = line-yet l _ (journey-stop-run _ _ _ _ _ _ _ m _ _ r) in
     lines-stop _ _ _ _ _ _ _ (l .before .before .before .before .before .before .before .before .lines .inv .0) (left l) _ _ _ train
-    (ended-told _ (c .stopped .ensures ∙ ap stoppedBy (c .before .enum-told2 .given .1)))
+    (ended-told _ (c .ending-of .ensures ∙ ap endingOf (c .before .enum-told2 .given .1)))
 
 returns-4 : tie.Need-returns-4 Inv-loop μ-loop Inv-lines μ-lines
 unfolding padded
@@ -262,7 +262,7 @@ returns-4 c =
     let t = ranged-told 2 3 stop 32 _ _ refl refl (c .before .before .before .ranged2 .ensures) (c .before .enum-told3 .given .1) in
     let train = line-yet l _ (journey-stop-stop _ _ _ _ _ _ _ m _ _ r _ _ t) in
     lines-stop _ _ _ _ _ _ _ (l .before .before .before .before .before .before .before .before .lines .inv .0) (left l) _ _ _ train
-    (ended-told _ (c .stopped2 .ensures ∙ ap stoppedBy (c .before .enum-told3 .given .1)))
+    (ended-told _ (c .ending-of2 .ensures ∙ ap endingOf (c .before .enum-told3 .given .1)))
 
 returns-5 : tie.Need-returns-5 Inv-loop μ-loop Inv-lines μ-lines
 unfolding padded
@@ -272,7 +272,7 @@ returns-5 c =
     let r = ranged-told 2 3 run 10 _ _ refl refl (c .before .before .before .ranged3 .ensures) (c .before .enum-told4 .given .1) in
     let train = line-yet l _ (journey-last-stop _ _ _ _ _ _ m _ _ r) in
     lines-stop _ _ _ _ _ _ _ (l .before .before .before .before .before .before .before .before .lines .inv .0) (left l) _ _ _ train
-    (ended-told _ (c .stopped3 .ensures ∙ ap stoppedBy (c .before .enum-told4 .given .1)))
+    (ended-told _ (c .ending-of3 .ensures ∙ ap endingOf (c .before .enum-told4 .given .1)))
 
 pub train-lines-spec : {M : Type 1} → statement M
 train-lines-spec =
@@ -293,11 +293,11 @@ train-lines-spec =
     ranged-requires
     enum-known-r
     enum-told-2
-    stopped-requires
+    ending-of-requires
     ranged-requires-2
     enum-known-t
     enum-told-3
-    stopped-requires-2
+    ending-of-requires-2
     mul-runs
     array-write-runs
     mul-stops
@@ -308,7 +308,7 @@ train-lines-spec =
     ranged-requires-3
     enum-known-last
     enum-told-4
-    stopped-requires-3
+    ending-of-requires-3
     mul-runs-2
     array-write-runs-2
     train-of-requires

@@ -8,7 +8,7 @@ use lib.ListN.{replicate}
 use Rattle.text.specs.Places.Lines.{Counted}
 use Rattle.text.specs.Places.LinesLaws.{field-counted}
 use Rattle.text.specs.Elements.LayLaws.{layMany, lay-done, lay-step, lay-stop}
-use Rattle.text.specs.Reading.Told.{toldField, stoppedBy}
+use Rattle.text.specs.Reading.Told.{toldField, endingOf}
 use Rattle.text.specs.Reading.ToldLaws.{ranged-told}
 use Rattle.line.specs.FileLaws.{ended-told}
 use Rattle.timetable.specs.Reading.{nameAt}
@@ -35,14 +35,14 @@ enum-known-field c = search needs
 enum-told : tie.Need-enum-told Inv-fields μ-fields
 enum-told c = search needs
 
-stopped-requires : tie.Need-stopped-requires Inv-fields μ-fields
-stopped-requires c κs = search needs
+ending-of-requires : tie.Need-ending-of-requires Inv-fields μ-fields
+ending-of-requires c κs = search needs
 
 returns : tie.Need-returns Inv-fields μ-fields
 returns c =
     let refused = c .before .enum-told .given .1 in
     let own = sym (c .before .before .before .own-count .ensures) ∙ ap toldField refused in
-    ended-told _ (c .stopped .ensures ∙ ap stoppedBy refused) ∙ sym (list-no-count _ _ _ own)
+    ended-told _ (c .ending-of .ensures ∙ ap endingOf refused) ∙ sym (list-no-count _ _ _ own)
 
 cast-count : tie.Need-cast-count Inv-fields μ-fields
 cast-count c = search needs
@@ -72,8 +72,8 @@ enum-known-number c = search needs
 enum-told-2 : tie.Need-enum-told-2 Inv-fields μ-fields
 enum-told-2 c = search needs
 
-stopped-requires-2 : tie.Need-stopped-requires-2 Inv-fields μ-fields
-stopped-requires-2 c κs = search needs
+ending-of-requires-2 : tie.Need-ending-of-requires-2 Inv-fields μ-fields
+ending-of-requires-2 c κs = search needs
 
 mul-trains : tie.Need-mul-trains Inv-fields μ-fields
 mul-trains c = search needs
@@ -118,7 +118,7 @@ returns-3 c =
     (c .before .before .before .ranged .ensures) refused in
     let m : count - w .k ≡ suc (count - (w .k + 1)) = omega (arith, w .inv .1, c .before .before .before .before .before .if1 .left) in
     let own = sym (c .before .before .before .before .before .before .before .before .before .before .own-count .ensures) ∙ ap toldField (c .before .before .before .before .before .before .before .before .field .given .1) in
-    ended-told _ (c .stopped2 .ensures ∙ ap stoppedBy refused)
+    ended-told _ (c .ending-of2 .ensures ∙ ap endingOf refused)
     ∙ sym (list-from _ _ _ _ _ _ (c .before .before .before .before .before .before .before .before .before .before .before .before .pre .0) own
     (sym (lay-stop (nameAt (a .n)) _ _ _ _ _ _ m _ _ number) ∙ w .inv .0))
 
@@ -131,7 +131,7 @@ list-line-spec =
     own-count-requires
     enum-known-field
     enum-told
-    stopped-requires
+    ending-of-requires
     returns
     cast-count
     fields-holds
@@ -141,7 +141,7 @@ list-line-spec =
     ranged-requires
     enum-known-number
     enum-told-2
-    stopped-requires-2
+    ending-of-requires-2
     mul-trains
     array-write-trains
     add-k

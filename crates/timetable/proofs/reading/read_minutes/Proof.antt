@@ -1,7 +1,7 @@
 -- `timetable::reading::read_minutes` meets its contract: refused at the count, or the lines of as many trains as the line has. Assumes nothing.
 use mathlib.Core.Path.{_∙_, sym, ap, refl}
 use Rattle.text.specs.Places.LinesLaws.{field-counted}
-use Rattle.text.specs.Reading.Told.{stoppedBy}
+use Rattle.text.specs.Reading.Told.{endingOf}
 use Rattle.text.specs.Reading.ToldLaws.{ranged-told}
 use Rattle.line.specs.FileLaws.{ended-told}
 use Rattle.timetable.specs.ReadingLaws.{minutes-no-count, minutes-counted}
@@ -18,15 +18,15 @@ enum-known-count c = search needs
 enum-told : tie.Need-enum-told
 enum-told c = search needs
 
-stopped-requires : tie.Need-stopped-requires
-stopped-requires c κs = search needs
+ending-of-requires : tie.Need-ending-of-requires
+ending-of-requires c κs = search needs
 
 returns : tie.Need-returns
 returns c =
     let refused = c .before .enum-told .given .1 in
     let count = ranged-told 8 9 (record { min = _; max = _ }) 10 _ _ refl refl
     (c .before .before .before .ranged .ensures) refused in
-    ended-told _ (c .stopped .ensures ∙ ap stoppedBy refused) ∙ sym (minutes-no-count _ _ _ count)
+    ended-told _ (c .ending-of .ensures ∙ ap endingOf refused) ∙ sym (minutes-no-count _ _ _ count)
 
 train-lines-requires : tie.Need-train-lines-requires
 train-lines-requires c κs =
@@ -46,7 +46,7 @@ read-minutes-spec =
     ranged-requires
     enum-known-count
     enum-told
-    stopped-requires
+    ending-of-requires
     returns
     train-lines-requires
     returns-2)

@@ -8,7 +8,7 @@ use lib.ListN.{take}
 use Rattle.text.specs.Reading.Parsed.{Parsed}
 use Rattle.text.specs.Places.Lines.{Counted, AnyNumber}
 use Rattle.text.specs.Places.LinesLaws.{keeps-counted, field-counted}
-use Rattle.text.specs.Reading.Told.{stoppedBy}
+use Rattle.text.specs.Reading.Told.{endingOf}
 use Rattle.text.specs.Reading.ToldLaws.{ranged-told}
 use Rattle.line.specs.FileLaws.{ended-told}
 use Rattle.line.specs.PlaceLaws.{part-counted}
@@ -30,8 +30,8 @@ enum-known-field c = search needs
 enum-told : tie.Need-enum-told
 enum-told c = search needs
 
-stopped-requires : tie.Need-stopped-requires
-stopped-requires c κs = search needs
+ending-of-requires : tie.Need-ending-of-requires
+ending-of-requires c κs = search needs
 
 no-rest-requires : tie.Need-no-rest-requires
 no-rest-requires c κs = search needs
@@ -40,7 +40,7 @@ returns : tie.Need-returns
 returns c =
     let refused = c .before .before .enum-told .given .1 in
     let count = ranged-told 8 9 (record { min = _; max = _ }) 10 _ _ refl refl (c .before .before .before .before .ranged .ensures) refused in
-    ended-told _ (c .no-rest .ensures ∙ c .before .stopped .ensures ∙ ap stoppedBy refused)
+    ended-told _ (c .no-rest .ensures ∙ c .before .ending-of .ensures ∙ ap endingOf refused)
     ∙ sym (rest-no-count _ _ _ (c .before .before .before .before .before .list-count .ensures .0) count)
 
 cast-count : tie.Need-cast-count
@@ -130,7 +130,7 @@ read-rest-spec =
     ranged-requires
     enum-known-field
     enum-told
-    stopped-requires
+    ending-of-requires
     no-rest-requires
     returns
     cast-count

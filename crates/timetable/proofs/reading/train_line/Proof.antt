@@ -5,7 +5,7 @@ use mathlib.Core.Path.{_≡_, _∙_, sym, ap, refl}
 use native.Mathlib.Omega.{arith}
 use native.Mathlib.Nat.{sub-zero}
 use denote.Ref.{now}
-use Rattle.text.specs.Reading.Told.{stoppedBy}
+use Rattle.text.specs.Reading.Told.{endingOf}
 use Rattle.text.specs.Places.Lines.{Counted}
 use Rattle.text.specs.Places.LinesLaws.{field-counted}
 use Rattle.text.specs.Reading.ToldLaws.{ranged-told}
@@ -39,8 +39,8 @@ enum-known-d c = search needs
 enum-told : tie.Need-enum-told Inv-fields μ-fields
 enum-told c = search needs
 
-stopped-requires : tie.Need-stopped-requires Inv-fields μ-fields
-stopped-requires c κs = search needs
+ending-of-requires : tie.Need-ending-of-requires Inv-fields μ-fields
+ending-of-requires c κs = search needs
 
 add-after-field : tie.Need-add-after-field Inv-fields μ-fields
 add-after-field c = search needs
@@ -60,8 +60,8 @@ enum-known-a c = search needs
 enum-told-2 : tie.Need-enum-told-2 Inv-fields μ-fields
 enum-told-2 c = search needs
 
-stopped-requires-2 : tie.Need-stopped-requires-2 Inv-fields μ-fields
-stopped-requires-2 c κs = search needs
+ending-of-requires-2 : tie.Need-ending-of-requires-2 Inv-fields μ-fields
+ending-of-requires-2 c κs = search needs
 
 segment-between-requires : tie.Need-segment-between-requires Inv-fields μ-fields
 segment-between-requires c κs =
@@ -144,7 +144,7 @@ returns-2 c =
     let k : legs - w .j ≡ suc (legs - (w .j + 1)) = omega (arith, w .inv .1, c .before .before .before .before .if1 .left) in
     let refused = c .before .enum-told .given .1 in
     let departure = ranged-told 8 9 (record { min = 0; max = 2879 }) 32 (now (a .s)) _ refl refl (c .before .before .before .ranged .ensures) refused in
-    ended-told _ (c .stopped .ensures ∙ ap stoppedBy refused) ∙ sym (legs-no-departure _ _ _ _ _ _ _ _ k departure) ∙ w .inv .0
+    ended-told _ (c .ending-of .ensures ∙ ap endingOf refused) ∙ sym (legs-no-departure _ _ _ _ _ _ _ _ k departure) ∙ w .inv .0
 
 returns-3 : tie.Need-returns-3 Inv-fields μ-fields
 returns-3 c =
@@ -156,7 +156,7 @@ returns-3 c =
     let departure = ranged-told 8 9 (record { min = 0; max = 2879 }) 32 (now (a .s)) _ refl refl (c .before .before .before .before .before .before .before .before .ranged .ensures) (c .before .before .before .before .before .before .d .given .1) in
     let arrival = ranged-told 8 9 (record { min = 0; max = 2879 }) (afterField (legs - (w .j + 1))) (now (a .s)) _ refl
     (c .before .before .before .before .after-field .ensures) (c .before .before .before .ranged2 .ensures) refused in
-    ended-told _ (c .stopped2 .ensures ∙ ap stoppedBy refused) ∙ sym (legs-no-arrival _ _ _ _ _ _ _ _ k departure arrival) ∙ w .inv .0
+    ended-told _ (c .ending-of2 .ensures ∙ ap endingOf refused) ∙ sym (legs-no-arrival _ _ _ _ _ _ _ _ k departure arrival) ∙ w .inv .0
 
 pub train-line-spec : {M : Type 1} → statement M
 train-line-spec =
@@ -169,14 +169,14 @@ train-line-spec =
     ranged-requires
     enum-known-d
     enum-told
-    stopped-requires
+    ending-of-requires
     add-after-field
     sub-after-field
     after-field-requires
     ranged-requires-2
     enum-known-a
     enum-told-2
-    stopped-requires-2
+    ending-of-requires-2
     segment-between-requires
     mul-at
     add-at
