@@ -102,6 +102,16 @@ module _ (marks t ds : List ℕ) where
   allowLeg (after e j) = 0
   allowLeg (gone e j) = 0
 
+  -- from the departure of a leg as the source: the arcs from its arrival to that of a train behind it, which are raised for by themselves
+  abbrev pub LaterLeg : ℕ → LegArc → Type 0
+  LaterLeg src (runs e) = ⊥
+  LaterLeg src (slow e) = ⊥
+  LaterLeg src (next e) = ⊥
+  LaterLeg src (depart e j) = ⊥
+  LaterLeg src (arrive e j) = e ≡ src
+  LaterLeg src (after e j) = ⊥
+  LaterLeg src (gone e j) = ⊥
+
 abbrev pub legGraph : List ℕ → List ℕ → List ℕ → Graph
 legGraph marks t ds =
     record {
@@ -111,6 +121,7 @@ legGraph marks t ds =
       to = toLeg marks t ds;
       wait = waitLeg marks t ds;
       allow = allowLeg marks t ds;
+      Later = LaterLeg marks t ds;
     }
 
 -- no arrival is past its limit
