@@ -1,5 +1,5 @@
 // Raising minutes: a leg that must be later, and all that follows from it, with what the minutes cost. It ends at once where an arrival passes its limit,
-// the cost passes the cut, or the source of the choice itself would rise: then no minutes keep it.
+// the cost passes the cut, or the source itself, the event that the choice's arc starts from, would rise: then no minutes keep it.
 ghost use mathlib.Core.Path.{_≡_};
 ghost use mathlib.Core.Logic.{_⊎_};
 ghost use mathlib.Core.Bool.{true};

@@ -15,20 +15,21 @@ use Rattle.orders.specs.Lift.LiftingLaws.{going-then, going-dead, going-
 abbrev pub RestAside : List ℕ → ℕ → ℕ → LegArc → Type 0
 RestAside t left f a = Gone f a ⊎ AsideOf t (left - 1) (nextIn t f) a
 
+-- what leaves the legs that are left is what leaves the first of them, and the rest
 aside-first : (t : List ℕ) (left k f : ℕ) (a : LegArc) → left ≡ suc k → AsideOf t left f a → After f a ⊎ (Gone f a ⊎ AsideOf t k (nextIn t f) a)
 unfolding AsideOf
 aside-first t left k f a q d =
     ⊎-elim (λ o. ⊎-elim (λ x. inl x) (λ x. inr (inl x)) o) (λ o. inr (inr o)) (subst (λ (x : ℕ). AsideOf t x f a) q d)
 
-aside-none : (t : List ℕ) (left f : ℕ) (a : LegArc) → left ≤ 0 → AsideOf t left f a → ⊥
-unfolding AsideOf
-aside-none t zero f a l d = d
-aside-none t (suc k) f a l d = omega arith
-
 first-aside : (t : List ℕ) (left k f : ℕ) (a : LegArc) → left ≡ suc k → After f a ⊎ (Gone f a ⊎ AsideOf t k (nextIn t f) a) → AsideOf t left f a
 unfolding AsideOf
 first-aside t left k f a q d =
     subst⁻¹ (λ (x : ℕ). AsideOf t x f a) q (⊎-elim (λ o. inl (inl o)) (λ o. ⊎-elim (λ x. inl (inr x)) (λ x. inr x) o) d)
+
+aside-none : (t : List ℕ) (left f : ℕ) (a : LegArc) → left ≤ 0 → AsideOf t left f a → ⊥
+unfolding AsideOf
+aside-none t zero f a l d = d
+aside-none t (suc k) f a l d = omega arith
 
 module _ (marks t ds : List ℕ) (src cut : ℕ) (D : LegArc → Type 0) (m n : List ℕ) (c f left : ℕ) (part : (a : LegArc) → AsideOf t left f a → D a) where
   module _ (g : GoingFor marks t ds src cut D (AsideOf t left f) m n c) where
