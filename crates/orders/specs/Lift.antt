@@ -1,5 +1,5 @@
 -- Lifting a leg and all that follows: the contracts (`Lifting`), along a path (`RaisedPaths`), then to other trains (`SpreadingLaws`, `ServingLaws`), and for a
--- choice (`ChosenArcsLaws`).
+-- choice, one arc at a time (`ChosenArcsLaws`) and with two arcs (`TwoArcsLaws`).
 pub mod Lifting
 pub mod RaisedPaths
 pub mod LiftingLaws
@@ -8,3 +8,4 @@ pub mod RaisedPathsLaws
 pub mod SpreadingLaws
 pub mod ServingLaws
 pub mod ChosenArcsLaws
+pub mod TwoArcsLaws

@@ -1,5 +1,5 @@
 // Raising minutes: a leg that must be later, and all that follows from it, with what the minutes cost. It ends at once where an arrival passes its limit,
-// the cost passes the cut, or the source of the choice itself would rise: then no minutes keep it.
+// the cost passes the cut, or the source itself, the event that the choice's arc starts from, would rise: then no minutes keep it.
 ghost use mathlib.Core.Path.{_≡_};
 ghost use mathlib.Core.Logic.{_⊎_};
 ghost use mathlib.Core.Bool.{true};
@@ -215,7 +215,7 @@ fn comers(
 }
 
 // The least minutes with the choice, marked already, that train j goes after that of leg e on its segment, and what they cost; DEAD where none are in
-// time for no more than the cut.
+// time for no more than the cut. Where the gap counts at departure and at arrival these are two arcs, and each is lifted for with its own source.
 pub fn follow(
     m: &mut [u16; 352],
     marks: &[u16; 368],
@@ -233,11 +233,18 @@ pub fn follow(
     let b = times_behind(m, t, ds, e, j);
     let v = b.departure;
     let w = b.arrival;
-    let src = source_of(t, ds, e, j);
-    if rises(m[f], v, m[176 + f], w) {
-        return lift(m, marks, t, ds, f, v, w, src, cost, cut);
+    let mut c = cost;
+    if m[f] < v {
+        let src = source_of(t, ds, e, j);
+        c = lift(m, marks, t, ds, f, v, 0, src, cost, cut);
+        if c == DEAD {
+            return DEAD;
+        }
     }
-    cost
+    if m[176 + f] < w {
+        return lift(m, marks, t, ds, f, 0, w, 176 + e, c, cut);
+    }
+    c
 }
 
 // The same with the choice that train j comes to the station of leg e's departure after its train has left.

@@ -102,6 +102,16 @@ module _ (marks t ds : List ℕ) where
   allowLeg (after e j) = 0
   allowLeg (gone e j) = 0
 
+  -- from the departure of a leg as the source: the arcs from its arrival to that of a train behind it, which are raised for by themselves
+  abbrev pub LaterLeg : ℕ → LegArc → Type 0
+  LaterLeg src (runs e) = ⊥
+  LaterLeg src (slow e) = ⊥
+  LaterLeg src (next e) = ⊥
+  LaterLeg src (depart e j) = ⊥
+  LaterLeg src (arrive e j) = e ≡ src
+  LaterLeg src (after e j) = ⊥
+  LaterLeg src (gone e j) = ⊥
+
 abbrev pub legGraph : List ℕ → List ℕ → List ℕ → Graph
 legGraph marks t ds =
     record {
@@ -111,6 +121,7 @@ legGraph marks t ds =
       to = toLeg marks t ds;
       wait = waitLeg marks t ds;
       allow = allowLeg marks t ds;
+      Later = LaterLeg marks t ds;
     }
 
 -- no arrival is past its limit
@@ -126,19 +137,19 @@ abbrev pub GoesOn : List ℕ → ℕ → ℕ → Type 0
 GoesOn t e f = (1 ≤ runIn t f) × (restIn t e ≡ stopIn t e + runIn t f + restIn t f) × (lastIn t e ≡ lastIn t f)
 
 -- the tables and marks are of a shape that raising can go by: lengths and bounds, every arc that is there ends at a leg of a train, and what is left of a
--- train gets less from leg to leg
+-- train gets less from leg to leg. A stop may take 480 minutes, twice what a file may say, and so ten stops and runs 7,200.
 pub record Shaped (marks t ds : List ℕ) : Type 0 where
   pub marks-size : length marks ≡ 368
   pub tables-size : length t ≡ 1456
   pub directions-size : length ds ≡ 176
   pub run-most : (e : ℕ) → e < 176 → runIn t e ≤ 240
-  pub stop-most : (e : ℕ) → e < 176 → stopIn t e ≤ 240
+  pub stop-most : (e : ℕ) → e < 176 → stopIn t e ≤ 480
   pub limit-most : (e : ℕ) → e < 176 → limitIn t e ≤ 2879
   pub weight-most : (e : ℕ) → e < 176 → weightIn t e ≤ 99
   pub gap-most : (p : ℕ) → p < 11 → (followingIn t p ≤ 60) × (opposingIn t p ≤ 60)
   pub next-used : (e : ℕ) → UsedLeg ds e → UsedLeg ds (nextIn t e)
   pub last-used : (e : ℕ) → UsedLeg ds e → UsedLeg ds (lastIn t e)
-  pub rest-most : (e : ℕ) → UsedLeg ds e → restIn t e ≤ 4800
+  pub rest-most : (e : ℕ) → UsedLeg ds e → restIn t e ≤ 7200
   pub rest-falls : (e : ℕ) → UsedLeg ds e → Ends t e ⊎ GoesOn t e (nextIn t e)
   pub beside-used : (e j : ℕ) → UsedLeg ds e → j < 12 → inMask (getD marks e 0) j ≡ true → UsedLeg ds (beside e j)
   pub comes-used : (e j : ℕ) → UsedLeg ds e → j < 12 → inMask (getD marks (leaving ds e) 0) j ≡ true →

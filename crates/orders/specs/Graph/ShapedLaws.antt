@@ -89,13 +89,13 @@ module _ (l : Line) (w : Within l) (r : Arrays l) where
       tables-size = tables-size l;
       directions-size = directions-size l (directionsOf l) refl;
       run-most = run-most l w r;
-      stop-most = stop-most l w r;
+      stop-most = λ e b. omega (arith, stop-most l w r e b);
       limit-most = limit-most l w r;
       weight-most = weight-most l w r;
       gap-most = gap-most l w r;
       next-used = next-leg;
       last-used = last-leg;
-      rest-most = rest-few;
+      rest-most = λ e u. omega (arith, rest-few e u);
       rest-falls = rest-falls;
       beside-used = λ e j u b m. behind-leg l w r e u j (segment-fits e j u m);
       comes-used = λ e j u b m. let f = station-fits e j u m in comes-leg l w r (stationOf (directionsOf l) e) _ j (f .0) (f .1);

@@ -6,7 +6,7 @@ use mathlib.Core.List.{List}
 use lib.ListN.{length, getD}
 use Rattle.orders.specs.LeastMinutes.NoLater.{_⊑_, WithinDays, slack}
 use Rattle.orders.specs.LineTables.Tables.{runIn, costIn}
-use Rattle.orders.specs.Raise.Raising.{Kept, KeepsAll, Nothing, Reach, Raised, NoneFor}
+use Rattle.orders.specs.Raise.Raising.{Kept, KeepsAll, Nothing, Reach, Solves, Clear, Raised, NoneFor}
 use Rattle.orders.specs.Graph.LegGraph.{LegArc, runs, slow, next, depart, arrive, after, gone, UsedLeg, UsedArc, legGraph, InLimits, Shaped}
 
 abbrev pub Alive : ℕ → Type 0
@@ -41,10 +41,6 @@ pub record Settled (t ds : List ℕ) (cut : ℕ) (n : List ℕ) (r : ℕ) : Type
 -- minutes are asked for that are there already, or that a solution has too, seen from the source
 abbrev pub Asks : ℕ → ℕ → ℕ → ℕ → List ℕ → List ℕ → Type 0
 Asks src e v w m y = ((v ≤ getD m e 0) ⊎ Reach src m y e v) × ((w ≤ getD m (176 + e) 0) ⊎ Reach src m y (176 + e) w)
-
--- nothing is asked of y
-abbrev pub Any : List ℕ → Type 0
-Any y = 0 ≤ length y
 
 pub record Lifted (marks t ds : List ℕ) (src cut e v w : ℕ) (m n : List ℕ) (r : ℕ) : Type 0 where
   pub raised : Alive r → Raised (legGraph marks t ds) src (Asks src e v w m) (Nothing (legGraph marks t ds)) (Nothing (legGraph marks t ds)) m n
@@ -83,12 +79,12 @@ Gone e (arrive x j) = ⊥
 Gone e (after x j) = ⊥
 Gone e (gone x j) = x ≡ e
 
--- every arc of `Due` is kept, and all that follows
+-- every arc of `Due` is kept, and all that follows; none of them has to be left for later
 pub record Followed (Due : LegArc → Type 0) (marks t ds : List ℕ) (src cut : ℕ) (m n : List ℕ) (r : ℕ) : Type 0 where
-  pub raised : Alive r → Raised (legGraph marks t ds) src Any Due (Nothing (legGraph marks t ds)) m n
+  pub raised : Alive r → Raised (legGraph marks t ds) src (Clear (legGraph marks t ds) src Due m) Due (Nothing (legGraph marks t ds)) m n
   pub settled : Alive r → Settled t ds cut n r
   pub legs : Alive r → LegsKept marks t ds n
-  pub none : r ≡ 4294967295 → NoneFor (legGraph marks t ds) (InLimits t ds) (costIn t) cut src Any m
+  pub none : r ≡ 4294967295 → NoneFor (legGraph marks t ds) (InLimits t ds) (costIn t) cut src (Clear (legGraph marks t ds) src Due m) m
 
 -- ---- raising under way
 
@@ -98,15 +94,20 @@ pub record Going (marks t ds : List ℕ) (src cut : ℕ) (H : List ℕ → Type 
   pub settled : Settled t ds cut n r
   pub legs : LegsKept marks t ds n
 
+-- D was due, none of which had to be left for later
+abbrev pub GoingFor : List ℕ → List ℕ → List ℕ → ℕ → ℕ → (LegArc → Type 0) → (LegArc → Type 0) → List ℕ → List ℕ → ℕ → Type 0
+GoingFor marks t ds src cut D T m n r = Going marks t ds src cut (Clear (legGraph marks t ds) src D m) D T m n r
+
 -- no solution from m
 abbrev pub NoWay : List ℕ → List ℕ → List ℕ → ℕ → ℕ → (List ℕ → Type 0) → List ℕ → Type 0
 NoWay marks t ds src cut H m = NoneFor (legGraph marks t ds) (InLimits t ds) (costIn t) cut src H m
 
--- after the stores: leg e is where it was asked to be, and T is to do
+-- after the stores: leg e is where it was asked to be, and T is to do, none of which has to be left for later
 pub record Stepped (marks t ds : List ℕ) (T : LegArc → Type 0) (src cut e v w : ℕ) (m n : List ℕ) (c : ℕ) : Type 0 where
   pub going : Going marks t ds src cut (Asks src e v w m) (Nothing (legGraph marks t ds)) T m n c
   pub dep : v ≤ getD n e 0
   pub arr : w ≤ getD n (176 + e) 0
+  pub clear : (y : List ℕ) → Solves (legGraph marks t ds) src m y → Asks src e v w m y → Clear (legGraph marks t ds) src T n y
   pub less : slack n < slack m
 
 -- ---- a choice

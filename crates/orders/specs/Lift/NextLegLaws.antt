@@ -6,7 +6,7 @@ use mathlib.Core.List.{List}
 use native.Mathlib.Omega.{arith}
 use lib.ListN.{getD}
 use Rattle.orders.specs.LineTables.Tables.{stopIn, nextIn}
-use Rattle.orders.specs.Raise.Raising.{Kept, Solves}
+use Rattle.orders.specs.Raise.Raising.{Kept, Solves, Clear}
 use Rattle.orders.specs.Graph.LegGraph.{LegArc, runs, slow, next, depart, arrive, after, gone, UsedLeg, UsedArc, legGraph, Shaped}
 use Rattle.orders.specs.Lift.Lifting.{Asks, ToNext, Stepped}
 use Rattle.orders.specs.Lift.ServingLaws.{Serves, serves-next, serves-asks, serves-there, serves-stepped}
@@ -28,11 +28,21 @@ module _ (marks t ds : List ℕ) (e f : ℕ) (leg : UsedLeg ds e) (next-is : f �
     serves : Serves marks t ds (ToNext e) m f v 0
     serves = serves-next marks t ds m e f v (leg, λ q. other (next-is ∙ q)) next-is v-is
 
+    -- it is never left for later
+    clear : (src : ℕ) (y : List ℕ) → Clear (legGraph marks t ds) src (ToNext e) m y
+    clear src y (runs x) u d l = absurd l
+    clear src y (slow x) u d l = absurd l
+    clear src y (next x) u d l = absurd l
+    clear src y (depart x i) u d l = absurd l
+    clear src y (arrive x i) u d l = absurd d
+    clear src y (after x i) u d l = absurd l
+    clear src y (gone x i) u d l = absurd l
+
     pub onward-still : v ≤ getD m f 0 → (a : LegArc) → UsedArc marks t ds a → ToNext e a → Kept (legGraph marks t ds) m a
     onward-still l = serves-there marks t ds (ToNext e) m f v 0 serves l (omega arith)
 
     pub onward-asks : (src : ℕ) (y : List ℕ) → Solves (legGraph marks t ds) src m y → Asks src f v 0 m y
-    onward-asks = serves-asks marks t ds (ToNext e) m f v 0 serves
+    onward-asks src y s = serves-asks marks t ds (ToNext e) m f v 0 serves src y s (clear src y)
 
     pub onward-stepped : (T : LegArc → Type 0) (src cut : ℕ) (n : List ℕ) (r : ℕ) → Stepped marks t ds T src cut f v 0 m n r →
         (a : LegArc) → UsedArc marks t ds a → ToNext e a → Kept (legGraph marks t ds) n a ⊎ T a

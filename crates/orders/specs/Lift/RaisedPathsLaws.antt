@@ -1,6 +1,6 @@
 -- Laws of raising a train along its path: the legs of a path one after the other, and a path under way.
 use Prim.Native.Nat.{ℕ, zero, suc, _+_, _≤_, _<_}
-use mathlib.Core.Path.{_≡_, refl, _∙_, ap, subst}
+use mathlib.Core.Path.{_≡_, refl, _∙_, ap, subst, subst⁻¹}
 use mathlib.Core.Logic.{_⊎_, inl, inr, ⊎-elim}
 use mathlib.Core.Bool.{cond}
 use mathlib.Core.List.{List}
@@ -53,6 +53,18 @@ outward-ahead : (t : List ℕ) (n e g : ℕ) → g ≡ legAfter t n e → (a : L
 outward-ahead t n e g q a (inl x) = inl x
 outward-ahead t n e g q a (inr x) = inr (aside-last t n e a (subst (λ (z : ℕ). Aside z a) q x))
 
+-- and nothing else leaves one leg more
+aside-parts : (t : List ℕ) (n e : ℕ) (a : LegArc) → AsideOf t (suc n) e a → AsideOf t n e a ⊎ Aside (legAfter t n e) a
+unfolding AsideOf legAfter
+aside-parts t zero e a (inl x) = inr x
+aside-parts t zero e a (inr x) = absurd x
+aside-parts t (suc n) e a (inl x) = inl (inl x)
+aside-parts t (suc n) e a (inr x) = ⊎-elim (λ k. inl (inr k)) (λ k. inr k) (aside-parts t n (nextIn t e) a x)
+
+ahead-parts : (t : List ℕ) (n e g : ℕ) → g ≡ legAfter t n e → (a : LegArc) → LeavesPath t g (suc n) e a → AsideOf t n e a ⊎ Outward g a
+ahead-parts t n e g q a (inl x) = inr (inl x)
+ahead-parts t n e g q a (inr x) = ⊎-elim (λ k. inl k) (λ k. inr (inr (subst⁻¹ (λ (z : ℕ). Aside z a) q k))) (aside-parts t n e a x)
+
 -- ---- a path under way
 
 -- so many legs from e on are later, and f is the last of them; its next leg, and what leaves them to other trains, is to do; or there are no such minutes
@@ -65,10 +77,11 @@ pub record AlongPath (marks t ds : List ℕ) (src cut e v w : ℕ) (m n : List �
 
 module _ (marks t ds : List ℕ) (src cut e v w : ℕ) (m n : List ℕ) (c : ℕ) where
   pub path-start : UsedLeg ds e → LegRaised marks t ds src cut e v w m n c → AlongPath marks t ds src cut e v w m n c e 1
-  unfolding legAfter
+  unfolding legAfter AsideOf
   path-start u l =
       record {
-        stepped = λ z. stepped-skip marks t ds _ src cut e v w m n c (l .stepped z) (LeavesPath t e 1 e) (λ a u x. inr (outward-ahead t 0 e e refl a x));
+        stepped = λ z. stepped-skip marks t ds _ src cut e v w m n c (l .stepped z) (LeavesPath t e 1 e)
+            (λ a u x. inr (outward-ahead t 0 e e refl a x)) (λ a x. ⊎-elim (λ k. absurd k) (λ k. k) (ahead-parts t 0 e e refl a x));
         count = λ z. omega (arith, l .stepped z .less);
         leg = u;
         next-is = refl;
@@ -89,7 +102,7 @@ module _ (marks t ds : List ℕ) (src cut e v w : ℕ) (m n : List ℕ) (c : ℕ
       ends k =
           record {
             stepped = λ z. stepped-skip marks t ds _ src cut e v w m n c (p .stepped z) (AsideOf t legs e)
-                (λ a u x. ⊎-elim (λ o. inl (k a u o)) (λ o. inr o) x);
+                (λ a u x. ⊎-elim (λ o. inl (k a u o)) (λ o. inr o) x) (λ a x. inr x);
             none = λ q. absurd (alive q);
           }
 
@@ -133,6 +146,7 @@ module _ (marks t ds : List ℕ) (src cut e v w : ℕ) (m n : List ℕ) (c : ℕ
                   (λ o. inr (inr (aside-more t legs e a o)))
                   x)
                   (outward-ahead t legs e g place)
+                  (λ a x. ⊎-elim (λ k. inl (inr k)) (λ k. inr k) (ahead-parts t legs e g place a x))
 
 -- ---- the measure of the loop
 

@@ -14,11 +14,11 @@ use Rattle.orders.specs.Plan.Bits.{inMask}
 use Rattle.orders.specs.LineTables.Tables.{runIn, nextIn, limitIn, restIn, lastIn, costIn}
 use Rattle.orders.specs.Raise.CostLaws.{cost-grows, cost-one}
 use Rattle.orders.specs.Raise.Raising.{Graph, KeepsAll}
-use Rattle.orders.specs.Graph.LegGraph.{LegArc, runs, next, depart, after, gone, beside, doubled, stationOf, leaving, comesOn, UsedLeg, UsedArc, legGraph, Ends, GoesOn, Shaped}
+use Rattle.orders.specs.Graph.LegGraph.{LegArc, runs, next, depart, after, gone, beside, doubled, stationOf, leaving, comesOn, UsedLeg, legGraph, Ends, GoesOn, Shaped}
 use Rattle.orders.specs.Raise.LegTimes.{Arrives, moreCost}
 use Rattle.orders.specs.Lift.Lifting.{Ready, NoneChosen}
 use Rattle.orders.specs.Look.Prospects.{NoneFrom, GoesBefore}
-use Rattle.orders.specs.Lift.ServingLaws.{Calls, Serves}
+use Rattle.orders.specs.Lift.ServingLaws.{CalledBy, Serves}
 
 -- the arrival by the leg that has to wait is no great minute
 pub arrives-small : (w v run a : ℕ) → Arrives 0 w v run a → v ≤ 20000 → w ≤ 20000 → run ≤ 240 → a ≤ 20240
@@ -91,16 +91,16 @@ module _ (marks t ds : List ℕ) where
 
   -- ---- the choice: its arcs ask that leg f depart at v and arrive at w, so every solution has them
 
-  called : (m y : List ℕ) (x v : ℕ) → KeepsAll G y → m ⊑ y → (v ≡ 0) ⊎ ((a : LegArc) × UsedArc marks t ds a × Calls marks t ds m x v a) → v ≤ getD y x 0
+  called : (Here : LegArc → Type 0) (m y : List ℕ) (x v : ℕ) → KeepsAll G y → m ⊑ y → CalledBy marks t ds Here m x v → v ≤ getD y x 0
   unfolding KeepsAll
-  called m y x v keeps above (inl z) = omega arith
-  called m y x v keeps above (inr (a, u, (q, r))) = omega (arith, keeps a u, above (G .from a), ap (λ (i : ℕ). getD y i 0) q)
+  called Here m y x v keeps above (inl z) = omega arith
+  called Here m y x v keeps above (inr (a, u, h, (q, r))) = omega (arith, keeps a u, above (G .from a), ap (λ (i : ℕ). getD y i 0) q)
 
   pub none-chosen : (Chosen : LegArc → Type 0) (m : List ℕ) (f v w cut : ℕ) → Serves marks t ds Chosen m f v w → NoneFrom marks t ds cut f v w m →
       NoneChosen marks t ds cut m
   unfolding NoneFrom NoneChosen
   none-chosen Chosen m f v w cut h none y within keeps above =
-      none y within keeps above (called m y f v keeps above (h .departs)) (called m y (176 + f) w keeps above (h .arrives))
+      none y within keeps above (called Chosen m y f v keeps above (h .departs)) (called Chosen m y (176 + f) w keeps above (h .arrives))
 
   -- ---- a train that goes over the segment before
 

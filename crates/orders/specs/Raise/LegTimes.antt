@@ -50,6 +50,6 @@ GoesBehind m t ds e j v w =
     ((doubled t ds e j ≡ true) × (v ≡ getD m e 0 + gapIn t ds e j) × (w ≡ getD m (176 + e) 0 + gapIn t ds e j)) ⊎
     ((doubled t ds e j ≡ false) × (v ≡ getD m (176 + e) 0 + gapIn t ds e j) × (w ≡ 0))
 
--- the event that the choice "train j behind that of leg e" starts from
+-- the event from which the choice "train j behind that of leg e" asks for a departure
 abbrev pub sourceOf : List ℕ → List ℕ → ℕ → ℕ → ℕ
 sourceOf t ds e j = cond (doubled t ds e j) e (176 + e)

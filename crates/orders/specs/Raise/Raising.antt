@@ -6,7 +6,8 @@ use mathlib.Core.List.{List}
 use lib.ListN.{length, getD}
 use Rattle.orders.specs.LeastMinutes.NoLater.{_⊑_, WithinDays}
 
--- arcs by name, which of them are there, and what they ask: from + wait ≤ to + allow
+-- arcs by name, which of them are there, and what they ask: from + wait ≤ to + allow; and which of them a raising from a source may leave to one of their
+-- own that follows it
 pub record Graph : Type 1 where
   pub Arc : Type 0
   pub Used : Arc → Type 0
@@ -14,6 +15,7 @@ pub record Graph : Type 1 where
   pub to : Arc → ℕ
   pub wait : Arc → ℕ
   pub allow : Arc → ℕ
+  pub Later : ℕ → Arc → Type 0
 
 abbrev pub Kept : (G : Graph) → List ℕ → G .Arc → Type 0
 Kept G m a = getD m (G .from a) 0 + G .wait a ≤ getD m (G .to a) 0 + G .allow a
@@ -37,11 +39,15 @@ pub record Grown (G : Graph) (Due Todo : G .Arc → Type 0) (m n : List ℕ) : T
 abbrev pub Reach : ℕ → List ℕ → List ℕ → ℕ → ℕ → Type 0
 Reach src m y x v = v + getD y src 0 ≤ getD y x 0 + getD m src 0
 
--- y is at or above m and keeps all arcs; and an arc that m does not keep starts no further from the source than in y
+-- y is at or above m and keeps all arcs; and an arc that m does not keep starts no further from the source than in y, or is left for later
 pub record Solves (G : Graph) (src : ℕ) (m y : List ℕ) : Type 0 where
   pub above : m ⊑ y
   pub keeps : KeepsAll G y
-  pub near : (a : G .Arc) → G .Used a → Kept G m a ⊎ Reach src m y (G .from a) (getD m (G .from a) 0)
+  pub near : (a : G .Arc) → G .Used a → Kept G m a ⊎ (Reach src m y (G .from a) (getD m (G .from a) 0) ⊎ G .Later src a)
+
+-- none of the arcs of D has to be left for later: those that might be start no further from the source than in y
+abbrev pub Clear : (G : Graph) → ℕ → (G .Arc → Type 0) → List ℕ → List ℕ → Type 0
+Clear G src D m y = (a : G .Arc) → G .Used a → D a → G .Later src a → Reach src m y (G .from a) (getD m (G .from a) 0)
 
 -- where each event is that rose, y has it too
 unfoldable pub AllReached : ℕ → List ℕ → List ℕ → List ℕ → Type 0

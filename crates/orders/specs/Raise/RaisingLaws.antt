@@ -7,7 +7,7 @@ use native.Mathlib.Decide.{decLt}
 use native.Mathlib.Omega.{arith}
 use lib.ListN.{getD}
 use Rattle.orders.specs.LeastMinutes.NoLater.{_⊑_, WithinDays}
-use Rattle.orders.specs.Raise.Raising.{Graph, Kept, Nothing, Grown, Solves, AllReached, Raised, NoneFor}
+use Rattle.orders.specs.Raise.Raising.{Graph, Kept, Nothing, Grown, Solves, Clear, AllReached, Raised, NoneFor}
 
 pub le-or-lt : (a b : ℕ) → (a ≤ b) ⊎ (b < a)
 le-or-lt a b = elim (decLt b a) [ yes l ↦ inr l | no l ↦ inl (omega arith) ]
@@ -83,33 +83,42 @@ raised-start G src H T m w = record { grown = grown-skip G T T m w (λ a u t. in
 
 module _ (G : Graph) (src : ℕ) (H : List ℕ → Type 0) (D T : G .Arc → Type 0) (m n : List ℕ) (p : Raised G src H D T m n) where
   -- the solutions from here on are those from before
-  solves-on : (y : List ℕ) → Solves G src m y → H y → Solves G src n y
+  pub solves-on : (y : List ℕ) → Solves G src m y → H y → Solves G src n y
   unfolding AllReached
   solves-on y s h =
       record {
         above = first-below G src m n y s (p .first y s h);
         keeps = s .keeps;
         near = λ a u. ⊎-elim
-            (λ w. ⊎-elim (λ k. inl (omega (arith, p .grown .up (G .to a)))) (λ k. inr (omega (arith, p .source))) (s .near a u))
-            (λ w. inr (omega (arith, p .source)))
+            (λ w. ⊎-elim
+            (λ k. inl (omega (arith, p .grown .up (G .to a))))
+            (λ k. inr (⊎-elim (λ q. inl (omega (arith, p .source))) (λ q. inr q) k))
+            (s .near a u))
+            (λ w. inr (inl (omega (arith, p .source))))
             (p .first y s h (G .from a));
       }
 
+  -- what had not to be left for later has not to be left from here on
+  pub clear-on : (D′ : G .Arc → Type 0) (y : List ℕ) → Solves G src m y → H y → Clear G src D′ m y → Clear G src D′ n y
+  unfolding AllReached
+  clear-on D′ y s h c a u d l =
+      ⊎-elim (λ w. omega (arith, p .source, c a u d l)) (λ w. omega (arith, p .source)) (p .first y s h (G .from a))
+
   -- a raising follows that leaves T₂; what is to do then is T′
   pub raised-onto :
-      (H′ : List ℕ → Type 0) (D′ T₂ T′ : G .Arc → Type 0) (n′ : List ℕ) → Raised G src H′ D′ T₂ n n′ → ((y : List ℕ) → Solves G src n y → H′ y) →
+      (H′ : List ℕ → Type 0) (D′ T₂ T′ : G .Arc → Type 0) (n′ : List ℕ) → Raised G src H′ D′ T₂ n n′ → ((y : List ℕ) → Solves G src m y → H y → H′ y) →
       ((a : G .Arc) → G .Used a → T a → Kept G n′ a ⊎ T′ a) → ((a : G .Arc) → T₂ a → T′ a) → Raised G src H D T′ m n′
   raised-onto H′ D′ T₂ T′ n′ q f part more =
       record {
         grown = grown-then G D T T′ m n n′ (p .grown) (grown-onto G D′ T T₂ T′ n n′ (q .grown) part more);
         source = q .source ∙ p .source;
-        first = λ y s h. first-more src m n n′ y (p .source) (p .first y s h) (q .first y (solves-on y s h) (f y (solves-on y s h)));
+        first = λ y s h. first-more src m n n′ y (p .source) (p .first y s h) (q .first y (solves-on y s h) (f y s h));
       }
 
   -- a raising follows that does D′ of what is to do and leaves nothing of its own
   pub raised-then :
       (H′ : List ℕ → Type 0) (D′ T′ : G .Arc → Type 0) (n′ : List ℕ) → ((a : G .Arc) → G .Used a → T a → D′ a ⊎ T′ a) →
-      Raised G src H′ D′ (Nothing G) n n′ → ((y : List ℕ) → Solves G src n y → H′ y) → Raised G src H D T′ m n′
+      Raised G src H′ D′ (Nothing G) n n′ → ((y : List ℕ) → Solves G src m y → H y → H′ y) → Raised G src H D T′ m n′
   raised-then H′ D′ T′ n′ part q f =
       raised-onto H′ D′ (Nothing G) T′ n′ q f
       (λ a u t. ⊎-elim (λ d. inl (done (q .grown .due a u d))) (λ r. inr r) (part a u t)) (λ a t. absurd t)
@@ -124,6 +133,6 @@ module _ (G : Graph) (src : ℕ) (H : List ℕ → Type 0) (D T : G .Arc → Typ
 
   pub none-then :
       (InTime : List ℕ → Type 0) (cost : List ℕ → ℕ) (cut : ℕ) (H′ : List ℕ → Type 0) →
-      NoneFor G InTime cost cut src H′ n → ((y : List ℕ) → Solves G src n y → H′ y) → NoneFor G InTime cost cut src H m
+      NoneFor G InTime cost cut src H′ n → ((y : List ℕ) → Solves G src m y → H y → H′ y) → NoneFor G InTime cost cut src H m
   unfolding NoneFor
-  none-then InTime cost cut H′ q f y s h w = q y (solves-on y s h) (f y (solves-on y s h)) w
+  none-then InTime cost cut H′ q f y s h w = q y (solves-on y s h) (f y s h) w

@@ -8,11 +8,11 @@ use native.Mathlib.Omega.{arith}
 use lib.ListN.{getD}
 use Rattle.orders.specs.Plan.Bits.{inMask, NextBit}
 use Rattle.orders.specs.Plan.BitsLaws.{mask-none}
-use Rattle.orders.specs.Raise.Raising.{Kept, Nothing}
+use Rattle.orders.specs.Raise.Raising.{Kept, Nothing, Solves, Clear}
 use Rattle.orders.specs.Raise.RaisingLaws.{le-or-lt}
 use Rattle.orders.specs.Graph.LegGraph.{LegArc, runs, slow, next, depart, arrive, after, gone, stationOf, leaving, comesOn, UsedLeg, UsedArc, legGraph}
-use Rattle.orders.specs.Lift.Lifting.{Alive, Ready, Any, Lifted, Followed, After, Gone, Going, Follows, Comes}
-use Rattle.orders.specs.Lift.LiftingLaws.{going-start, going-as, going-skip, followed, followed-dead}
+use Rattle.orders.specs.Lift.Lifting.{Alive, Ready, Lifted, Followed, After, Gone, GoingFor, Follows, Comes}
+use Rattle.orders.specs.Lift.LiftingLaws.{going-start, going-as, going-skip, going-clear, followed, followed-dead}
 use Rattle.orders.specs.Lift.ServingLaws.{Serves, serves-dead, serves-raised, serves-still}
 
 abbrev trainOf : LegArc → ℕ
@@ -31,12 +31,13 @@ FromTrain D k a = D a × (k ≤ trainOf a)
 -- the arcs of a row of marks: all of them, and those to one train
 pub record Row (marks t ds : List ℕ) (row : ℕ) (D : LegArc → Type 0) (Here : ℕ → LegArc → Type 0) : Type 0 where
   pub one : (k : ℕ) (a : LegArc) → D a → trainOf a ≡ k → Here k a
+  pub all : (k : ℕ) (a : LegArc) → Here k a → D a
   pub few : (a : LegArc) → UsedArc marks t ds a → D a → trainOf a < 12
   pub marked : (a : LegArc) → UsedArc marks t ds a → D a → inMask (getD marks row 0) (trainOf a) ≡ true
 
 module _ (marks t ds : List ℕ) where
   pub after-row : (e : ℕ) → Row marks t ds e (After e) (Follows e)
-  after-row e = record { one = one; few = few; marked = marked }
+  after-row e = record { one = one; all = all; few = few; marked = marked }
     where
       one : (k : ℕ) (a : LegArc) → After e a → trainOf a ≡ k → Follows e k a
       one k (runs x) d q = absurd d
@@ -46,6 +47,15 @@ module _ (marks t ds : List ℕ) where
       one k (arrive x j) d q = (d, q)
       one k (after x j) d q = (d, q)
       one k (gone x j) d q = absurd d
+
+      all : (k : ℕ) (a : LegArc) → Follows e k a → After e a
+      all k (runs x) d = absurd d
+      all k (slow x) d = absurd d
+      all k (next x) d = absurd d
+      all k (depart x j) d = d .0
+      all k (arrive x j) d = d .0
+      all k (after x j) d = d .0
+      all k (gone x j) d = absurd d
 
       few : (a : LegArc) → UsedArc marks t ds a → After e a → trainOf a < 12
       few (runs x) u d = absurd d
@@ -66,7 +76,7 @@ module _ (marks t ds : List ℕ) where
       marked (gone x j) u d = absurd d
 
   pub gone-row : (e : ℕ) → Row marks t ds (leaving ds e) (Gone e) (Comes e)
-  gone-row e = record { one = one; few = few; marked = marked }
+  gone-row e = record { one = one; all = all; few = few; marked = marked }
     where
       one : (k : ℕ) (a : LegArc) → Gone e a → trainOf a ≡ k → Comes e k a
       one k (runs x) d q = absurd d
@@ -76,6 +86,15 @@ module _ (marks t ds : List ℕ) where
       one k (arrive x j) d q = absurd d
       one k (after x j) d q = absurd d
       one k (gone x j) d q = (d, q)
+
+      all : (k : ℕ) (a : LegArc) → Comes e k a → Gone e a
+      all k (runs x) d = absurd d
+      all k (slow x) d = absurd d
+      all k (next x) d = absurd d
+      all k (depart x j) d = absurd d
+      all k (arrive x j) d = absurd d
+      all k (after x j) d = absurd d
+      all k (gone x j) d = d .0
 
       few : (a : LegArc) → UsedArc marks t ds a → Gone e a → trainOf a < 12
       few (runs x) u d = absurd d
@@ -100,25 +119,28 @@ module _ (marks t ds : List ℕ) where
     row-part : (k : ℕ) (a : LegArc) → UsedArc marks t ds a → FromTrain D k a → Here k a ⊎ FromTrain D (k + 1) a
     row-part k a u d = ⊎-elim (λ q. inl (w .one k a (d .0) (omega arith))) (λ q. inr (d .0, omega arith)) (le-or-lt (trainOf a) k)
 
-    pub row-start : (src : ℕ) (m : List ℕ) (e cost cut : ℕ) → Ready m marks t ds e cost cut → Going marks t ds src cut Any D (FromTrain D 0) m m cost
+    pub row-start : (src : ℕ) (m : List ℕ) (e cost cut : ℕ) → Ready m marks t ds e cost cut → GoingFor marks t ds src cut D (FromTrain D 0) m m cost
     row-start src m e cost cut r =
-        going-skip marks t ds src cut Any D D m m cost (going-start marks t ds src Any D m e cost cut r) (FromTrain D 0) (λ a u d. inr (d, omega arith))
+        going-skip marks t ds src cut _ D D m m cost (going-start marks t ds src _ D m e cost cut r) (FromTrain D 0) (λ a u d. inr (d, omega arith))
 
     -- no train is marked
     pub row-none : (src : ℕ) (m : List ℕ) (e cost cut s : ℕ) → Ready m marks t ds e cost cut → s ≡ getD marks row 0 → s ≡ 0 →
         Followed D marks t ds src cut m m cost
     row-none src m e cost cut s r q z =
         followed marks t ds D src cut m m cost (r .cut-in)
-        (going-skip marks t ds src cut Any D D m m cost (going-start marks t ds src Any D m e cost cut r) (Nothing (legGraph marks t ds))
+        (going-skip marks t ds src cut _ D D m m cost (going-start marks t ds src _ D m e cost cut r) (Nothing (legGraph marks t ds))
         (λ a u d. absurd (true≢false (sym (w .marked a u d) ∙ mask-none (getD marks row 0) (trainOf a) (sym q ∙ z)))))
 
-    module _ (src cut : ℕ) (m n : List ℕ) (k c : ℕ) (g : Going marks t ds src cut Any D (FromTrain D k) m n c) where
+    module _ (src cut : ℕ) (m n : List ℕ) (k c : ℕ) (g : GoingFor marks t ds src cut D (FromTrain D k) m n c) where
+      clear : (y : List ℕ) → Solves (legGraph marks t ds) src m y → Clear (legGraph marks t ds) src D m y → Clear (legGraph marks t ds) src (Here k) n y
+      clear = going-clear marks t ds src cut D (FromTrain D k) m n c g (Here k) (w .all k)
+
       -- the next train that is marked, and none from k up to it
       pub row-next : (s r : ℕ) → s ≡ getD marks row 0 → NextBit s k r →
-          (r < 12 → inMask (getD marks row 0) r ≡ true) × Going marks t ds src cut Any D (FromTrain D r) m n c
+          (r < 12 → inMask (getD marks row 0) r ≡ true) × GoingFor marks t ds src cut D (FromTrain D r) m n c
       row-next s r q b = (
         (λ l. ap (λ (x : ℕ). inMask x r) (sym q) ∙ b .member (omega arith)),
-        going-skip marks t ds src cut Any D (FromTrain D k) m n c g (FromTrain D r) go,
+        going-skip marks t ds src cut _ D (FromTrain D k) m n c g (FromTrain D r) go,
       )
         where
           go : (a : LegArc) → UsedArc marks t ds a → FromTrain D k a → Kept (legGraph marks t ds) n a ⊎ FromTrain D r a
@@ -131,28 +153,28 @@ module _ (marks t ds : List ℕ) where
       module _ (n′ : List ℕ) (c′ : ℕ) where
         -- train k is marked, and its leg is there already, or was lifted
         module _ (f v x : ℕ) (h : Serves marks t ds (Here k) n f v x) where
-          pub row-still : v ≤ getD n f 0 → x ≤ getD n (176 + f) 0 → n′ ≡ n → c′ ≡ c → Going marks t ds src cut Any D (FromTrain D (k + 1)) m n′ c′
+          pub row-still : v ≤ getD n f 0 → x ≤ getD n (176 + f) 0 → n′ ≡ n → c′ ≡ c → GoingFor marks t ds src cut D (FromTrain D (k + 1)) m n′ c′
           row-still p q =
-              going-as marks t ds src cut Any D (FromTrain D (k + 1)) m n c
-              (serves-still marks t ds (Here k) n f v x h src cut Any D (FromTrain D k) m c g (FromTrain D (k + 1)) (row-part k) p q)
+              going-as marks t ds src cut _ D (FromTrain D (k + 1)) m n c
+              (serves-still marks t ds (Here k) n f v x h src cut _ D (FromTrain D k) m c g (FromTrain D (k + 1)) (row-part k) p q)
               n′ c′
 
           pub row-raised : (n″ : List ℕ) (r : ℕ) → Lifted marks t ds src cut f v x n n″ r → Alive r → n′ ≡ n″ → c′ ≡ r →
-              Going marks t ds src cut Any D (FromTrain D (k + 1)) m n′ c′
+              GoingFor marks t ds src cut D (FromTrain D (k + 1)) m n′ c′
           row-raised n″ r l z =
-              going-as marks t ds src cut Any D (FromTrain D (k + 1)) m n″ r
-              (serves-raised marks t ds (Here k) n f v x h src cut Any D (FromTrain D k) m c g (FromTrain D (k + 1)) (row-part k) n″ r l z)
+              going-as marks t ds src cut _ D (FromTrain D (k + 1)) m n″ r
+              (serves-raised marks t ds (Here k) n f v x h src cut _ D (FromTrain D k) m c g clear n″ r l (FromTrain D (k + 1)) (row-part k) z)
               n′ c′
 
       pub row-dead : (f v x : ℕ) → Serves marks t ds (Here k) n f v x → (n′ : List ℕ) (r : ℕ) → Lifted marks t ds src cut f v x n n′ r → r ≡ 4294967295 →
           Followed D marks t ds src cut m n′ 4294967295
       row-dead f v x h n′ r l q =
-          followed-dead marks t ds D src cut m n′ (serves-dead marks t ds (Here k) n f v x h src cut Any D (FromTrain D k) m c g n′ r l q)
+          followed-dead marks t ds D src cut m n′ (serves-dead marks t ds (Here k) n f v x h src cut _ D (FromTrain D k) m c g clear n′ r l q)
 
       pub row-end : 12 ≤ k → cut < 4294967295 → Followed D marks t ds src cut m n c
       row-end l i =
           followed marks t ds D src cut m n c i
-          (going-skip marks t ds src cut Any D (FromTrain D k) m n c g (Nothing (legGraph marks t ds)) (λ a u d. absurd (omega (arith, w .few a u (d .0)))))
+          (going-skip marks t ds src cut _ D (FromTrain D k) m n c g (Nothing (legGraph marks t ds)) (λ a u d. absurd (omega (arith, w .few a u (d .0)))))
 
   -- ---- the leg of a train that is marked
 

@@ -12,7 +12,7 @@ use Rattle.orders.specs.LeastMinutes.NoLaterLaws.{slack-less}
 use Rattle.orders.specs.LeastMinutes.ArcsLaws.{stored}
 use Rattle.orders.specs.LineTables.Tables.{runIn, limitIn, costIn}
 use Rattle.orders.specs.Raise.CostLaws.{cost-grows, cost-one}
-use Rattle.orders.specs.Raise.Raising.{Graph, Kept, KeepsAll, Solves, Reach, AllReached, NoneFor}
+use Rattle.orders.specs.Raise.Raising.{Graph, Kept, KeepsAll, Solves, Clear, Reach, AllReached, NoneFor}
 use Rattle.orders.specs.Raise.RaisingLaws.{first-below}
 use Rattle.orders.specs.Graph.LegGraph.{LegArc, runs, slow, next, depart, arrive, after, gone, UsedArc, legGraph, InLimits}
 use Rattle.orders.specs.Raise.LegTimes.{Departs, Arrives, SourceRises, moreCost}
@@ -210,6 +210,26 @@ module _ (marks t ds : List ℕ) where
             (λ z. z)
             (cases src)
 
+        -- where the leg departs at the source, it is its arrival that rose
+        rose-clear : (getD m e 0 < v) ⊎ (getD m (176 + e) 0 < w) → (y : List ℕ) → Solves G src m y → Asks src e v w m y → src ≡ e →
+            Reach src m₁ y (176 + e) (getD m₁ (176 + e) 0)
+        rose-clear rise y s h q =
+            ⊎-elim
+            (λ z. absurd (⊎-elim (λ k. omega (arith, dep .asked, back .no stays .0 q)) (λ k. omega (arith, arr .asked)) rise))
+            (λ z. omega (arith, at-arr, source))
+            (reach-arr y s h)
+
+        clear : (getD m e 0 < v) ⊎ (getD m (176 + e) 0 < w) → (y : List ℕ) → Solves G src m y → Asks src e v w m y → Clear G src (Outward e) m₁ y
+        clear rise y s h (runs x) u d l = absurd l
+        clear rise y s h (slow x) u d l = absurd l
+        clear rise y s h (next x) u d l = absurd l
+        clear rise y s h (depart x j) u d l = absurd l
+        clear rise y s h (arrive x j) u d l =
+            let q : x ≡ e = ⊎-elim (λ o. absurd o) (λ o. ⊎-elim (λ o. o) (λ o. absurd o) o) d in
+            subst⁻¹ (λ (i : ℕ). Reach src m₁ y (176 + i) (getD m₁ (176 + i) 0)) q (rose-clear rise y s h (sym l ∙ q))
+        clear rise y s h (after x j) u d l = absurd l
+        clear rise y s h (gone x j) u d l = absurd l
+
         stepped : (getD m e 0 < v) ⊎ (getD m (176 + e) 0 < w) → Stepped marks t ds (Outward e) src cut e v w m m₁ c
         stepped rise =
             record {
@@ -231,6 +251,7 @@ module _ (marks t ds : List ℕ) where
               };
               dep = omega (arith, at-dep, dep .asked);
               arr = omega (arith, at-arr, arr .asked);
+              clear = clear rise;
               less = ⊎-elim
                   (λ q. slack-less m m₁ e size up within (omega (arith, at-dep, dep .asked)))
                   (λ q. slack-less m m₁ (176 + e) size up within (omega (arith, at-arr, arr .asked)))

@@ -14,13 +14,13 @@ use borrow.Fn.Kinds.{In}
 use borrow.Fn.PlainCycle.{Measures, is, falls, and}
 use Rattle.orders.specs.LeastMinutes.NoLater.{slack}
 use Rattle.orders.specs.Plan.Bits.{inMask}
-use Rattle.orders.specs.Graph.LegGraph.{leaving, UsedLeg}
-use Rattle.orders.specs.Lift.Lifting.{Any, After, Gone, Going, Stepped}
+use Rattle.orders.specs.Graph.LegGraph.{LegArc, leaving, UsedLeg}
+use Rattle.orders.specs.Lift.Lifting.{After, Gone, GoingFor, Stepped}
 use Rattle.orders.specs.Lift.RaisedPaths.{AsideOf}
-use Rattle.orders.specs.Lift.LiftingLaws.{lifted-dead, followed-dead, going-start, going-ready, going-slack, going-dead, stepped-ready, stepped-last}
+use Rattle.orders.specs.Lift.LiftingLaws.{lifted-dead, going-start, going-ready, going-slack, stepped-ready, stepped-last}
 use Rattle.orders.specs.Lift.ServingLaws.{serves-behind, serves-comes}
 use Rattle.orders.specs.Raise.RowLaws.{FromTrain, after-row, gone-row, row-start, row-none, row-next, row-end, comes-leg, row-still, row-raised, row-dead}
-use Rattle.orders.specs.Lift.SpreadingLaws.{RestAside, spread-after, spread-gone, spread-end}
+use Rattle.orders.specs.Lift.SpreadingLaws.{RestAside, spread-after, spread-after-dead, spread-gone, spread-gone-dead, spread-end}
 use Rattle.orders.proofs.raising.comers.Reads as comers
 use Rattle.orders.proofs.raising.comers.Kinds as comers-kinds
 use Rattle.orders.proofs.raising.+comers+followers+lift.Lts-comers as comers-lts
@@ -70,7 +70,7 @@ lift-below t = and 4 lift-kinds.ps (falls 4 lift-kinds.ps _<_ μ-lift t) lift.Pr
 
 abbrev comers-Inv-loop : comers-lts.InvT-loop
 comers-Inv-loop m₀ marks t ds e src cost cut row s c₀ j₀ m c j =
-    (j < 12 → inMask (getD marks (leaving ds e) 0) j ≡ true) × Going marks t ds src cut Any (Gone e) (FromTrain (Gone e) j) m₀ m c
+    (j < 12 → inMask (getD marks (leaving ds e) 0) j ≡ true) × GoingFor marks t ds src cut (Gone e) (FromTrain (Gone e) j) m₀ m c
 
 abbrev comers-μ-loop : comers-lts.MeasureT-loop
 comers-μ-loop m₀ marks t ds e src cost cut row s c₀ j₀ m c j = 12 - j
@@ -378,7 +378,7 @@ comers-returns-3 t c =
 
 abbrev followers-Inv-loop : followers-lts.InvT-loop
 followers-Inv-loop m₀ marks t ds e src cost cut s c₀ j₀ m c j =
-    (j < 12 → inMask (getD marks e 0) j ≡ true) × Going marks t ds src cut Any (After e) (FromTrain (After e) j) m₀ m c
+    (j < 12 → inMask (getD marks e 0) j ≡ true) × GoingFor marks t ds src cut (After e) (FromTrain (After e) j) m₀ m c
 
 abbrev followers-μ-loop : followers-lts.MeasureT-loop
 followers-μ-loop m₀ marks t ds e src cost cut s c₀ j₀ m c j = 12 - j
@@ -692,7 +692,7 @@ followers-returns-3 t c =
 
 abbrev lift-Inv-loop : lift-lts.InvT-loop
 lift-Inv-loop m₀ marks t ds e v w src cost cut c₀ f₀ left₀ m c f left =
-    Going marks t ds src cut Any (AsideOf t left₀ e) (AsideOf t left f) m₀ m c × UsedLeg ds f
+    GoingFor marks t ds src cut (AsideOf t left₀ e) (AsideOf t left f) m₀ m c × UsedLeg ds f × ((a : LegArc) → AsideOf t left f a → AsideOf t left₀ e a)
 
 abbrev lift-μ-loop : lift-lts.MeasureT-loop
 lift-μ-loop m₀ marks t ds e v w src cost cut c₀ f₀ left₀ m c f left = left
@@ -728,10 +728,11 @@ lift-followed : (t : ℕ) (c : lift-lts.Else2 (
     let l = c .before .before .before .before in
     let a = l .before .before .before .before .args in
     let p = l .before .before .raise-path in
-    Going (a .marks .now) (a .t .now) (a .ds .now) (a .src) (a .cut) Any (AsideOf (a .t .now) (p .result .legs) (a .e))
+    GoingFor (a .marks .now) (a .t .now) (a .ds .now) (a .src) (a .cut) (AsideOf (a .t .now) (p .result .legs) (a .e))
     (RestAside (a .t .now) (l .loop .left) (l .loop .f)) (p .last .0) (c .before .followers .last .0) (c .before .followers .result)
 lift-followed t c =
-    spread-after _ _ _ _ _ _ _ _ _ _ _ (c .before .before .before .before .loop .inv .0) (c .before .before .before .loop-test .taken) _ _
+    let l = c .before .before .before .before in
+    spread-after _ _ _ _ _ _ _ _ _ _ _ (l .loop .inv .2) (l .loop .inv .0) (c .before .before .before .loop-test .taken) _ _
     (c .before .followers .ensures) (c .if2 .left)
 
 lift-raise-path-requires : (t : ℕ) → lift-lts.Need-raise-path-requires (
@@ -770,7 +771,7 @@ lift-loop-holds : (t : ℕ) → lift-lts.Need-loop-holds (
 ) (lift-at t) lift.Post lift-Inv-loop lift-μ-loop
 lift-loop-holds t c =
     let r = c .before .before .before .pre .1 .0 in
-    (going-start _ _ _ _ _ _ _ _ _ _ (stepped-ready _ _ _ _ _ _ _ _ _ _ _ _ (lift-path t c) _ r), r .leg)
+    (going-start _ _ _ _ _ _ _ _ _ _ (stepped-ready _ _ _ _ _ _ _ _ _ _ _ _ (lift-path t c) _ r), r .leg, λ a d. d)
 
 lift-followers-requires : (t : ℕ) → lift-lts.Need-followers-requires (
   raise-path-reads.Asked,
@@ -804,7 +805,8 @@ lift-returns-2 : (t : ℕ) → lift-lts.Need-returns-2 (
 lift-returns-2 t c =
     let l = c .before .before .before .before in
     stepped-last _ _ _ _ _ _ _ _ _ _ _ _ (lift-path t (l .before)) _ _
-    (followed-dead _ _ _ _ _ _ _ _ (going-dead _ _ _ _ _ _ _ _ _ _ _ (l .loop .inv .0) _ _ _ (c .before .followers .ensures) (c .if2 .taken)))
+    (spread-after-dead _ _ _ _ _ _ _ _ _ _ _ (l .loop .inv .2) (l .loop .inv .0) (c .before .before .before .loop-test .taken) _ _
+    (c .before .followers .ensures) _ (c .if2 .taken))
 
 lift-comers-requires : (t : ℕ) → lift-lts.Need-comers-requires (
   raise-path-reads.Asked,
@@ -838,8 +840,8 @@ lift-returns-3 : (t : ℕ) → lift-lts.Need-returns-3 (
 lift-returns-3 t c =
     let l = c .before .before .before .before .before .before .before in
     stepped-last _ _ _ _ _ _ _ _ _ _ _ _ (lift-path t (l .before)) _ _
-    (followed-dead _ _ _ _ _ _ _ _
-    (going-dead _ _ _ _ _ _ _ _ _ _ _ (lift-followed t (c .before .before .before)) _ _ _ (c .before .comers .ensures) (c .if3 .taken)))
+    (spread-gone-dead _ _ _ _ _ _ _ _ _ _ _ (l .loop .inv .2) (lift-followed t (c .before .before .before))
+    (c .before .before .before .before .before .before .loop-test .taken) _ _ (c .before .comers .ensures) _ (c .if3 .taken))
 
 lift-next-at-requires : (t : ℕ) → lift-lts.Need-next-at-requires (
   raise-path-reads.Asked,
@@ -890,8 +892,9 @@ lift-loop-again : (t : ℕ) → lift-lts.Need-loop-again (
 lift-loop-again t c =
     let l = c .before .before .before .before .before .before .before .before in
     let r = l .before .before .before .before .pre .1 .0 in
-    spread-gone _ _ _ _ _ _ _ _ _ _ _ (lift-followed t (c .before .before .before .before)) (r .shaped) (l .loop .inv .1) _ (c .next-at .ensures) _ _
-    (c .before .before .comers .ensures) (c .before .if3 .left)
+    spread-gone _ _ _ _ _ _ _ _ _ _ _ (l .loop .inv .2) (lift-followed t (c .before .before .before .before))
+    (c .before .before .before .before .before .before .before .loop-test .taken) _ _ (c .before .before .comers .ensures)
+    (r .shaped) (l .loop .inv .1) _ (c .next-at .ensures) (c .before .if3 .left)
 
 lift-returns-4 : (t : ℕ) → lift-lts.Need-returns-4 (
   raise-path-reads.Asked,
@@ -906,7 +909,7 @@ lift-returns-4 : (t : ℕ) → lift-lts.Need-returns-4 (
 lift-returns-4 t c =
     let l = c .before in
     stepped-last _ _ _ _ _ _ _ _ _ _ _ _ (lift-path t (l .before)) _ _
-    (spread-end _ _ _ _ _ _ _ _ _ _ _ (l .loop .inv .0) (c .loop-test .left) (l .before .before .before .before .pre .1 .0 .cut-in))
+    (spread-end _ _ _ _ _ _ _ _ _ _ _ (l .loop .inv .2) (l .loop .inv .0) (c .loop-test .left) (l .before .before .before .before .pre .1 .0 .cut-in))
 
 pub +comers+followers+lift-spec : {M : Type 1} → statement M
 +comers+followers+lift-spec = close μ-comers μ-followers μ-lift (λ t. comers-lts.spec (

@@ -4,9 +4,8 @@ use mathlib.Core.Logic.{inr}
 use mathlib.Core.Path.{refl}
 use native.Mathlib.Omega.{arith}
 use borrow.Author.Needs.{needs}
-use Rattle.orders.specs.Lift.ChosenArcsLaws.{chose-still, chose, comes-near}
+use Rattle.orders.specs.Lift.ChosenArcsLaws.{comes-still, comes-lifted}
 use Rattle.orders.specs.Raise.RowLaws.{comes-leg}
-use Rattle.orders.specs.Lift.ServingLaws.{serves-comes}
 use Rattle.orders.specs.Lift.LiftingLaws.{ready-leg}
 use Rattle.orders.proofs.raising.come_after.Statement.{statement}
 use Rattle.orders.proofs.raising.come_after.Tie as tie
@@ -55,18 +54,13 @@ lift-requires c κs =
 returns : tie.Need-returns
 returns c =
     let a = c .before .before .before .before .before .before in
-    chose _ _ _ _ _ _ _ _ (a .pre .0) _ _ _
-    (serves-comes _ _ _ (a .args .m .now) (a .args .e) _ (a .args .j) (a .pre .0 .ready .leg) (a .pre .1) _ (a .pre .2)
-    (c .before .before .before .before .before .coming-leg .ensures) refl) _
-    (comes-near (a .args .marks .now) (a .args .t .now) (a .args .ds .now) (a .args .m .now) (a .args .e) (a .args .j)) _ _
+    comes-lifted _ _ _ _ _ _ _ _ (a .pre .0) (a .pre .1) (a .pre .2) _ _ (c .before .before .before .before .before .coming-leg .ensures) refl _ _
     (c .lift .ensures)
 
 returns-2 : tie.Need-returns-2
 returns-2 c =
     let a = c .before .before .before .before in
-    chose-still _ _ _ _ _ _ _ _ (a .pre .0) _ _ _
-    (serves-comes _ _ _ (a .args .m .now) (a .args .e) _ (a .args .j) (a .pre .0 .ready .leg) (a .pre .1) _ (a .pre .2)
-    (c .before .before .before .coming-leg .ensures) refl) (omega arith) (c .if1 .left)
+    comes-still _ _ _ _ _ _ _ _ (a .pre .0) (a .pre .1) (a .pre .2) _ _ (c .before .before .before .coming-leg .ensures) refl (c .if1 .left)
 
 pub come-after-spec : {M : Type 1} → statement M
 come-after-spec =
