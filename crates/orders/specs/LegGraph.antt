@@ -7,7 +7,7 @@ use mathlib.Core.List.{List}
 use lib.ListN.{length, getD}
 use lib.Dec.{eqb}
 use Rattle.orders.specs.Bits.{inMask}
-use Rattle.orders.specs.Tables.{runIn, stopIn, nextIn, limitIn, weightIn, restIn, lastIn, sharedIn, followingIn, opposingIn}
+use Rattle.orders.specs.Tables.{tableSize, runIn, stopIn, nextIn, limitIn, weightIn, restIn, lastIn, sharedIn, followingIn, opposingIn}
 use Rattle.orders.specs.Raising.{Graph}
 
 -- a leg of a train takes its run, no less (`runs`) and no more (`slow`); the train's next leg; train j after the train of this leg on the segment, by
@@ -128,7 +128,7 @@ GoesOn t e f = (1 ≤ runIn t f) × (restIn t e ≡ stopIn t e + runIn t f + res
 -- train gets less from leg to leg
 pub record Shaped (marks t ds : List ℕ) : Type 0 where
   pub marks-size : length marks ≡ 368
-  pub tables-size : length t ≡ 1456
+  pub tables-size : length t ≡ tableSize
   pub directions-size : length ds ≡ 176
   pub run-most : (e : ℕ) → e < 176 → runIn t e ≤ 240
   pub stop-most : (e : ℕ) → e < 176 → stopIn t e ≤ 240

@@ -17,13 +17,12 @@ pub mod MarksLaws
 pub mod PlansLaws
 pub mod PlanArcsLaws
 pub mod Tables
-pub mod TableEntries
 pub mod Raising
 pub mod LegGraph
 pub mod LegsLaws
-pub mod TableLegsLaws
 pub mod FillLaws
 pub mod TablesLaws
+pub mod TableLegsLaws
 pub mod FirstPlan
 pub mod FirstPlanLaws
 pub mod LegTimes

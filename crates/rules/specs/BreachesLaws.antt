@@ -11,7 +11,7 @@ use Rattle.line.specs.declared.Line.{Line}
 use Rattle.line.specs.Within.{Within}
 use Rattle.rules.specs.declared.conflicts.Conflict.{Conflict}
 use Rattle.rules.specs.declared.rules.Breach.{Breach}
-use Rattle.rules.specs.Paths.{train, EachTrain}
+use Rattle.rules.specs.Paths.{EachTrain}
 use Rattle.rules.specs.Tests.{keepsRule}
 use Rattle.rules.specs.Conflicts.{conflictOf}
 use Rattle.rules.specs.Breaches.{orBreach, atTrain, trainBreach, placeOf}
@@ -36,9 +36,9 @@ or-none (Breach.Rule n p) b e = let z : _≡_ {A = ℕ} 0 1 = cc in absurd (omeg
 
 module _ (n : ℕ) (l : Line) (m : List ℕ) where
   abbrev pub RuleKept : ℕ → Type 0
-  RuleKept i = keepsRule n (train l i) m i ≡ true
+  RuleKept i = keepsRule n l m i ≡ true
 
-  pub breach-at : (i : ℕ) → i < l .traffic .«train_count» → keepsRule n (train l i) m i ≡ false → EachBelow i RuleKept → Breach.Rule n (i + 1) ≡ trainBreach n l m
+  pub breach-at : (i : ℕ) → i < l .traffic .«train_count» → keepsRule n l m i ≡ false → EachBelow i RuleKept → Breach.Rule n (i + 1) ≡ trainBreach n l m
   unfolding trainBreach
   breach-at i h e k = ap (atTrain n) (sym (first-found _ _ i h (ap not e) (λ j s. ap not (k j s))))
 
