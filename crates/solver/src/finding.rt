@@ -13,6 +13,7 @@ use crate::selecting::first_hint;
 use line::Line;
 use orders::first::first_minutes;
 use orders::raising::DEAD;
+use orders::tables::Tables;
 use orders::tables::tables_of;
 use plans::choosing::copy_minutes;
 use plans::ranking::key_of;
@@ -65,7 +66,7 @@ fn afresh(tally: Tally) -> Tally
 fn search_within(
     m: &[u16; 352],
     best: &mut [u16; 352],
-    t: &[u16; 1456],
+    t: &Tables,
     ds: &[u16; 176],
     key: &[u16; 132],
     layout: Layout,
@@ -100,7 +101,7 @@ fn search_within(
 fn search_around(
     m: &[u16; 352],
     best: &mut [u16; 352],
-    t: &[u16; 1456],
+    t: &Tables,
     ds: &[u16; 176],
     key: &[u16; 132],
     layout: Layout,
@@ -163,7 +164,7 @@ fn free_trains(number: usize) -> u16 {
 fn search_near(
     m: &[u16; 352],
     best: &mut [u16; 352],
-    t: &[u16; 1456],
+    t: &Tables,
     ds: &[u16; 176],
     key: &[u16; 132],
     layout: Layout,
@@ -192,7 +193,7 @@ fn search_near(
 fn search_anew(
     m: &[u16; 352],
     best: &mut [u16; 352],
-    t: &[u16; 1456],
+    t: &Tables,
     ds: &[u16; 176],
     key: &[u16; 132],
     layout: Layout,
@@ -228,7 +229,7 @@ fn again_limit(tally: Tally) -> u32 {
 fn search_whole(
     m: &[u16; 352],
     best: &mut [u16; 352],
-    t: &[u16; 1456],
+    t: &Tables,
     ds: &[u16; 176],
     key: &[u16; 132],
     layout: Layout,
