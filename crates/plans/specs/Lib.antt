@@ -17,6 +17,8 @@ pub mod TidyMinutesLaws
 pub mod LineSearched
 pub mod Keys
 pub mod Tallies
+pub mod Finding
+pub mod FindingLaws
 pub mod KeysLaws
 pub mod WaysTold
 pub mod WaysToldLaws

@@ -3,7 +3,8 @@
 // one.
 ghost use mathlib.Core.Path.{_≡_};
 ghost use Rattle.line.specs.Within.{Within, Arrays};
-ghost use Rattle.solver.specs.Finding.{CanFind, Improves, Searches, Finds};
+ghost use Rattle.plans.specs.Finding.{Finds};
+ghost use Rattle.solver.specs.Finding.{CanFind, Improves, Searches};
 use crate::drawing::drawn;
 use crate::neighbourhood::keep_orders;
 use crate::search::NO_LIMIT;
@@ -16,6 +17,8 @@ use orders::raising::DEAD;
 use orders::tables::Tables;
 use orders::tables::tables_of;
 use plans::choosing::copy_minutes;
+use plans::found::Found;
+use plans::found::found_of;
 use plans::ranking::key_of;
 use plans::tally::Tally;
 use plans::tally::cut_of;
@@ -44,12 +47,6 @@ const FIRST_NEAR: usize = 40;
 const SECOND_NEAR: usize = 80;
 
 const LAST_NEAR: usize = 400;
-
-// The best timetable of a line, if there is one.
-pub struct Found {
-    pub found: bool,
-    pub minutes: [u16; 352],
-}
 
 // The same best so far, and no plan counted yet.
 fn afresh(tally: Tally) -> Tally
@@ -288,32 +285,26 @@ fn search_whole(
     search_within(m, best, t, ds, key, layout, cost, long, NO_LIMIT, last)
 }
 
-// Finds the best timetable of a line within the limits.
+// Finds the best timetable of a line within the limits; how many plans that took is not told.
 pub fn best_timetable(line: Line) -> Found
     requires { ⌜ Within line × Arrays line ⌝ }
-    ensures { λ r. ⌜ Finds line r ⌝ }
+    ensures { λ r. ⌜ Finds line r × (r .steps ≡ 0) ⌝ }
 {
     let first = first_minutes(line);
+    let none = Tally {
+        found: false,
+        delay: 0,
+        steps: 0,
+    };
     let mut best = [0u16; 352];
     if !first.in_time {
-        return Found {
-            found: false,
-            minutes: best,
-        };
+        return found_of(none, best);
     }
     let minutes = first.minutes;
     let t = tables_of(line);
     let ds = directions_of(line);
     let key = key_of(line);
     let layout = layout_of(line);
-    let none = Tally {
-        found: false,
-        delay: 0,
-        steps: 0,
-    };
     let whole = search_whole(&minutes, &mut best, &t, &ds, &key, layout, first.cost, none);
-    Found {
-        found: whole.found,
-        minutes: best,
-    }
+    found_of(afresh(whole), best)
 }

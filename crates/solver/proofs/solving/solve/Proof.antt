@@ -32,7 +32,7 @@ returns-2 : tie.Need-returns-2
 returns-2 c =
     let told = c .before .before .before .before in
     solving-none _ (told .before .before .read .ensures) (told .enum-told .given .1) _
-    (c .before .before .best-timetable .ensures .none (not-true _ (c .if1 .taken))) refl
+    (c .before .before .best-timetable .ensures .0 .none (not-true _ (c .if1 .taken))) refl
 
 write-requires : tie.Need-write-requires
 write-requires c κs = search needs
@@ -45,7 +45,7 @@ returns-3 c =
     let found = c .before .before .before .before .before .before .before in
     let told = found .before .before in
     solving-best _ (told .before .before .read .ensures) (told .enum-told .given .1) (found .best-timetable .result .minutes)
-    (found .best-timetable .ensures .best (not-false _ (c .before .before .before .before .before .if1 .left))) (c .before .before .write .ensures)
+    (found .best-timetable .ensures .0 .best (not-false _ (c .before .before .before .before .before .if1 .left))) (c .before .before .write .ensures)
 
 pub solve-spec : {M : Type 1} → statement M
 solve-spec =
