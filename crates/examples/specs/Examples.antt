@@ -3,10 +3,10 @@ use Prim.Native.Nat.{ℕ}
 use mathlib.Core.Path.{_≡_, refl}
 use mathlib.Core.Bool.{true}
 use mathlib.Core.List.{List, [], _∷_}
-use Rattle.text.specs.Each.{Each}
-use Rattle.text.specs.Lists.{padded, padded-length, each-padded}
-use Rattle.text.specs.Limits.{boundedOf}
-use Rattle.text.specs.Below.{first, all, count, sum, gather, table}
+use Rattle.finite.specs.Each.{Each}
+use Rattle.text.specs.Elements.Padded.{padded, padded-length, each-padded}
+use Rattle.text.specs.Reading.Limits.{boundedOf}
+use Rattle.finite.specs.Below.{first, all, count, sum, gather, table}
 use Rattle.line.specs.declared.Kind.{Kind}
 use Rattle.line.specs.declared.Segment.{Segment}
 use Rattle.line.specs.declared.Train.{Train}
@@ -17,28 +17,28 @@ use Rattle.line.specs.Within.{TrainArrays, Arrays}
 use Rattle.line.specs.Writing.{numberFault, linesFault, timesFault, segmentFault, pathFault, headFault, trainFault, faultOf}
 use Rattle.line.specs.WithinLaws.{within-of}
 use Rattle.rules.specs.declared.rules.Breach.{Breach}
-use Rattle.rules.specs.Paths.{segmentBetween}
-use Rattle.rules.specs.Rules.{Lawful, middle}
-use Rattle.rules.specs.Delay.{freeAfter, weightedDelay}
-use Rattle.rules.specs.Tests.{startsRight, runsRight, stopsRight, endsRight, keepsRule}
-use Rattle.rules.specs.Directions.{usesBetween, directionBetween, directionEntry, directionsOf}
-use Rattle.rules.specs.Conflicts.{firstConflict, keepsAfter, neitherFirst, clash, partnerOf, pairOn, segmentConflict}
-use Rattle.rules.specs.Conflicts.{standsIn, standingAt, earliestCrowd, inCrowd, crowdMask, crowdOn, stationConflict, conflictOf}
-use Rattle.rules.specs.Breaches.{trainBreach, breachOf}
-use Rattle.rules.specs.ExactLaws.{lawful-of}
-use Rattle.orders.specs.Settle.{withinDays, same, next, settle}
-use Rattle.orders.specs.SettleLaws.{within-true}
-use Rattle.orders.specs.Arcs.{pull, pullAll}
-use Rattle.orders.specs.Bits.{bit, withBit, change}
-use Rattle.orders.specs.Marks.{free, also, marked}
-use Rattle.orders.specs.PlanArcs.{departsAt, arrivesAt, trainArcs, chosenArcs, arcs, rounds, least}
-use Rattle.plans.specs.Ranking.{aheadFrom, ahead}
-use Rattle.plans.specs.BestSoFar.{BestSoFar, found, improves}
+use Rattle.rules.specs.Statement.Paths.{segmentBetween}
+use Rattle.rules.specs.Statement.Rules.{Lawful, middle}
+use Rattle.rules.specs.Statement.Delay.{freeAfter, weightedDelay}
+use Rattle.rules.specs.Check.Tests.{startsRight, runsRight, stopsRight, endsRight, keepsRule}
+use Rattle.rules.specs.Conflict.Directions.{usesBetween, directionBetween, directionEntry, directionsOf}
+use Rattle.rules.specs.Conflict.Conflicts.{firstConflict, keepsAfter, neitherFirst, clash, partnerOf, pairOn, segmentConflict}
+use Rattle.rules.specs.Conflict.Conflicts.{standsIn, standingAt, earliestCrowd, inCrowd, crowdMask, crowdOn, stationConflict, conflictOf}
+use Rattle.rules.specs.Check.Breaches.{trainBreach, breachOf}
+use Rattle.rules.specs.Check.ExactLaws.{lawful-of}
+use Rattle.orders.specs.LeastMinutes.Settle.{withinDays, same, next, settle}
+use Rattle.orders.specs.LeastMinutes.SettleLaws.{within-true}
+use Rattle.orders.specs.LeastMinutes.Arcs.{pull, pullAll}
+use Rattle.orders.specs.Plan.Bits.{bit, withBit, change}
+use Rattle.orders.specs.Plan.Marks.{free, also, marked}
+use Rattle.orders.specs.LeastMinutes.PlanArcs.{departsAt, arrivesAt, trainArcs, chosenArcs, arcs, rounds, least}
+use Rattle.plans.specs.Theory.Ranking.{aheadFrom, ahead}
+use Rattle.plans.specs.Theory.BestSoFar.{BestSoFar, found, improves}
 use Rattle.walk.specs.Walk.{inOrder, lookWays, lookLeast, look, follow, takeUp, plenty, walk}
-use Rattle.plans.specs.Ways.{wayOf, waysOf, ways}
-use Rattle.plans.specs.Planning.{start, isLeg, departures, inTime, planning}
-use Rattle.walk.specs.Solved.{solved, unsolved}
-use Rattle.examples.specs.Lines.{givenTrain, givenLine, minutesOf, fileA, twoStations, doubleLine, Answer, Costs, Examples}
+use Rattle.plans.specs.Conflict.Ways.{wayOf, waysOf, ways}
+use Rattle.plans.specs.Instance.Planning.{start, isLeg, departures, inTime, planning}
+use Rattle.walk.specs.WalkBestLaws.{walk-best, walk-nothing}
+use Rattle.examples.specs.Lines.{givenTrain, givenLine, minutesOf, fileA, twoStations, doubleLine, ExampleAnswer, Costs, Examples}
 
 -- ---- the arrays of the records
 
@@ -79,9 +79,9 @@ answerOf l = walk (planning l) .best
 
 answer :
     (l : Line) (d : ℕ) (rows : List (List ℕ)) → Arrays l → faultOf l ≡ Fault.None → answerOf l ≡ found (minutesOf l rows) →
-    weightedDelay l (minutesOf l rows) ≡ d → Answer l d rows
+    weightedDelay l (minutesOf l rows) ≡ d → ExampleAnswer l d rows
 unfolding answerOf
-answer l d rows a f e c = record { best = solved l (within-of l f) a (minutesOf l rows) e; delay = c }
+answer l d rows a f e c = record { best = walk-best l (within-of l f) a (minutesOf l rows) e; delay = c }
 
 -- by the check of the rules
 costs :
@@ -93,35 +93,35 @@ costs l d rows a f b t c =
 
 -- ---- the examples
 
-e1 : Answer (fileA 2 200 200) 18 ((0 ∷ 20 ∷ 20 ∷ 40 ∷ []) ∷ (0 ∷ 15 ∷ 24 ∷ 39 ∷ []) ∷ [])
+e1 : ExampleAnswer (fileA 2 200 200) 18 ((0 ∷ 20 ∷ 20 ∷ 40 ∷ []) ∷ (0 ∷ 15 ∷ 24 ∷ 39 ∷ []) ∷ [])
 unfolding answerOf
 e1 = answer (fileA 2 200 200) 18 ((0 ∷ 20 ∷ 20 ∷ 40 ∷ []) ∷ (0 ∷ 15 ∷ 24 ∷ 39 ∷ []) ∷ []) (arrays-a 2 200 200) refl refl refl
 
-e2 : Answer (fileA 1 200 200) 34 ((34 ∷ 54 ∷ 54 ∷ 74 ∷ []) ∷ (0 ∷ 15 ∷ 15 ∷ 30 ∷ []) ∷ [])
+e2 : ExampleAnswer (fileA 1 200 200) 34 ((34 ∷ 54 ∷ 54 ∷ 74 ∷ []) ∷ (0 ∷ 15 ∷ 15 ∷ 30 ∷ []) ∷ [])
 unfolding answerOf
 e2 = answer (fileA 1 200 200) 34 ((34 ∷ 54 ∷ 54 ∷ 74 ∷ []) ∷ (0 ∷ 15 ∷ 15 ∷ 30 ∷ []) ∷ []) (arrays-a 1 200 200) refl refl refl
 
-e3 : Answer (fileA 2 200 39) 18 ((0 ∷ 20 ∷ 20 ∷ 40 ∷ []) ∷ (0 ∷ 15 ∷ 24 ∷ 39 ∷ []) ∷ [])
+e3 : ExampleAnswer (fileA 2 200 39) 18 ((0 ∷ 20 ∷ 20 ∷ 40 ∷ []) ∷ (0 ∷ 15 ∷ 24 ∷ 39 ∷ []) ∷ [])
 unfolding answerOf
 e3 = answer (fileA 2 200 39) 18 ((0 ∷ 20 ∷ 20 ∷ 40 ∷ []) ∷ (0 ∷ 15 ∷ 24 ∷ 39 ∷ []) ∷ []) (arrays-a 2 200 39) refl refl refl
 
-e4 : Answer (fileA 2 200 38) 34 ((34 ∷ 54 ∷ 54 ∷ 74 ∷ []) ∷ (0 ∷ 15 ∷ 15 ∷ 30 ∷ []) ∷ [])
+e4 : ExampleAnswer (fileA 2 200 38) 34 ((34 ∷ 54 ∷ 54 ∷ 74 ∷ []) ∷ (0 ∷ 15 ∷ 15 ∷ 30 ∷ []) ∷ [])
 unfolding answerOf
 e4 = answer (fileA 2 200 38) 34 ((34 ∷ 54 ∷ 54 ∷ 74 ∷ []) ∷ (0 ∷ 15 ∷ 15 ∷ 30 ∷ []) ∷ []) (arrays-a 2 200 38) refl refl refl
 
 e5 : (m : List ℕ) → Lawful (fileA 1 73 73) m → ⊥
 unfolding answerOf
-e5 = unsolved (fileA 1 73 73) (within-of (fileA 1 73 73) refl) (arrays-a 1 73 73) refl
+e5 = walk-nothing (fileA 1 73 73) (within-of (fileA 1 73 73) refl) (arrays-a 1 73 73) refl
 
-e6 : Answer (fileA 1 74 73) 34 ((34 ∷ 54 ∷ 54 ∷ 74 ∷ []) ∷ (0 ∷ 15 ∷ 15 ∷ 30 ∷ []) ∷ [])
+e6 : ExampleAnswer (fileA 1 74 73) 34 ((34 ∷ 54 ∷ 54 ∷ 74 ∷ []) ∷ (0 ∷ 15 ∷ 15 ∷ 30 ∷ []) ∷ [])
 unfolding answerOf
 e6 = answer (fileA 1 74 73) 34 ((34 ∷ 54 ∷ 54 ∷ 74 ∷ []) ∷ (0 ∷ 15 ∷ 15 ∷ 30 ∷ []) ∷ []) (arrays-a 1 74 73) refl refl refl
 
-e7 : Answer (twoStations Kind.F 1) 3 ((3 ∷ 13 ∷ []) ∷ (0 ∷ 4 ∷ []) ∷ [])
+e7 : ExampleAnswer (twoStations Kind.F 1) 3 ((3 ∷ 13 ∷ []) ∷ (0 ∷ 4 ∷ []) ∷ [])
 unfolding answerOf
 e7 = answer (twoStations Kind.F 1) 3 ((3 ∷ 13 ∷ []) ∷ (0 ∷ 4 ∷ []) ∷ []) (arrays-two Kind.F 1) refl refl refl
 
-e8 : Answer (twoStations Kind.F 3) 9 ((0 ∷ 10 ∷ []) ∷ (9 ∷ 13 ∷ []) ∷ [])
+e8 : ExampleAnswer (twoStations Kind.F 3) 9 ((0 ∷ 10 ∷ []) ∷ (9 ∷ 13 ∷ []) ∷ [])
 unfolding answerOf
 e8 = answer (twoStations Kind.F 3) 9 ((0 ∷ 10 ∷ []) ∷ (9 ∷ 13 ∷ []) ∷ []) (arrays-two Kind.F 3) refl refl refl
 
@@ -130,11 +130,11 @@ unfolding answerOf breachOf trainBreach startsRight runsRight stopsRight
 e8-other =
     costs (twoStations Kind.F 3) 9 ((3 ∷ 13 ∷ []) ∷ (0 ∷ 4 ∷ []) ∷ []) (arrays-two Kind.F 3) refl refl refl refl
 
-e9 : Answer (twoStations Kind.S 1) 7 ((7 ∷ 17 ∷ []) ∷ (0 ∷ 4 ∷ []) ∷ [])
+e9 : ExampleAnswer (twoStations Kind.S 1) 7 ((7 ∷ 17 ∷ []) ∷ (0 ∷ 4 ∷ []) ∷ [])
 unfolding answerOf
 e9 = answer (twoStations Kind.S 1) 7 ((7 ∷ 17 ∷ []) ∷ (0 ∷ 4 ∷ []) ∷ []) (arrays-two Kind.S 1) refl refl refl
 
-e10 : Answer doubleLine 1 ((0 ∷ 10 ∷ 20 ∷ 30 ∷ []) ∷ (1 ∷ 21 ∷ 21 ∷ 31 ∷ []) ∷ [])
+e10 : ExampleAnswer doubleLine 1 ((0 ∷ 10 ∷ 20 ∷ 30 ∷ []) ∷ (1 ∷ 21 ∷ 21 ∷ 31 ∷ []) ∷ [])
 unfolding answerOf
 e10 = answer doubleLine 1 ((0 ∷ 10 ∷ 20 ∷ 30 ∷ []) ∷ (1 ∷ 21 ∷ 21 ∷ 31 ∷ []) ∷ []) arrays-double refl refl refl
 

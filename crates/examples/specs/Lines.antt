@@ -3,16 +3,16 @@ use Prim.Native.Nat.{ℕ, suc}
 use mathlib.Core.Path.{_≡_}
 use mathlib.Core.List.{List, [], _∷_}
 use lib.ListN.{length, set, replicate}
-use Rattle.text.specs.Lists.{padded}
+use Rattle.text.specs.Elements.Padded.{padded}
 use Rattle.line.specs.declared.Kind.{Kind}
 use Rattle.line.specs.declared.Segment.{Segment}
 use Rattle.line.specs.declared.Train.{Train}
 use Rattle.line.specs.declared.Line.{Line}
 use Rattle.line.specs.Record.{noSegment, noTrain, lineWith}
-use Rattle.rules.specs.Paths.{train, segmentOf}
-use Rattle.rules.specs.Minutes.{departs, arrives}
-use Rattle.rules.specs.Rules.{Lawful}
-use Rattle.rules.specs.Delay.{weightedDelay, Best}
+use Rattle.rules.specs.Statement.Paths.{train, segmentOf}
+use Rattle.rules.specs.Statement.Minutes.{departs, arrives}
+use Rattle.rules.specs.Statement.Rules.{Lawful}
+use Rattle.rules.specs.Statement.Delay.{weightedDelay, Best}
 
 -- ---- lines and timetables, in the order of their files
 
@@ -67,7 +67,7 @@ doubleLine =
 -- ---- the statement
 
 -- the timetable with these rows is the best, and this is its weighted delay
-pub record Answer (l : Line) (d : ℕ) (rows : List (List ℕ)) : Type 0 where
+pub record ExampleAnswer (l : Line) (d : ℕ) (rows : List (List ℕ)) : Type 0 where
   pub best : Best l (minutesOf l rows)
   pub delay : weightedDelay l (minutesOf l rows) ≡ d
 
@@ -77,16 +77,16 @@ pub record Costs (l : Line) (d : ℕ) (rows : List (List ℕ)) : Type 0 where
   pub delay : weightedDelay l (minutesOf l rows) ≡ d
 
 pub record Examples : Type 0 where
-  pub e1 : Answer (fileA 2 200 200) 18 ((0 ∷ 20 ∷ 20 ∷ 40 ∷ []) ∷ (0 ∷ 15 ∷ 24 ∷ 39 ∷ []) ∷ [])
-  pub e2 : Answer (fileA 1 200 200) 34 ((34 ∷ 54 ∷ 54 ∷ 74 ∷ []) ∷ (0 ∷ 15 ∷ 15 ∷ 30 ∷ []) ∷ [])
-  pub e3 : Answer (fileA 2 200 39) 18 ((0 ∷ 20 ∷ 20 ∷ 40 ∷ []) ∷ (0 ∷ 15 ∷ 24 ∷ 39 ∷ []) ∷ [])
-  pub e4 : Answer (fileA 2 200 38) 34 ((34 ∷ 54 ∷ 54 ∷ 74 ∷ []) ∷ (0 ∷ 15 ∷ 15 ∷ 30 ∷ []) ∷ [])
+  pub e1 : ExampleAnswer (fileA 2 200 200) 18 ((0 ∷ 20 ∷ 20 ∷ 40 ∷ []) ∷ (0 ∷ 15 ∷ 24 ∷ 39 ∷ []) ∷ [])
+  pub e2 : ExampleAnswer (fileA 1 200 200) 34 ((34 ∷ 54 ∷ 54 ∷ 74 ∷ []) ∷ (0 ∷ 15 ∷ 15 ∷ 30 ∷ []) ∷ [])
+  pub e3 : ExampleAnswer (fileA 2 200 39) 18 ((0 ∷ 20 ∷ 20 ∷ 40 ∷ []) ∷ (0 ∷ 15 ∷ 24 ∷ 39 ∷ []) ∷ [])
+  pub e4 : ExampleAnswer (fileA 2 200 38) 34 ((34 ∷ 54 ∷ 54 ∷ 74 ∷ []) ∷ (0 ∷ 15 ∷ 15 ∷ 30 ∷ []) ∷ [])
   -- number 5
   pub e5 : (m : List ℕ) → Lawful (fileA 1 73 73) m → ⊥
-  pub e6 : Answer (fileA 1 74 73) 34 ((34 ∷ 54 ∷ 54 ∷ 74 ∷ []) ∷ (0 ∷ 15 ∷ 15 ∷ 30 ∷ []) ∷ [])
-  pub e7 : Answer (twoStations Kind.F 1) 3 ((3 ∷ 13 ∷ []) ∷ (0 ∷ 4 ∷ []) ∷ [])
-  pub e8 : Answer (twoStations Kind.F 3) 9 ((0 ∷ 10 ∷ []) ∷ (9 ∷ 13 ∷ []) ∷ [])
+  pub e6 : ExampleAnswer (fileA 1 74 73) 34 ((34 ∷ 54 ∷ 54 ∷ 74 ∷ []) ∷ (0 ∷ 15 ∷ 15 ∷ 30 ∷ []) ∷ [])
+  pub e7 : ExampleAnswer (twoStations Kind.F 1) 3 ((3 ∷ 13 ∷ []) ∷ (0 ∷ 4 ∷ []) ∷ [])
+  pub e8 : ExampleAnswer (twoStations Kind.F 3) 9 ((0 ∷ 10 ∷ []) ∷ (9 ∷ 13 ∷ []) ∷ [])
   -- "both orders cost 9": the other is lawful too
   pub e8-other : Costs (twoStations Kind.F 3) 9 ((3 ∷ 13 ∷ []) ∷ (0 ∷ 4 ∷ []) ∷ [])
-  pub e9 : Answer (twoStations Kind.S 1) 7 ((7 ∷ 17 ∷ []) ∷ (0 ∷ 4 ∷ []) ∷ [])
-  pub e10 : Answer doubleLine 1 ((0 ∷ 10 ∷ 20 ∷ 30 ∷ []) ∷ (1 ∷ 21 ∷ 21 ∷ 31 ∷ []) ∷ [])
+  pub e9 : ExampleAnswer (twoStations Kind.S 1) 7 ((7 ∷ 17 ∷ []) ∷ (0 ∷ 4 ∷ []) ∷ [])
+  pub e10 : ExampleAnswer doubleLine 1 ((0 ∷ 10 ∷ 20 ∷ 30 ∷ []) ∷ (1 ∷ 21 ∷ 21 ∷ 31 ∷ []) ∷ [])

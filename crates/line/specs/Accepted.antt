@@ -10,13 +10,14 @@ use lib.ListN.{length, take, drop-of-length-le}
 use Rattle.text.specs.declared.Cursor.{Cursor}
 use Rattle.text.specs.declared.Limits.{Limits}
 use Rattle.text.specs.declared.Step.{Step}
-use Rattle.text.specs.Choice.{pick, onStep}
-use Rattle.text.specs.Bytes.{byteAt, from, ahead, pastOf}
-use Rattle.text.specs.BytesLaws.{from-cons, past-spelt}
-use Rattle.text.specs.Lists.{padded, take-padded, padded-length}
-use Rattle.text.specs.Each.{eachThen, Each}
-use Rattle.text.specs.Parsed.{Parsed, lines}
-use Rattle.text.specs.ParsedLaws.{then-got, pick-got, got-is, ranged-spelt, PartSpelt, many-spelt}
+use Rattle.text.specs.Reading.Choice.{pick, onStep}
+use Rattle.text.specs.Reading.Bytes.{byteAt, from, ahead, pastOf}
+use Rattle.text.specs.Reading.BytesLaws.{from-cons, past-spelt}
+use Rattle.text.specs.Elements.Padded.{padded, take-padded, padded-length}
+use Rattle.text.specs.Elements.EachThen.{eachThen}
+use Rattle.finite.specs.Each.{Each}
+use Rattle.text.specs.Reading.Parsed.{Parsed, lines}
+use Rattle.text.specs.Reading.ParsedLaws.{then-got, pick-got, got-is, ranged-spelt, PartSpelt, many-spelt}
 use Rattle.line.specs.declared.Kind.{Kind}
 use Rattle.line.specs.declared.Segment.{Segment}
 use Rattle.line.specs.declared.Train.{Train}

@@ -10,10 +10,10 @@ use lib.ListN.{length, getD, take, drop}
 use lib.Seq.{length-take-le}
 use Rattle.text.specs.declared.Limits.{Limits}
 use Rattle.text.specs.declared.Bounded.{Bounded}
-use Rattle.text.specs.Choice.{pick, onBounded}
-use Rattle.text.specs.Limits.{boundedOf}
-use Rattle.text.specs.LeftLaws.{left-cons, left-none}
-use Rattle.text.specs.ParsedLaws.{bounded-within, bounded-fits}
+use Rattle.text.specs.Reading.Choice.{pick, onBounded}
+use Rattle.text.specs.Reading.Limits.{boundedOf}
+use Rattle.text.specs.Elements.LeftLaws.{left-cons, left-none}
+use Rattle.text.specs.Reading.ParsedLaws.{bounded-within, bounded-fits}
 use Rattle.line.specs.declared.Train.{Train}
 use Rattle.line.specs.declared.writing.Fault.{Fault}
 use Rattle.line.specs.Ranges.{In, station, time, weight}
@@ -73,11 +73,11 @@ module _ (o d p : ℕ) where
 -- ---- what has no fault
 
 -- a check finds no fault exactly when P holds
-pub record Tells (f : Fault) (P : Type 0) : Type 0 where
+pub record CleanWhen (f : Fault) (P : Type 0) : Type 0 where
   pub holds : f ≡ Fault.None → P
   pub clean : P → f ≡ Fault.None
 
-pub tells-then : {P Q : Type 0} (a b : Fault) → Tells a P → Tells b Q → Tells (thenFault a b) (P × Q)
+pub tells-then : {P Q : Type 0} (a b : Fault) → CleanWhen a P → CleanWhen b Q → CleanWhen (thenFault a b) (P × Q)
 tells-then a b p q = record {
   holds = λ e. let n = neither a b e in (p .holds (n .0), q .holds (n .1));
   clean = λ h. sym (found-later (sym (p .clean (h .0))) refl (sym (q .clean (h .1))));
@@ -87,7 +87,7 @@ tells-then a b p q = record {
     neither Fault.None b e = (refl, e)
     neither (Fault.At n p) b e = let z : _≡_ {A = ℕ} 0 1 = cc in absurd (omega arith)
 
-pub tells-number : (r : Limits) (n p : ℕ) → Tells (numberFault r n p) (In r n)
+pub tells-number : (r : Limits) (n p : ℕ) → CleanWhen (numberFault r n p) (In r n)
 unfolding numberFault
 tells-number r n p = record {
   holds = go (boundedOf (r .min) (r .max) n) refl;
@@ -98,7 +98,7 @@ tells-number r n p = record {
     go (Bounded.Within v) h g = let w = bounded-within (r .min) (r .max) n v h in (w .low, w .high)
     go Bounded.Outside h g = let z : _≡_ {A = ℕ} 0 1 = cc in absurd (omega arith)
 
-tells-apart : (p o d : ℕ) → Tells (pick (eqb d o) (Fault.At 4 p) Fault.None) (d ≡ o → ⊥)
+tells-apart : (p o d : ℕ) → CleanWhen (pick (eqb d o) (Fault.At 4 p) Fault.None) (d ≡ o → ⊥)
 tells-apart p o d = record { holds = λ e. eqb-false d o (go (eqb d o) e); clean = λ h. sym (other-ends o d p h) }
   where
     go : (t : Bool) → pick t (Fault.At 4 p) Fault.None ≡ Fault.None → t ≡ false
@@ -109,14 +109,14 @@ tells-apart p o d = record { holds = λ e. eqb-false d o (go (eqb d o) e); clean
 abbrev pub PathIn : ℕ → ℕ → ℕ → Type 0
 PathIn n o d = In (station n) o × (In (station n) d × (d ≡ o → ⊥))
 
-tells-path : (n p o d : ℕ) → Tells (pathFault n p o d) (PathIn n o d)
+tells-path : (n p o d : ℕ) → CleanWhen (pathFault n p o d) (PathIn n o d)
 unfolding pathFault
 tells-path n p o d = tells-then _ _ (tells-number (station n) o p) (tells-then _ _ (tells-number (station n) d p) (tells-apart p o d))
 
 abbrev pub HeadIn : ℕ → Train → Type 0
 HeadIn n t = PathIn n (t .origin) (t .destination) × (In time (t .earliest) × (In time (t .latest) × In weight (t .weight)))
 
-pub tells-head : (n p : ℕ) (t : Train) → Tells (headFault n p t) (HeadIn n t)
+pub tells-head : (n p : ℕ) (t : Train) → CleanWhen (headFault n p t) (HeadIn n t)
 unfolding headFault
 tells-head n p t =
     tells-then _ _ (tells-path n p (t .origin) (t .destination))

@@ -6,10 +6,10 @@ use lib.ListN.{length}
 use lib.Dec.{ltb, eqb}
 use Rattle.text.specs.declared.Cursor.{Cursor}
 use Rattle.text.specs.declared.Limits.{Limits}
-use Rattle.text.specs.Choice.{pick, onStep}
-use Rattle.text.specs.Bytes.{byteAt, ahead, pastOf}
-use Rattle.text.specs.Parsed.{Parsed, thenRead, lines, rangedAt}
-use Rattle.text.specs.Lists.{padded}
+use Rattle.text.specs.Reading.Choice.{pick, onStep}
+use Rattle.text.specs.Reading.Bytes.{byteAt, ahead, pastOf}
+use Rattle.text.specs.Reading.Parsed.{Parsed, thenRead, lines, rangedAt}
+use Rattle.text.specs.Elements.Padded.{padded}
 use Rattle.line.specs.declared.Kind.{Kind}
 use Rattle.line.specs.declared.Segment.{Segment}
 use Rattle.line.specs.declared.Train.{Train}

@@ -9,11 +9,11 @@ use lib.Dec.{eqb}
 use lib.ListN.{length}
 use Rattle.text.specs.declared.Cursor.{Cursor}
 use Rattle.text.specs.declared.Ending.{Ending}
-use Rattle.text.specs.Choice.{pick}
-use Rattle.text.specs.Bytes.{byteAt}
-use Rattle.text.specs.BytesLaws.{inside}
-use Rattle.text.specs.Parsed.{Parsed}
-use Rattle.text.specs.Told.{toldEnding}
+use Rattle.text.specs.Reading.Choice.{pick}
+use Rattle.text.specs.Reading.Bytes.{byteAt}
+use Rattle.text.specs.Reading.BytesLaws.{inside}
+use Rattle.text.specs.Reading.Parsed.{Parsed}
+use Rattle.text.specs.Reading.Told.{toldEnding}
 use Rattle.line.specs.declared.Kind.{Kind}
 use Rattle.line.specs.declared.reading.Letter.{Letter}
 use Rattle.line.specs.declared.reading.Path.{Path}

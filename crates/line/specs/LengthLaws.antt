@@ -4,9 +4,10 @@ use mathlib.Core.List.{List, [], _∷_}
 use native.Mathlib.Omega.{arith}
 use native.Mathlib.Nat.{suc-mul}
 use lib.ListN.{length, getD, take, drop, length-append, length-take}
-use Rattle.text.specs.Digits.{digits}
-use Rattle.text.specs.DigitsLaws.{digits-length}
-use Rattle.text.specs.Each.{eachThen, Each}
+use Rattle.text.specs.Writing.Digits.{digits}
+use Rattle.text.specs.Writing.DigitsLaws.{digits-length}
+use Rattle.text.specs.Elements.EachThen.{eachThen}
+use Rattle.finite.specs.Each.{Each}
 use Rattle.line.specs.declared.Segment.{Segment}
 use Rattle.line.specs.declared.Train.{Train}
 use Rattle.line.specs.declared.Line.{Line}

@@ -13,8 +13,8 @@ pub mod PlaceLaws
 pub mod FaultLaws
 pub mod WithinLaws
 pub mod SpellLaws
-pub mod FaultPlaces
+pub mod FaultPlaceLaws
 pub mod LengthLaws
 pub mod Accepted
 pub mod Readable
-pub mod RoundTrip
+pub mod RoundTripLaws

@@ -1,4 +1,4 @@
--- Places: what going past a byte keeps, every part of the line file keeps (`Keeps`, `Stands`). So the cursor at which each section, line and field
+-- Places: what going past a byte keeps, every part of the line file keeps (`KeepsPassing`, `HoldsOn`). So the cursor at which each section, line and field
 -- starts stands on its line, and a refusal by 2, 3 or 4 names the line on which the refused field began (`refused-on`): one more than the line feeds
 -- before it.
 use Prim.Native.Nat.{ℕ, zero, suc, _-_, _≤_}
@@ -11,12 +11,12 @@ use Rattle.text.specs.declared.Cursor.{Cursor}
 use Rattle.text.specs.declared.Ending.{Ending}
 use Rattle.text.specs.declared.Limits.{Limits}
 use Rattle.text.specs.declared.Step.{Step}
-use Rattle.text.specs.Choice.{onStep}
-use Rattle.text.specs.Bytes.{byteAt, ahead, pastOf}
-use Rattle.text.specs.Parsed.{Parsed, lines}
-use Rattle.text.specs.Told.{toldEnding}
-use Rattle.text.specs.Lines.{LineAt, Counted, Stands, OnLine}
-use Rattle.text.specs.LinesLaws.{Keeps, keeps-line, keeps-counted, line-first, stood-line, stands-got, stands-bad, stands-then, stands-test, ahead-keeps, past-keeps, stands-ranged, stands-many}
+use Rattle.text.specs.Reading.Choice.{onStep}
+use Rattle.text.specs.Reading.Bytes.{byteAt, ahead, pastOf}
+use Rattle.text.specs.Reading.Parsed.{Parsed, lines}
+use Rattle.text.specs.Reading.Told.{toldEnding}
+use Rattle.text.specs.Places.Lines.{LineAt, Counted, HoldsOn, OnLine}
+use Rattle.text.specs.Places.LinesLaws.{KeepsPassing, keeps-line, keeps-counted, line-first, stood-line, stands-got, stands-bad, stands-then, stands-test, ahead-keeps, past-keeps, stands-ranged, stands-many}
 use Rattle.line.specs.declared.Kind.{Kind}
 use Rattle.line.specs.declared.reading.Letter.{Letter}
 use Rattle.line.specs.declared.reading.KindField.{KindField}
@@ -33,27 +33,27 @@ letter-other Kind.S e = omega arith
 letter-other Kind.F e = omega arith
 letter-other Kind.D e = omega arith
 
-module _ (s : List ℕ) (P : Cursor → Type 0) (k : Keeps s P) where
-  stands-number : (r : Limits) (b : ℕ) (c : Cursor) → P c → Stands P (number r b s c)
+module _ (s : List ℕ) (P : Cursor → Type 0) (k : KeepsPassing s P) where
+  stands-number : (r : Limits) (b : ℕ) (c : Cursor) → P c → HoldsOn P (number r b s c)
   stands-number r b c h = stands-ranged s P k 2 3 (r .min) (r .max) b c h
 
   pub letter-keeps : (c : Cursor) (x : Kind) → letterOf (byteAt s c) ≡ Letter.Found x → P c → P (ahead c)
   letter-keeps c x e h = ahead-keeps s P k c (λ z. letter-other x (sym (letter-byte (byteAt s c) x e) ∙ z)) h
 
-  pub stands-kind : (c : Cursor) → P c → Stands P (kindAt s c)
+  pub stands-kind : (c : Cursor) → P c → HoldsOn P (kindAt s c)
   unfolding kindAt
   stands-kind c h = go (letterOf (byteAt s c)) refl
     where
-      step : (x : Kind) → P (ahead c) → (y : Step) → pastOf s (ahead c) 32 ≡ y → Stands P (onStep y (λ next. Parsed.got x next) (Parsed.bad 2 (c .line)))
+      step : (x : Kind) → P (ahead c) → (y : Step) → pastOf s (ahead c) 32 ≡ y → HoldsOn P (onStep y (λ next. Parsed.got x next) (Parsed.bad 2 (c .line)))
       step x w (Step.Next next) e = past-keeps s P k (ahead c) 32 next w e
       step x w Step.Wrong e = record { cursor = c; keeps = h; line = refl }
 
       go : (x : Letter) → letterOf (byteAt s c) ≡ x →
-          Stands P (onLetter x (λ m. onStep (pastOf s (ahead c) 32) (λ next. Parsed.got m next) (Parsed.bad 2 (c .line))) (Parsed.bad 2 (c .line)))
+          HoldsOn P (onLetter x (λ m. onStep (pastOf s (ahead c) 32) (λ next. Parsed.got m next) (Parsed.bad 2 (c .line))) (Parsed.bad 2 (c .line)))
       go (Letter.Found x) e = step x (letter-keeps c x e h) (pastOf s (ahead c) 32) refl
       go Letter.Other e = record { cursor = c; keeps = h; line = refl }
 
-  pub stands-segment : (c : Cursor) → P c → Stands P (segmentLine s c)
+  pub stands-segment : (c : Cursor) → P c → HoldsOn P (segmentLine s c)
   unfolding segmentLine
   stands-segment c h =
       stands-then P (kindAt s c) _ (stands-kind c h)
@@ -61,14 +61,14 @@ module _ (s : List ℕ) (P : Cursor → Type 0) (k : Keeps s P) where
       (λ f c₂ h₂. stands-then P (number gap 10 s c₂) _ (stands-number gap 10 c₂ h₂)
       (λ o c₃ h₃. h₃)))
 
-  pub stands-path : (n : ℕ) (c : Cursor) → P c → Stands P (pathAt n s c)
+  pub stands-path : (n : ℕ) (c : Cursor) → P c → HoldsOn P (pathAt n s c)
   unfolding pathAt
   stands-path n c h =
       stands-then P (number (station n) 32 s c) _ (stands-number (station n) 32 c h)
       (λ o c₁ h₁. stands-then P (number (station n) 32 s c₁) _ (stands-number (station n) 32 c₁ h₁)
       (λ d c₂ h₂. stands-test P (eqb d o) 4 c₁ (Parsed.got (record { origin = o; destination = d }) c₂) h₁ h₂))
 
-  pub stands-head : (n : ℕ) (c : Cursor) → P c → Stands P (headAt n s c)
+  pub stands-head : (n : ℕ) (c : Cursor) → P c → HoldsOn P (headAt n s c)
   unfolding headAt
   stands-head n c h =
       stands-then P (pathAt n s c) _ (stands-path n c h)
@@ -77,7 +77,7 @@ module _ (s : List ℕ) (P : Cursor → Type 0) (k : Keeps s P) where
       (λ l c₃ h₃. stands-then P (number weight 32 s c₃) _ (stands-number weight 32 c₃ h₃)
       (λ w c₄ h₄. h₄))))
 
-  stands-journey : (j : ℕ) (c : Cursor) → P c → Stands P (journeyAt j s c)
+  stands-journey : (j : ℕ) (c : Cursor) → P c → HoldsOn P (journeyAt j s c)
   unfolding journeyAt
   stands-journey zero c h = stands-then P (number run 10 s c) _ (stands-number run 10 c h) (λ r c₁ h₁. h₁)
   stands-journey (suc j) c h =
@@ -86,7 +86,7 @@ module _ (s : List ℕ) (P : Cursor → Type 0) (k : Keeps s P) where
       (λ t c₂ h₂. stands-then P (journeyAt j s c₂) _ (stands-journey j c₂ h₂)
       (λ x c₃ h₃. h₃)))
 
-  pub stands-train : (n : ℕ) (c : Cursor) → P c → Stands P (trainLine n s c)
+  pub stands-train : (n : ℕ) (c : Cursor) → P c → HoldsOn P (trainLine n s c)
   unfolding trainLine
   stands-train n c h =
       stands-then P (headAt n s c) _ (stands-head n c h)
@@ -96,23 +96,23 @@ module _ (s : List ℕ) (P : Cursor → Type 0) (k : Keeps s P) where
   -- ---- the sections
 
   stands-section : {A : Type 0} (r : Limits) (size : ℕ) (none : A) (line : List ℕ → Cursor → Parsed A) →
-      ((c : Cursor) → P c → Stands P (line s c)) → (c : Cursor) → P c → Stands P (sectionAt r size none line s c)
+      ((c : Cursor) → P c → HoldsOn P (line s c)) → (c : Cursor) → P c → HoldsOn P (sectionAt r size none line s c)
   unfolding sectionAt
   stands-section r size none line one c h =
       stands-then P (number r 10 s c) _ (stands-number r 10 c h)
       (λ n c₁ h₁. stands-then P (lines n line s c₁) _ (stands-many s P k n (λ left. line) (λ left. one) c₁ h₁)
       (λ xs c₂ h₂. h₂))
 
-  pub stands-stations : (c : Cursor) → P c → Stands P (stationSection s c)
+  pub stands-stations : (c : Cursor) → P c → HoldsOn P (stationSection s c)
   stands-stations c h = stands-section stationCount 12 0 stationLine (stands-number tracks 10) c h
 
-  pub stands-segments : (n : ℕ) (c : Cursor) → P c → Stands P (segmentSection n s c)
+  pub stands-segments : (n : ℕ) (c : Cursor) → P c → HoldsOn P (segmentSection n s c)
   stands-segments n c h = stands-section (joins n) 11 noSegment segmentLine stands-segment c h
 
-  pub stands-trains : (n : ℕ) (c : Cursor) → P c → Stands P (trainSection n s c)
+  pub stands-trains : (n : ℕ) (c : Cursor) → P c → HoldsOn P (trainSection n s c)
   stands-trains n c h = stands-section trainCount 12 noTrain (trainLine n) (stands-train n) c h
 
-  stands-line : (c : Cursor) → P c → Stands P (lineAt s c)
+  stands-line : (c : Cursor) → P c → HoldsOn P (lineAt s c)
   unfolding lineAt
   stands-line c h =
       stands-then P (stationSection s c) _ (stands-stations c h)
@@ -132,7 +132,7 @@ refused-on s n p short e =
 -- ---- for the reader's code
 
 -- after a part that was read there are still no more lines than bytes
-pub part-counted : {A : Type 0} (r : Parsed A) (x : A) {e : Ending} {next : Cursor} → Stands Counted r → toldEnding e x ≡ r → e ≡ Ending.Done next →
+pub part-counted : {A : Type 0} (r : Parsed A) (x : A) {e : Ending} {next : Cursor} → HoldsOn Counted r → toldEnding e x ≡ r → e ≡ Ending.Done next →
     Counted next
 part-counted r x w told is = stands-got Counted r w (sym told ∙ ap (λ (y : Ending). toldEnding y x) is)
 

@@ -8,13 +8,14 @@ use lib.ListN.{length}
 use lib.Seq.{length-take-le}
 use Rattle.text.specs.declared.Cursor.{Cursor}
 use Rattle.text.specs.declared.Limits.{Limits}
-use Rattle.text.specs.Bytes.{byteAt, from, ahead, passing}
-use Rattle.text.specs.BytesLaws.{from-byte, from-ahead, at-length, past-reads, space-ends, feed-ends}
-use Rattle.text.specs.Lists.{padded}
-use Rattle.text.specs.Each.{eachThen, Each}
-use Rattle.text.specs.EachLaws.{each-both, each-take}
-use Rattle.text.specs.ParsedLaws.{Reads, ranged-reads, at-end, reads-then, many-reads}
-use Rattle.text.specs.Parsed.{Parsed}
+use Rattle.text.specs.Reading.Bytes.{byteAt, from, ahead, passing}
+use Rattle.text.specs.Reading.BytesLaws.{from-byte, from-ahead, at-length, past-reads, space-ends, feed-ends}
+use Rattle.text.specs.Elements.Padded.{padded}
+use Rattle.text.specs.Elements.EachThen.{eachThen}
+use Rattle.finite.specs.Each.{Each}
+use Rattle.finite.specs.EachLaws.{each-both, each-take}
+use Rattle.text.specs.Reading.ParsedLaws.{Reads, ranged-reads, at-end, reads-then, many-reads}
+use Rattle.text.specs.Reading.Parsed.{Parsed}
 use Rattle.line.specs.declared.Kind.{Kind}
 use Rattle.line.specs.declared.Segment.{Segment}
 use Rattle.line.specs.declared.Train.{Train}

@@ -8,10 +8,10 @@ use lib.ListN.{length}
 use Rattle.text.specs.declared.Cursor.{Cursor}
 use Rattle.text.specs.declared.Ending.{Ending}
 use Rattle.text.specs.declared.Limits.{Limits}
-use Rattle.text.specs.Parsed.{Parsed, mapParsed, lines}
-use Rattle.text.specs.ParsedLaws.{then-got, got-is, ranged-spelt}
-use Rattle.text.specs.Lists.{padded}
-use Rattle.text.specs.Told.{toldEnding}
+use Rattle.text.specs.Reading.Parsed.{Parsed, mapParsed, lines}
+use Rattle.text.specs.Reading.ParsedLaws.{then-got, got-is, ranged-spelt}
+use Rattle.text.specs.Elements.Padded.{padded}
+use Rattle.text.specs.Reading.Told.{toldEnding}
 use Rattle.line.specs.declared.Segment.{Segment}
 use Rattle.line.specs.declared.Train.{Train}
 use Rattle.line.specs.declared.Line.{Line}

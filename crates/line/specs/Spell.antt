@@ -2,8 +2,8 @@
 use Prim.Native.Nat.{ℕ, _-_}
 use mathlib.Core.List.{List, [], _∷_, _++_}
 use lib.ListN.{getD, drop}
-use Rattle.text.specs.Digits.{digits}
-use Rattle.text.specs.Each.{eachThen}
+use Rattle.text.specs.Writing.Digits.{digits}
+use Rattle.text.specs.Elements.EachThen.{eachThen}
 use Rattle.line.specs.declared.Kind.{Kind}
 use Rattle.line.specs.declared.Segment.{Segment}
 use Rattle.line.specs.declared.Train.{Train}

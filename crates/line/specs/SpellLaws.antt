@@ -5,11 +5,11 @@ use mathlib.Core.List.{List, [], _∷_, _++_, append-assoc, append-nil}
 use native.Mathlib.Omega.{arith}
 use lib.ListN.{length, getD, take, drop, length-append}
 use lib.Seq.{drop-drop, getD-take, getD-drop, length-take-le}
-use Rattle.text.specs.Digits.{digits, fieldText}
-use Rattle.text.specs.Each.{eachThen}
-use Rattle.text.specs.LeftLaws.{left-cons, left-none}
-use Rattle.text.specs.Splice.{Put}
-use Rattle.text.specs.SpliceLaws.{Putting, putting-step, putting-room, putting-end}
+use Rattle.text.specs.Writing.Digits.{digits, fieldText}
+use Rattle.text.specs.Elements.EachThen.{eachThen}
+use Rattle.text.specs.Elements.LeftLaws.{left-cons, left-none}
+use Rattle.text.specs.Writing.Splice.{Put}
+use Rattle.text.specs.Writing.SpliceLaws.{Putting, putting-step, putting-room, putting-end}
 use Rattle.line.specs.declared.Segment.{Segment}
 use Rattle.line.specs.declared.Train.{Train}
 use Rattle.line.specs.declared.Line.{Line}

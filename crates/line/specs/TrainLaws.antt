@@ -9,9 +9,9 @@ use native.Mathlib.Numerals.{add-one}
 use lib.ListN.{set, replicate}
 use lib.Seq.{sets}
 use Rattle.text.specs.declared.Cursor.{Cursor}
-use Rattle.text.specs.Parsed.{Parsed, thenRead, mapParsed}
-use Rattle.text.specs.LayLaws.{layMany, lay-step, lay-stop}
-use Rattle.text.specs.Lists.{padded}
+use Rattle.text.specs.Reading.Parsed.{Parsed, thenRead, mapParsed}
+use Rattle.text.specs.Elements.LayLaws.{layMany, lay-step, lay-stop}
+use Rattle.text.specs.Elements.Padded.{padded}
 use Rattle.line.specs.declared.Train.{Train}
 use Rattle.line.specs.declared.reading.Head.{Head}
 use Rattle.line.specs.Ranges.{run, stop}

@@ -4,9 +4,9 @@ use mathlib.Core.List.{List, [], _∷_}
 use lib.Dec.{eqb}
 use Rattle.text.specs.declared.Limits.{Limits}
 use Rattle.text.specs.declared.Written.{Written}
-use Rattle.text.specs.Choice.{pick, onBounded}
-use Rattle.text.specs.Limits.{boundedOf}
-use Rattle.text.specs.Lend.{Spelling}
+use Rattle.text.specs.Reading.Choice.{pick, onBounded}
+use Rattle.text.specs.Reading.Limits.{boundedOf}
+use Rattle.text.specs.Writing.Lend.{Spelling}
 use Rattle.line.specs.declared.Segment.{Segment}
 use Rattle.line.specs.declared.Train.{Train}
 use Rattle.line.specs.declared.Line.{Line}

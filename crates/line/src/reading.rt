@@ -1,10 +1,10 @@
 // Reading the line file: once through the lent bytes, section by section, field by field.
 ghost use mathlib.Core.Path.{_≡_};
 ghost use Prim.Native.Nat.{_+_, _-_, _≤_, _<_};
-ghost use Rattle.text.specs.Lines.{Counted};
-ghost use Rattle.text.specs.Parsed.{mapParsed, lines};
-ghost use Rattle.text.specs.Told.{toldEnding};
-ghost use Rattle.text.specs.Lists.{padded};
+ghost use Rattle.text.specs.Places.Lines.{Counted};
+ghost use Rattle.text.specs.Reading.Parsed.{mapParsed, lines};
+ghost use Rattle.text.specs.Reading.Told.{toldEnding};
+ghost use Rattle.text.specs.Elements.Padded.{padded};
 ghost use Rattle.line.specs.Record.{noSegment, noTrain, emptyLine};
 ghost use Rattle.line.specs.File.{toldKind, stationLine, stationSection, letterOf, kindAt, segmentLine, segmentSection, pathAt, headAt, trainWith, trainLine, trainSection, lineAt, fileFrom, lineFile, answered};
 use crate::Answer;

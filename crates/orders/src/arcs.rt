@@ -2,9 +2,9 @@
 ghost use mathlib.Core.Path.{_≡_};
 ghost use Prim.Native.Nat.{_≤_, _<_};
 ghost use lib.ListN.{length};
-ghost use Rattle.orders.specs.Tables.{tableSize};
-ghost use Rattle.orders.specs.LegGraph.{stationOf, leaving, comesOn};
-ghost use Rattle.orders.specs.LegTimes.{Seen, GoesBehind, sourceOf};
+ghost use Rattle.orders.specs.LineTables.Tables.{tableSize};
+ghost use Rattle.orders.specs.Graph.LegGraph.{stationOf, leaving, comesOn};
+ghost use Rattle.orders.specs.Raise.LegTimes.{CanGoBehind, GoesBehind, sourceOf};
 use crate::tables::Tables;
 use crate::tables::following_at;
 use crate::tables::opposing_at;
@@ -17,7 +17,7 @@ pub struct Behind {
 }
 
 pub fn times_behind(m: &[u16; 352], t: &Tables, ds: &[u16; 176], e: usize, j: usize) -> Behind
-    requires { ⌜ Seen (now m) (now t) (now ds) e j ⌝ }
+    requires { ⌜ CanGoBehind (now m) (now t) (now ds) e j ⌝ }
     ensures { λ r. ⌜ GoesBehind (now (m .entry)) (now (t .entry)) (now (ds .entry)) e j (r .departure) (r .arrival) × (r .departure ≤ 2939) × (r .arrival ≤ 2939) ⌝ }
 {
     if ds[e] == ds[16 * (e / 16) + j] {

@@ -1,7 +1,7 @@
 // The bits of a mask: whether it has one, and one after another.
 ghost use mathlib.Core.Path.{_≡_};
 ghost use Prim.Native.Nat.{_<_};
-ghost use Rattle.orders.specs.Bits.{inMask, NextBit};
+ghost use Rattle.orders.specs.Plan.Bits.{inMask, NextBit};
 
 pub fn has_bit(mask: u16, i: usize) -> bool
     requires { ⌜ i < 16 ⌝ }

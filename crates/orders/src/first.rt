@@ -1,10 +1,10 @@
 // The plan without choices: each train alone on the line, from its earliest on.
 ghost use mathlib.Core.Path.{_≡_};
 ghost use Prim.Native.Nat.{_/_, _%_, _<_};
-ghost use Rattle.text.specs.Decide.{Decides};
+ghost use Rattle.finite.specs.Decide.{Decides};
 ghost use Rattle.line.specs.Within.{Within};
-ghost use Rattle.orders.specs.LegsLaws.{Leg};
-ghost use Rattle.orders.specs.FirstPlan.{freeEntry, freeMinutes, FreeInTime, First};
+ghost use Rattle.orders.specs.Graph.LegsLaws.{Leg};
+ghost use Rattle.orders.specs.LeastMinutes.FirstPlan.{freeEntry, freeMinutes, FreeInTime, IsFirstPlan};
 use crate::tables::leg_on;
 use line::Line;
 use rules::delay::free_after;
@@ -77,7 +77,7 @@ fn free_in_time(line: Line) -> bool
 
 pub fn first_minutes(line: Line) -> FirstPlan
     requires { ⌜ Within line ⌝ }
-    ensures { λ r. ⌜ First line r ⌝ }
+    ensures { λ r. ⌜ IsFirstPlan line r ⌝ }
 {
     let in_time = free_in_time(line);
     let minutes = free_minutes(line);

@@ -5,35 +5,10 @@ ghost use lib.Dec.{eqb};
 ghost use lib.ListN.{length};
 ghost use Rattle.line.specs.Record.{legsOf};
 ghost use Rattle.line.specs.Within.{Within};
-ghost use Rattle.rules.specs.Paths.{legs, Uses, Routed};
-ghost use Rattle.orders.specs.Tables.{
-  tableSize,
-  sharedIn,
-  followingIn,
-  opposingIn,
-  runIn,
-  stopIn,
-  nextIn,
-  limitIn,
-  weightIn,
-  freeIn,
-  restIn,
-  lastIn,
-  legOn,
-  nextLeg,
-  lastLeg,
-  restOf,
-  stopAfter,
-  limitOf,
-  noLegValue,
-  shares,
-  segmentValue,
-  legEntry,
-  tableEntry,
-  tablesOf,
-};
-ghost use Rattle.orders.specs.LegsLaws.{Leg};
-ghost use Rattle.orders.specs.FillLaws.{Begun};
+ghost use Rattle.rules.specs.Statement.Paths.{legs, Uses, Routed};
+ghost use Rattle.orders.specs.LineTables.Tables.{tableSize, sharedIn, followingIn, opposingIn, runIn, stopIn, nextIn, limitIn, weightIn, freeIn, restIn, lastIn, legOn, nextLeg, lastLeg, restOf, stopAfter, limitOf, noLegValue, shares, segmentValue, legEntry, tableEntry, tablesOf};
+ghost use Rattle.orders.specs.Graph.LegsLaws.{Leg};
+ghost use Rattle.orders.specs.LineTables.FillLaws.{Begun};
 use line::Kind;
 use line::Line;
 use line::Segment;

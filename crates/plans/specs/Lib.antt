@@ -1,30 +1,6 @@
--- What every search over plans rests on: the problem, its laws and the instance of a line; the relation of a search; the contracts of raising for a choice.
-pub mod Ranking
-pub mod Problem
-pub mod RankingLaws
-pub mod BestSoFar
-pub mod Search
-pub mod SearchLaws
-pub mod Ways
-pub mod Planning
-pub mod TidyMinutes
-pub mod ConflictFacts
-pub mod WaysLaws
-pub mod SplitsLaws
-pub mod PlanningLaws
-pub mod PreferredLaws
-pub mod TidyMinutesLaws
-pub mod LineSearched
-pub mod Keys
-pub mod Tallies
-pub mod Finding
-pub mod FindingLaws
-pub mod KeysLaws
-pub mod WaysTold
-pub mod WaysToldLaws
-pub mod Choosing
-pub mod ChoosingLaws
-pub mod TryingLaws
-pub mod NextPlansLaws
-pub mod GivenLaws
-pub mod FirstLaws
+-- What every search over plans rests on, by subject. `Theory` knows nothing of trains; `Conflict` and `Instance` make the line an instance of it; `Contracts` is
+-- what the code of a search promises.
+pub mod Theory
+pub mod Conflict
+pub mod Instance
+pub mod Contracts

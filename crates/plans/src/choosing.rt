@@ -2,7 +2,7 @@
 ghost use mathlib.Core.Path.{_≡_};
 ghost use mathlib.Core.Bool.{true};
 ghost use lib.ListN.{length};
-ghost use Rattle.plans.specs.Choosing.{CanRaise, Fails, Raised};
+ghost use Rattle.plans.specs.Contracts.Choosing.{CanRaise, Fails, RaisesChoice};
 use crate::ways::Way;
 use orders::prospects::come_after_fails;
 use orders::prospects::follow_fails;
@@ -33,7 +33,7 @@ pub fn raised(
     cut: u32,
 ) -> u32
     requires { ⌜ CanRaise (now q) (now marks) (now t) (now ds) way cost cut ⌝ }
-    ensures { λ r. ⌜ Raised (now (q .entry)) (now (marks .entry)) (now (t .entry)) (now (ds .entry)) way cost cut (now (q .exit)) r ⌝ }
+    ensures { λ r. ⌜ RaisesChoice (now (q .entry)) (now (marks .entry)) (now (t .entry)) (now (ds .entry)) way cost cut (now (q .exit)) r ⌝ }
 {
     if cut < cost {
         return DEAD;

@@ -1,6 +1,6 @@
 // What a search of a line ends with: the best timetable, or that there is none.
 ghost use mathlib.Core.Path.{_≡_};
-ghost use Rattle.plans.specs.Finding.{foundOf};
+ghost use Rattle.plans.specs.Contracts.FoundBest.{foundOf};
 use crate::tally::Tally;
 
 // Whether there is a timetable; the minutes and the weighted delay of the best, all 0 where there is none; and how many plans were taken up, cut off at

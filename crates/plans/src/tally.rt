@@ -1,7 +1,7 @@
 // The best so far, as the walk carries it: its minutes are lent beside it.
 ghost use mathlib.Core.Path.{_≡_};
 ghost use Prim.Native.Nat.{_+_};
-ghost use Rattle.plans.specs.Tallies.{cutOf, cutOff};
+ghost use Rattle.plans.specs.Contracts.Tallies.{cutOf, cutOff};
 
 // Whether one was found, its weighted delay, and how many plans were taken up, cut off at 4,294,967,295.
 pub struct Tally {

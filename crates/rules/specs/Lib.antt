@@ -1,28 +1,8 @@
--- The mathematics of the rules: its modules, definitions before their laws.
-pub mod Paths
-pub mod Minutes
-pub mod Rules
-pub mod Delay
-pub mod Tests
-pub mod Directions
-pub mod Conflicts
-pub mod Scanning
-pub mod Orders
-pub mod Breaches
-pub mod BitsLaws
-pub mod PathsLaws
-pub mod DirectionsLaws
-pub mod ConflictsLaws
-pub mod Standing
-pub mod StationLaws
-pub mod RulesLaws
-pub mod FoundLaws
-pub mod LowestLaws
-pub mod BreachesLaws
-pub mod ScanningLaws
-pub mod OrdersCarry
-pub mod OrdersLaws
-pub mod ListsLaws
-pub mod ExactLaws
-pub mod SameLaws
-pub mod BestLaws
+-- The mathematics of the rules, by subject. `Statement` is all that a reader must believe: rules 10 to 15, weighted delay, the best timetable. The rest is computed:
+-- `Check` (the first breach), `Conflict` (the lowest conflict), `Lists` (the order lists); `Scan` has what the code of the scan needs.
+pub mod Statement
+pub mod StatementLaws
+pub mod Check
+pub mod Conflict
+pub mod Scan
+pub mod Lists

@@ -1,8 +1,8 @@
 // Conflicts, and the scan for the lowest one of some minutes: rule 14 segment by segment, then rule 15 station by station.
 ghost use mathlib.Core.Path.{_≡_};
 ghost use Prim.Native.Nat.{_-_};
-ghost use Rattle.rules.specs.Conflicts.{segmentConflict, stationConflict, layoutOf, conflictIn};
-ghost use Rattle.rules.specs.Scanning.{Scans};
+ghost use Rattle.rules.specs.Conflict.Conflicts.{segmentConflict, stationConflict, layoutOf, conflictIn};
+ghost use Rattle.rules.specs.Scan.Scanning.{Scans};
 use crate::passages::pair_on;
 use crate::stations::crowd_on;
 use line::Line;

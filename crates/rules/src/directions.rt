@@ -2,7 +2,7 @@
 ghost use mathlib.Core.Path.{_≡_};
 ghost use Prim.Native.Nat.{_+_, _*_, _≤_, _<_};
 ghost use lib.ListN.{length};
-ghost use Rattle.rules.specs.Directions.{directionBetween, directionsOf, way};
+ghost use Rattle.rules.specs.Conflict.Directions.{directionBetween, directionsOf, way};
 use line::Line;
 
 // 0 where a train between these stations does not go over segment p, 1 outbound, 2 inbound.

@@ -2,9 +2,9 @@
 ghost use mathlib.Core.Path.{_≡_};
 ghost use Prim.Native.Nat.{_≤_, _<_};
 ghost use lib.ListN.{length};
-ghost use Rattle.rules.specs.Minutes.{departsOn, arrivesOn};
-ghost use Rattle.rules.specs.Conflicts.{neitherFirst, passage, partnerOf, pairOn};
-ghost use Rattle.rules.specs.Scanning.{RoomFor, Denies, BothDeny, neitherAlone, keepsBehind, neitherBehind};
+ghost use Rattle.rules.specs.Statement.Minutes.{departsOn, arrivesOn};
+ghost use Rattle.rules.specs.Conflict.Conflicts.{neitherFirst, passage, partnerOf, pairOn};
+ghost use Rattle.rules.specs.Scan.Scanning.{RoomFor, Denies, BothDeny, neitherAlone, keepsBehind, neitherBehind};
 use crate::conflicts::Conflict;
 use crate::conflicts::SegmentConflict;
 use crate::directions::way_on;

@@ -2,9 +2,9 @@
 ghost use mathlib.Core.Path.{_≡_};
 ghost use Prim.Native.Nat.{_≤_, _<_};
 ghost use lib.ListN.{length};
-ghost use Rattle.text.specs.Below.{count};
-ghost use Rattle.rules.specs.Conflicts.{stay, standsIn, earliestCrowd, crowdMask, crowdAt};
-ghost use Rattle.rules.specs.Scanning.{StaysOf, standsBy};
+ghost use Rattle.finite.specs.Below.{count};
+ghost use Rattle.rules.specs.Conflict.Conflicts.{stay, standsIn, earliestCrowd, crowdMask, crowdAt};
+ghost use Rattle.rules.specs.Scan.Scanning.{StaysOf, standsBy};
 use crate::conflicts::Conflict;
 use crate::conflicts::StationConflict;
 use crate::directions::way_on;

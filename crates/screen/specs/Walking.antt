@@ -6,8 +6,8 @@ use Rattle.line.specs.declared.Line.{Line}
 use Rattle.line.specs.declared.Answer.{Answer}
 use Rattle.line.specs.declared.ReadLine.{ReadLine}
 use Rattle.line.specs.File.{lineFile, answered}
-use Rattle.plans.specs.Planning.{planning}
-use Rattle.plans.specs.Tallies.{cutOff}
+use Rattle.plans.specs.Instance.Planning.{planning}
+use Rattle.plans.specs.Contracts.Tallies.{cutOff}
 use Rattle.walk.specs.Walk.{walk}
 use Rattle.service.specs.Packing.{packed}
 

@@ -4,13 +4,13 @@ use mathlib.Core.Path.{_≡_, refl, ap, _∙_}
 use mathlib.Core.List.{List}
 use lib.ListN.{length}
 use Rattle.text.specs.declared.Written.{Written}
-use Rattle.text.specs.Lend.{Spelling, writtenOf, bytesAfter, Lent}
+use Rattle.text.specs.Writing.Lend.{Spelling, writtenOf, bytesAfter, Lent}
 use Rattle.line.specs.declared.Line.{Line}
 use Rattle.line.specs.declared.Answer.{Answer}
 use Rattle.line.specs.declared.ReadLine.{ReadLine}
 use Rattle.line.specs.File.{lineFile, answered}
 use Rattle.line.specs.Writing.{spelling}
-use Rattle.line.specs.RoundTrip.{Accepts, rewritten}
+use Rattle.line.specs.RoundTripLaws.{Accepts, rewritten}
 use Rattle.service.specs.Packing.{packed, packedWritten}
 
 -- what there is to write: the refusal of the file, or what there is to write for its line

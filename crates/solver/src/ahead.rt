@@ -4,9 +4,9 @@
 ghost use mathlib.Core.Path.{_≡_};
 ghost use Prim.Native.Nat.{_<_};
 ghost use lib.ListN.{length};
-ghost use Rattle.solver.specs.Selecting.{CanSelect, KnownReal, FindsReal, ChoosesOne};
-ghost use Rattle.solver.specs.Searching.{CanTakeUp, CanTryAll};
-ghost use Rattle.solver.specs.Ahead.{CanLook, PricesBetter};
+ghost use Rattle.solver.specs.Selection.Selecting.{CanSelect, KnownReal, FindsReal, ChoosesOne};
+ghost use Rattle.solver.specs.Search.Searching.{CanTakeUp, CanTryAll};
+ghost use Rattle.solver.specs.Lookahead.Ahead.{CanLook, PricesBetter};
 use crate::forcing::forced_prices;
 use crate::pricing::price;
 use crate::pricing::way_prices;

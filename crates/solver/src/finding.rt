@@ -3,8 +3,8 @@
 // one.
 ghost use mathlib.Core.Path.{_≡_};
 ghost use Rattle.line.specs.Within.{Within, Arrays};
-ghost use Rattle.plans.specs.Finding.{Finds};
-ghost use Rattle.solver.specs.Finding.{CanFind, Improves, Searches};
+ghost use Rattle.plans.specs.Contracts.FoundBest.{Finds};
+ghost use Rattle.solver.specs.Search.Finding.{CanFind, MayImprove, Searches};
 use crate::drawing::drawn;
 use crate::neighbourhood::keep_orders;
 use crate::search::NO_LIMIT;
@@ -107,7 +107,7 @@ fn search_around(
     tally: Tally,
 ) -> Tally
     requires { ⌜ CanFind (now m) (now best) (now t) (now ds) (now key) layout cost tally ⌝ }
-    ensures { λ r. ⌜ Improves (now (m .entry)) (now (best .entry)) (now (t .entry)) (now (ds .entry)) (now (key .entry)) layout cost tally
+    ensures { λ r. ⌜ MayImprove (now (m .entry)) (now (best .entry)) (now (t .entry)) (now (ds .entry)) (now (key .entry)) layout cost tally
         (now (best .exit)) r ⌝ }
 {
     let b = afresh(tally);
@@ -171,7 +171,7 @@ fn search_near(
     tally: Tally,
 ) -> Tally
     requires { ⌜ CanFind (now m) (now best) (now t) (now ds) (now key) layout cost tally ⌝ }
-    ensures { λ r. ⌜ Improves (now (m .entry)) (now (best .entry)) (now (t .entry)) (now (ds .entry)) (now (key .entry)) layout cost tally
+    ensures { λ r. ⌜ MayImprove (now (m .entry)) (now (best .entry)) (now (t .entry)) (now (ds .entry)) (now (key .entry)) layout cost tally
         (now (best .exit)) r ⌝ }
 {
     let mut b = tally;
@@ -198,7 +198,7 @@ fn search_anew(
     tally: Tally,
 ) -> Tally
     requires { ⌜ CanFind (now m) (now best) (now t) (now ds) (now key) layout cost tally ⌝ }
-    ensures { λ r. ⌜ Improves (now (m .entry)) (now (best .entry)) (now (t .entry)) (now (ds .entry)) (now (key .entry)) layout cost tally
+    ensures { λ r. ⌜ MayImprove (now (m .entry)) (now (best .entry)) (now (t .entry)) (now (ds .entry)) (now (key .entry)) layout cost tally
         (now (best .exit)) r ⌝ }
 {
     let mut b = tally;

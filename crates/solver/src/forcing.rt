@@ -3,9 +3,9 @@
 ghost use mathlib.Core.Path.{_≡_};
 ghost use mathlib.Core.Bool.{true};
 ghost use lib.ListN.{length};
-ghost use Rattle.solver.specs.Selecting.{CanSelect};
-ghost use Rattle.solver.specs.Searching.{CanTry, CanTryAll};
-ghost use Rattle.solver.specs.Forcing.{CanSettle, Settles, Forces, PricesForced, PricesAllForced};
+ghost use Rattle.solver.specs.Selection.Selecting.{CanSelect};
+ghost use Rattle.solver.specs.Search.Searching.{CanTry, CanTryAll};
+ghost use Rattle.solver.specs.Lookahead.Forcing.{CanSettle, Settles, Forces, PricesForced, PricesAllForced};
 use crate::pricing::cheapest;
 use crate::pricing::way_prices;
 use crate::scoring::AT_ONCE;

@@ -2,7 +2,7 @@
 ghost use mathlib.Core.Path.{_≡_};
 ghost use Prim.Native.Nat.{_≤_, _<_};
 ghost use lib.ListN.{length};
-ghost use Rattle.solver.specs.Pricing.{CanPrice, Prices, CanPriceWays, PricesWays, Cheapest};
+ghost use Rattle.solver.specs.Selection.Pricing.{CanPrice, Prices, CanPriceWays, PricesWays, Cheapest};
 use crate::drawing::varied;
 use orders::raising::DEAD;
 use orders::tables::Tables;

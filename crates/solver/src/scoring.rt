@@ -2,7 +2,7 @@
 ghost use mathlib.Core.Path.{_≡_};
 ghost use Prim.Native.Nat.{_≤_};
 ghost use lib.ListN.{length};
-ghost use Rattle.solver.specs.Pricing.{CanPriceWays, Scores};
+ghost use Rattle.solver.specs.Selection.Pricing.{CanPriceWays, Scores};
 use crate::pricing::price;
 use crate::pricing::way_price;
 use orders::raising::DEAD;

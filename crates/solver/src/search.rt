@@ -3,7 +3,7 @@
 // The minutes of a plan lie above those of the plan that it comes from, so what they can still rise falls.
 ghost use mathlib.Core.Path.{_≡_};
 ghost use mathlib.Core.Bool.{true};
-ghost use Rattle.solver.specs.Searching.{Whole, CanTakeUp, TakesUp, CanTry, Tries, CanTryAll, TriesAll};
+ghost use Rattle.solver.specs.Search.Searching.{Whole, CanTakeUp, TakesUp, CanTry, Tries, CanTryAll, TriesAll};
 use crate::ahead::choose_conflict;
 use crate::ahead::chosen_prices;
 use crate::pricing::cheapest;

@@ -1,6 +1,6 @@
 // Solving a line file: its best timetable, written into lent bytes.
 ghost use mathlib.Core.Path.{_≡_};
-ghost use Rattle.solver.specs.Solving.{Solving, fileRefused};
+ghost use Rattle.solver.specs.Promise.Solving.{Solving, fileRefused};
 use crate::finding::best_timetable;
 use line::Answer;
 use line::reading::read;

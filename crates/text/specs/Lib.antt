@@ -1,31 +1,7 @@
--- The mathematics of reading and writing text: its modules, definitions before their laws.
-pub mod Choice
-pub mod Bytes
-pub mod Numbers
-pub mod Digits
-pub mod Limits
-pub mod Parsed
-pub mod Lines
-pub mod Each
-pub mod Chained
-pub mod EachLaws
-pub mod Told
-pub mod Lend
-pub mod Splice
-pub mod Lists
-pub mod LeftLaws
-pub mod BytesLaws
-pub mod NumbersLaws
-pub mod DigitsLaws
-pub mod ParsedLaws
-pub mod ToldLaws
-pub mod LinesLaws
-pub mod ChainedLaws
-pub mod FeedsLaws
-pub mod LayLaws
-pub mod SpliceLaws
-pub mod LendLaws
-pub mod Decide
-pub mod Below
-pub mod BelowLaws
-pub mod SumsLaws
+-- The mathematics of reading and writing text, by subject. `Reading` first, then `Writing`; `Places` says on which line a cursor stands, `Elements` goes from
+-- elements to arrays and back, and `Sections` has the lists and sections that the requests add.
+pub mod Reading
+pub mod Elements
+pub mod Places
+pub mod Sections
+pub mod Writing

@@ -3,15 +3,15 @@ ghost use mathlib.Core.Path.{_≡_};
 ghost use mathlib.Core.List.{_∷_, []};
 ghost use Prim.Native.Nat.{_+_, _-_, _≤_, _<_};
 ghost use lib.ListN.{length, take};
-ghost use Rattle.text.specs.Bytes.{byteAt, digitOf, pastOf};
-ghost use Rattle.text.specs.Lines.{Counted};
-ghost use Rattle.text.specs.Numbers.{numberAt, fieldAt};
-ghost use Rattle.text.specs.Digits.{digits, fieldText};
-ghost use Rattle.text.specs.Splice.{Put};
-ghost use Rattle.text.specs.Limits.{boundedOf};
-ghost use Rattle.text.specs.Parsed.{rangedAt};
-ghost use Rattle.text.specs.Told.{toldField, stoppedBy};
-ghost use Rattle.text.specs.Lend.{Spelling, Lent};
+ghost use Rattle.text.specs.Reading.Bytes.{byteAt, digitOf, pastOf};
+ghost use Rattle.text.specs.Places.Lines.{Counted};
+ghost use Rattle.text.specs.Reading.Numbers.{numberAt, fieldAt};
+ghost use Rattle.text.specs.Writing.Digits.{digits, fieldText};
+ghost use Rattle.text.specs.Writing.Splice.{Put};
+ghost use Rattle.text.specs.Reading.Limits.{boundedOf};
+ghost use Rattle.text.specs.Reading.Parsed.{rangedAt};
+ghost use Rattle.text.specs.Reading.Told.{toldField, stoppedBy};
+ghost use Rattle.text.specs.Writing.Lend.{Spelling, Lent};
 
 pub const LINE_FEED: u8 = 10;
 

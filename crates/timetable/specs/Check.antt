@@ -6,15 +6,15 @@ use mathlib.Core.List.{List, []}
 use lib.ListN.{length, getD}
 use lib.Dec.{eqb}
 use Rattle.text.specs.declared.Ending.{Ending}
-use Rattle.text.specs.Below.{first, all}
-use Rattle.text.specs.Parsed.{Parsed}
+use Rattle.finite.specs.Below.{first, all}
+use Rattle.text.specs.Reading.Parsed.{Parsed}
 use Rattle.line.specs.declared.Answer.{Answer}
 use Rattle.line.specs.declared.Line.{Line}
 use Rattle.line.specs.File.{lineFile}
 use Rattle.rules.specs.declared.rules.Breach.{Breach}
-use Rattle.rules.specs.Delay.{weightedDelay}
-use Rattle.rules.specs.Orders.{orderLists}
-use Rattle.rules.specs.Breaches.{orBreach, breachOf}
+use Rattle.rules.specs.Statement.Delay.{weightedDelay}
+use Rattle.rules.specs.Lists.Orders.{orderLists}
+use Rattle.rules.specs.Check.Breaches.{orBreach, breachOf}
 use Rattle.timetable.specs.declared.checking.Verdict.{Verdict}
 use Rattle.timetable.specs.Reading.{Rest, Timetable, timetableFile}
 

@@ -10,18 +10,19 @@ use lib.ListN.{length, getD, length-map, List·getD-map}
 use lib.Seq.{ext-getD}
 use lib.Dec.{eqb}
 use borrow.Author.Tests.{not-false}
-use Rattle.text.specs.Decide.{Decides, is-true, decides-as, decides-eq}
-use Rattle.text.specs.Below.{first-none, none-first}
+use Rattle.finite.specs.Decide.{Decides}
+use Rattle.finite.specs.DecideLaws.{is-true, decides-as, decides-eq}
+use Rattle.finite.specs.LoopLaws.{first-none, none-first}
 use Rattle.line.specs.declared.Line.{Line}
 use Rattle.rules.specs.declared.rules.Breach.{Breach}
-use Rattle.rules.specs.Delay.{weightedDelay}
-use Rattle.rules.specs.Orders.{listCount, orderLists}
-use Rattle.rules.specs.OrdersLaws.{lists-count}
-use Rattle.rules.specs.Breaches.{breachOf}
-use Rattle.rules.specs.BreachesLaws.{or-none}
+use Rattle.rules.specs.Statement.Delay.{weightedDelay}
+use Rattle.rules.specs.Lists.Orders.{listCount, orderLists}
+use Rattle.rules.specs.Lists.OrdersLaws.{lists-count}
+use Rattle.rules.specs.Check.Breaches.{breachOf}
+use Rattle.rules.specs.Check.BreachesLaws.{or-none}
 use Rattle.timetable.specs.Reading.{Rest, Timetable}
 use Rattle.timetable.specs.Spell.{numbers, listNumbers}
-use Rattle.timetable.specs.CheckLoops.{decides-matches}
+use Rattle.timetable.specs.CheckLoopLaws.{decides-matches}
 use Rattle.timetable.specs.Check.{sameList, atList, listsBreach, totalBreach, restBreach, timetableBreach}
 
 -- ---- lists

@@ -6,24 +6,24 @@ use mathlib.Core.List.{List, [], _∷_}
 use native.Mathlib.Omega.{arith}
 use lib.ListN.{length, take, length-append, length-map}
 use lib.Seq.{take-all}
-use Rattle.text.specs.Digits.{digits}
-use Rattle.text.specs.DigitsLaws.{digits-length}
-use Rattle.text.specs.Each.{Each}
-use Rattle.text.specs.EachLaws.{each-map, each-image}
+use Rattle.text.specs.Writing.Digits.{digits}
+use Rattle.text.specs.Writing.DigitsLaws.{digits-length}
+use Rattle.finite.specs.Each.{Each}
+use Rattle.finite.specs.EachLaws.{each-map, each-image}
 use Rattle.line.specs.declared.Train.{Train}
 use Rattle.line.specs.declared.Line.{Line}
 use Rattle.line.specs.Record.{legsOf}
 use Rattle.line.specs.Within.{Within}
 use Rattle.line.specs.Spell.{field}
 use Rattle.line.specs.LengthLaws.{field-length, each-length}
-use Rattle.rules.specs.Paths.{train, legs, EachTrain}
-use Rattle.rules.specs.Rules.{InDays}
-use Rattle.rules.specs.Tests.{departureOf, arrivalOf}
-use Rattle.rules.specs.Delay.{weightedDelay}
-use Rattle.rules.specs.Orders.{listCount, orderLists}
-use Rattle.rules.specs.OrdersLaws.{lists-few, lists-count, TrainsOnly, lists-trains}
-use Rattle.rules.specs.PathsLaws.{legs-most}
-use Rattle.rules.specs.RulesLaws.{cost-most}
+use Rattle.rules.specs.Statement.Paths.{train, legs, EachTrain}
+use Rattle.rules.specs.Statement.Rules.{InDays}
+use Rattle.rules.specs.Check.Tests.{departureOf, arrivalOf}
+use Rattle.rules.specs.Statement.Delay.{weightedDelay}
+use Rattle.rules.specs.Lists.Orders.{listCount, orderLists}
+use Rattle.rules.specs.Lists.OrdersLaws.{lists-few, lists-count, TrainsOnly, lists-trains}
+use Rattle.rules.specs.StatementLaws.PathsLaws.{legs-most}
+use Rattle.rules.specs.Check.RulesLaws.{cost-most}
 use Rattle.timetable.specs.Reading.{afterField}
 use Rattle.timetable.specs.Spell.{legsText, trainsText, minutesText, namesText, listText, restText, numbers, listNumbers, timetableText}
 use Rattle.timetable.specs.SpeltLaws.{DaysAt}

@@ -8,13 +8,13 @@ pub mod PlaceLaws
 pub mod Spell
 pub mod Writing
 pub mod Check
-pub mod CheckLoops
+pub mod CheckLoopLaws
 pub mod CheckLaws
 pub mod StoresLaws
-pub mod SameText
+pub mod SameTextLaws
 pub mod SpeltLaws
 pub mod ReadsLaws
 pub mod FitsLaws
 pub mod WritingLaws
-pub mod FaultPlaces
-pub mod Exact
+pub mod FaultPlaceLaws
+pub mod ExactCheckLaws

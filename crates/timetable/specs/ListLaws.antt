@@ -11,14 +11,14 @@ use Rattle.text.specs.declared.Cursor.{Cursor}
 use Rattle.text.specs.declared.Number.{Number}
 use Rattle.text.specs.declared.Step.{Step}
 use Rattle.text.specs.declared.Bounded.{Bounded}
-use Rattle.text.specs.Choice.{onNumber, onStep, onBounded}
-use Rattle.text.specs.Bytes.{pastOf}
-use Rattle.text.specs.Numbers.{numberAt}
-use Rattle.text.specs.Limits.{boundedOf}
-use Rattle.text.specs.Lists.{padded, take-padded}
-use Rattle.text.specs.Parsed.{Parsed, mapParsed, many}
-use Rattle.text.specs.ParsedLaws.{many-length, bounded-within}
-use Rattle.text.specs.LayLaws.{layMany}
+use Rattle.text.specs.Reading.Choice.{onNumber, onStep, onBounded}
+use Rattle.text.specs.Reading.Bytes.{pastOf}
+use Rattle.text.specs.Reading.Numbers.{numberAt}
+use Rattle.text.specs.Reading.Limits.{boundedOf}
+use Rattle.text.specs.Elements.Padded.{padded, take-padded}
+use Rattle.text.specs.Reading.Parsed.{Parsed, mapParsed, many}
+use Rattle.text.specs.Reading.ParsedLaws.{many-length, bounded-within}
+use Rattle.text.specs.Elements.LayLaws.{layMany}
 use Rattle.timetable.specs.Reading.{ownCountAt, nameAt, listAt}
 
 -- ---- a list's own count

@@ -12,31 +12,31 @@ use Rattle.text.specs.declared.Step.{Step}
 use Rattle.text.specs.declared.Bounded.{Bounded}
 use Rattle.text.specs.declared.NumberField.{NumberField}
 use Rattle.text.specs.declared.Field.{Field}
-use Rattle.text.specs.Choice.{onNumber, onStep, onField, onBounded}
-use Rattle.text.specs.Bytes.{pastOf}
-use Rattle.text.specs.Numbers.{numberAt, fieldAt}
-use Rattle.text.specs.Limits.{boundedOf}
-use Rattle.text.specs.Parsed.{Parsed, lines}
-use Rattle.text.specs.Told.{toldField}
-use Rattle.text.specs.Lines.{LineAt, Counted, Stands, OnLine}
-use Rattle.text.specs.LinesLaws.{Keeps, keeps-line, keeps-counted, line-first, stood-line, stands-got, stands-bad, stands-then, stands-test, past-keeps, number-keeps, field-keeps, stands-ranged, stands-many}
+use Rattle.text.specs.Reading.Choice.{onNumber, onStep, onField, onBounded}
+use Rattle.text.specs.Reading.Bytes.{pastOf}
+use Rattle.text.specs.Reading.Numbers.{numberAt, fieldAt}
+use Rattle.text.specs.Reading.Limits.{boundedOf}
+use Rattle.text.specs.Reading.Parsed.{Parsed, lines}
+use Rattle.text.specs.Reading.Told.{toldField}
+use Rattle.text.specs.Places.Lines.{LineAt, Counted, HoldsOn, OnLine}
+use Rattle.text.specs.Places.LinesLaws.{KeepsPassing, keeps-line, keeps-counted, line-first, stood-line, stands-got, stands-bad, stands-then, stands-test, past-keeps, number-keeps, field-keeps, stands-ranged, stands-many}
 use Rattle.line.specs.declared.Train.{Train}
 use Rattle.line.specs.declared.Line.{Line}
-use Rattle.rules.specs.Paths.{train, legs}
-use Rattle.rules.specs.Orders.{listCount}
+use Rattle.rules.specs.Statement.Paths.{train, legs}
+use Rattle.rules.specs.Lists.Orders.{listCount}
 use Rattle.timetable.specs.Reading.{afterField, timeAt, countAt, withLeg, legsAt, trainsAt, minutesAt, ownCountAt, nameAt, listAt, totalAt, restAt, timetableFile}
 use Rattle.timetable.specs.RestLaws.{file-short}
 
-module _ (s : List ℕ) (P : Cursor → Type 0) (k : Keeps s P) where
-  stands-time : (b : ℕ) (c : Cursor) → P c → Stands P (timeAt b s c)
+module _ (s : List ℕ) (P : Cursor → Type 0) (k : KeepsPassing s P) where
+  stands-time : (b : ℕ) (c : Cursor) → P c → HoldsOn P (timeAt b s c)
   stands-time b c h = stands-ranged s P k 8 9 0 2879 b c h
 
-  stands-count : (n : ℕ) (c : Cursor) → P c → Stands P (countAt n s c)
+  stands-count : (n : ℕ) (c : Cursor) → P c → HoldsOn P (countAt n s c)
   stands-count n c h = stands-ranged s P k 8 9 n n 10 c h
 
   -- ---- the minutes
 
-  pub stands-legs : (n : ℕ) (t : Train) (i j : ℕ) (m : List ℕ) (c : Cursor) → P c → Stands P (legsAt n t i j m s c)
+  pub stands-legs : (n : ℕ) (t : Train) (i j : ℕ) (m : List ℕ) (c : Cursor) → P c → HoldsOn P (legsAt n t i j m s c)
   unfolding legsAt
   stands-legs zero t i j m c h = h
   stands-legs (suc n) t i j m c h =
@@ -44,14 +44,14 @@ module _ (s : List ℕ) (P : Cursor → Type 0) (k : Keeps s P) where
       (λ d c₁ h₁. stands-then P (timeAt (afterField n) s c₁) _ (stands-time (afterField n) c₁ h₁)
       (λ a c₂ h₂. stands-legs n t i (j + 1) (withLeg t i j d a m) c₂ h₂))
 
-  stands-trains : (n : ℕ) (l : Line) (i : ℕ) (m : List ℕ) (c : Cursor) → P c → Stands P (trainsAt n l i m s c)
+  stands-trains : (n : ℕ) (l : Line) (i : ℕ) (m : List ℕ) (c : Cursor) → P c → HoldsOn P (trainsAt n l i m s c)
   unfolding trainsAt
   stands-trains zero l i m c h = h
   stands-trains (suc n) l i m c h =
       stands-then P (legsAt (legs l i) (train l i) i 0 m s c) _ (stands-legs (legs l i) (train l i) i 0 m c h)
       (λ m′ c₁ h₁. stands-trains n l (i + 1) m′ c₁ h₁)
 
-  pub stands-minutes : (l : Line) (c : Cursor) → P c → Stands P (minutesAt l s c)
+  pub stands-minutes : (l : Line) (c : Cursor) → P c → HoldsOn P (minutesAt l s c)
   unfolding minutesAt
   stands-minutes l c h =
       stands-then P (countAt (l .traffic .«train_count») s c) _ (stands-count (l .traffic .«train_count») c h)
@@ -59,44 +59,44 @@ module _ (s : List ℕ) (P : Cursor → Type 0) (k : Keeps s P) where
 
   -- ---- the order lists and the total
 
-  pub stands-own : (n : ℕ) (c : Cursor) → P c → Stands P (ownCountAt n s c)
+  pub stands-own : (n : ℕ) (c : Cursor) → P c → HoldsOn P (ownCountAt n s c)
   unfolding ownCountAt
   stands-own n c h = number (numberAt 4 s c) refl
     where
-      bounded : (next : Cursor) → P next → (a : Bounded) → Stands P (onBounded a (λ w. Parsed.got w next) (Parsed.bad 9 (c .line)))
+      bounded : (next : Cursor) → P next → (a : Bounded) → HoldsOn P (onBounded a (λ w. Parsed.got w next) (Parsed.bad 9 (c .line)))
       bounded next w (Bounded.Within v) = w
       bounded next w Bounded.Outside = record { cursor = c; keeps = h; line = refl }
 
       step : (v b : ℕ) (after : Cursor) → P after → (a : Step) → pastOf s after b ≡ a →
-          Stands P (onStep a (λ next. onBounded (boundedOf 0 n v) (λ w. Parsed.got w next) (Parsed.bad 9 (c .line))) (Parsed.bad 8 (c .line)))
+          HoldsOn P (onStep a (λ next. onBounded (boundedOf 0 n v) (λ w. Parsed.got w next) (Parsed.bad 9 (c .line))) (Parsed.bad 8 (c .line)))
       step v b after w (Step.Next next) e = bounded next (past-keeps s P k after b next w e) (boundedOf 0 n v)
       step v b after w Step.Wrong e = record { cursor = c; keeps = h; line = refl }
 
-      number : (a : Number) → numberAt 4 s c ≡ a → Stands P (onNumber a
+      number : (a : Number) → numberAt 4 s c ≡ a → HoldsOn P (onNumber a
           (λ v after. onStep (pastOf s after (cond (eqb v 0) 10 32))
           (λ next. onBounded (boundedOf 0 n v) (λ w. Parsed.got w next) (Parsed.bad 9 (c .line))) (Parsed.bad 8 (c .line))) (Parsed.bad 8 (c .line)))
       number (Number.Value v after) e =
           step v (cond (eqb v 0) 10 32) after (number-keeps s P k 4 c v after h e) (pastOf s after (cond (eqb v 0) 10 32)) refl
       number Number.Malformed e = record { cursor = c; keeps = h; line = refl }
 
-  pub stands-list : (n : ℕ) (c : Cursor) → P c → Stands P (listAt n s c)
+  pub stands-list : (n : ℕ) (c : Cursor) → P c → HoldsOn P (listAt n s c)
   unfolding listAt
   stands-list n c h =
       stands-then P (ownCountAt n s c) _ (stands-own n c h)
       (λ v c₁ h₁. stands-many s P k v (nameAt n) (λ left c₂ h₂. stands-ranged s P k 8 9 1 n (afterField left) c₂ h₂) c₁ h₁)
 
-  pub stands-lists : (n m : ℕ) (c : Cursor) → P c → Stands P (lines m (listAt n) s c)
+  pub stands-lists : (n m : ℕ) (c : Cursor) → P c → HoldsOn P (lines m (listAt n) s c)
   stands-lists n m c h = stands-many s P k m (λ left. listAt n) (λ left. stands-list n) c h
 
-  stands-total : (c : Cursor) → P c → Stands P (totalAt s c)
+  stands-total : (c : Cursor) → P c → HoldsOn P (totalAt s c)
   unfolding totalAt
   stands-total c h = go (fieldAt 7 s c 10) refl
     where
-      go : (a : NumberField) → fieldAt 7 s c 10 ≡ a → Stands P (onField a (λ v next. Parsed.got v next) (Parsed.bad 8 (c .line)))
+      go : (a : NumberField) → fieldAt 7 s c 10 ≡ a → HoldsOn P (onField a (λ v next. Parsed.got v next) (Parsed.bad 8 (c .line)))
       go (NumberField.Value v next) e = field-keeps s P k 7 c 10 v next h e
       go NumberField.Malformed e = record { cursor = c; keeps = h; line = refl }
 
-  stands-rest : (l : Line) (c : Cursor) → P c → Stands P (restAt l s c)
+  stands-rest : (l : Line) (c : Cursor) → P c → HoldsOn P (restAt l s c)
   unfolding restAt
   stands-rest l c h =
       stands-then P (countAt (listCount l) s c) _ (stands-count (listCount l) c h)

@@ -6,16 +6,16 @@ use mathlib.Core.List.{List}
 use lib.ListN.{length, set, replicate}
 use lib.Dec.{ltb, eqb}
 use Rattle.text.specs.declared.Cursor.{Cursor}
-use Rattle.text.specs.Choice.{pick, onNumber, onStep, onField, onBounded}
-use Rattle.text.specs.Bytes.{pastOf}
-use Rattle.text.specs.Numbers.{numberAt, fieldAt}
-use Rattle.text.specs.Limits.{boundedOf}
-use Rattle.text.specs.Parsed.{Parsed, thenRead, many, lines, rangedAt}
+use Rattle.text.specs.Reading.Choice.{pick, onNumber, onStep, onField, onBounded}
+use Rattle.text.specs.Reading.Bytes.{pastOf}
+use Rattle.text.specs.Reading.Numbers.{numberAt, fieldAt}
+use Rattle.text.specs.Reading.Limits.{boundedOf}
+use Rattle.text.specs.Reading.Parsed.{Parsed, thenRead, many, lines, rangedAt}
 use Rattle.line.specs.declared.Train.{Train}
 use Rattle.line.specs.declared.Line.{Line}
-use Rattle.rules.specs.Paths.{train, legs, segmentOf}
-use Rattle.rules.specs.Minutes.{departs, arrives}
-use Rattle.rules.specs.Orders.{listCount}
+use Rattle.rules.specs.Statement.Paths.{train, legs, segmentOf}
+use Rattle.rules.specs.Statement.Minutes.{departs, arrives}
+use Rattle.rules.specs.Lists.Orders.{listCount}
 
 -- the byte after a field with k more on its line
 abbrev pub afterField : ℕ → ℕ

@@ -5,11 +5,11 @@ use mathlib.Core.List.{List}
 use native.Mathlib.Omega.{arith}
 use lib.ListN.{set, replicate}
 use Rattle.text.specs.declared.Cursor.{Cursor}
-use Rattle.text.specs.Parsed.{Parsed}
-use Rattle.text.specs.ParsedLaws.{ranged-spelt}
+use Rattle.text.specs.Reading.Parsed.{Parsed}
+use Rattle.text.specs.Reading.ParsedLaws.{ranged-spelt}
 use Rattle.line.specs.declared.Train.{Train}
 use Rattle.line.specs.declared.Line.{Line}
-use Rattle.rules.specs.Paths.{train, legs, segmentOf}
+use Rattle.rules.specs.Statement.Paths.{train, legs, segmentOf}
 use Rattle.timetable.specs.Reading.{afterField, timeAt, countAt, legsAt, trainsAt, minutesAt}
 
 -- a count that was read is the line's

@@ -9,27 +9,29 @@ use lib.Dec.{eqb}
 use lib.ListN.{length, replicate, length-replicate}
 use Rattle.text.specs.declared.Cursor.{Cursor}
 use Rattle.text.specs.declared.Digit.{Digit}
-use Rattle.text.specs.Bytes.{from, digitOf}
-use Rattle.text.specs.BytesLaws.{from-skip, at-length, past-reads, space-ends, feed-ends}
-use Rattle.text.specs.Digits.{digits}
-use Rattle.text.specs.DigitsLaws.{digits-length, number-reads, pastText, field-reads, field-leaves, pastField}
-use Rattle.text.specs.Each.{Each, eachThen}
-use Rattle.text.specs.Below.{EachFrom, each-first}
-use Rattle.text.specs.Parsed.{Parsed, many, lines}
-use Rattle.text.specs.ParsedLaws.{bounded-fits, Reads, ranged-reads, at-end, reads-then, many-reads}
+use Rattle.text.specs.Reading.Bytes.{from, digitOf}
+use Rattle.text.specs.Reading.BytesLaws.{from-skip, at-length, past-reads, space-ends, feed-ends}
+use Rattle.text.specs.Writing.Digits.{digits}
+use Rattle.text.specs.Writing.DigitsLaws.{digits-length, number-reads, pastText, field-reads, field-leaves, pastField}
+use Rattle.finite.specs.Each.{Each}
+use Rattle.text.specs.Elements.EachThen.{eachThen}
+use Rattle.finite.specs.Below.{EachFrom}
+use Rattle.finite.specs.LoopLaws.{each-first}
+use Rattle.text.specs.Reading.Parsed.{Parsed, many, lines}
+use Rattle.text.specs.Reading.ParsedLaws.{bounded-fits, Reads, ranged-reads, at-end, reads-then, many-reads}
 use Rattle.line.specs.declared.Train.{Train}
 use Rattle.line.specs.declared.Line.{Line}
 use Rattle.line.specs.Record.{legsOf}
 use Rattle.line.specs.Within.{Within}
 use Rattle.line.specs.Spell.{field}
-use Rattle.rules.specs.Paths.{train, legs, segmentOf, Routed, EachTrain, EachLeg}
-use Rattle.rules.specs.Minutes.{departs, arrives, departure, arrival}
-use Rattle.rules.specs.Tests.{departureOf, arrivalOf}
-use Rattle.rules.specs.Rules.{InDays}
-use Rattle.rules.specs.Delay.{Same}
-use Rattle.rules.specs.Orders.{listCount}
-use Rattle.rules.specs.OrdersLaws.{lists-few}
-use Rattle.rules.specs.PathsLaws.{routed-leg}
+use Rattle.rules.specs.Statement.Paths.{train, legs, segmentOf, Routed, EachTrain, EachLeg}
+use Rattle.rules.specs.Statement.Minutes.{departs, arrives, departure, arrival}
+use Rattle.rules.specs.Check.Tests.{departureOf, arrivalOf}
+use Rattle.rules.specs.Statement.Rules.{InDays}
+use Rattle.rules.specs.Statement.Delay.{Same}
+use Rattle.rules.specs.Lists.Orders.{listCount}
+use Rattle.rules.specs.Lists.OrdersLaws.{lists-few}
+use Rattle.rules.specs.StatementLaws.PathsLaws.{routed-leg}
 use Rattle.timetable.specs.Reading.{afterField, withLeg, legsAt, trainsAt, minutesAt, ownCountAt, nameAt, listAt, totalAt, restAt, timetableFile}
 use Rattle.timetable.specs.ReadingLaws.{legs-step, trains-step, minutes-counted}
 use Rattle.timetable.specs.ListLaws.{own-value}

@@ -7,12 +7,12 @@ use lib.ListN.{length}
 use Rattle.text.specs.declared.Cursor.{Cursor}
 use Rattle.text.specs.declared.Ending.{Ending}
 use Rattle.text.specs.declared.NumberField.{NumberField}
-use Rattle.text.specs.Numbers.{fieldAt}
-use Rattle.text.specs.Parsed.{Parsed, thenRead, mapParsed, many, lines}
-use Rattle.text.specs.Told.{toldEnding}
-use Rattle.text.specs.ParsedLaws.{many-done, many-step, many-stop}
+use Rattle.text.specs.Reading.Numbers.{fieldAt}
+use Rattle.text.specs.Reading.Parsed.{Parsed, thenRead, mapParsed, many, lines}
+use Rattle.text.specs.Reading.Told.{toldEnding}
+use Rattle.text.specs.Reading.ParsedLaws.{many-done, many-step, many-stop}
 use Rattle.line.specs.declared.Line.{Line}
-use Rattle.rules.specs.Orders.{listCount}
+use Rattle.rules.specs.Lists.Orders.{listCount}
 use Rattle.timetable.specs.Reading.{countAt, listAt, totalAt, Rest, restAt, minutesAt, timetableFile}
 use Rattle.timetable.specs.ReadingLaws.{count-is}
 

@@ -4,14 +4,14 @@ use mathlib.Core.Bool.{cond}
 use mathlib.Core.List.{List, [], _∷_, map}
 use lib.ListN.{length}
 use lib.Dec.{eqb}
-use Rattle.text.specs.Each.{eachThen}
+use Rattle.text.specs.Elements.EachThen.{eachThen}
 use Rattle.line.specs.declared.Train.{Train}
 use Rattle.line.specs.declared.Line.{Line}
 use Rattle.line.specs.Spell.{field}
-use Rattle.rules.specs.Paths.{train, legs}
-use Rattle.rules.specs.Tests.{departureOf, arrivalOf}
-use Rattle.rules.specs.Delay.{weightedDelay}
-use Rattle.rules.specs.Orders.{listCount, orderLists}
+use Rattle.rules.specs.Statement.Paths.{train, legs}
+use Rattle.rules.specs.Check.Tests.{departureOf, arrivalOf}
+use Rattle.rules.specs.Statement.Delay.{weightedDelay}
+use Rattle.rules.specs.Lists.Orders.{listCount, orderLists}
 use Rattle.timetable.specs.Reading.{afterField}
 
 -- ---- "Train count, then a line for each train: departure and arrival for each segment in travel order"

@@ -13,33 +13,34 @@ use Rattle.text.specs.declared.Number.{Number}
 use Rattle.text.specs.declared.NumberField.{NumberField}
 use Rattle.text.specs.declared.Step.{Step}
 use Rattle.text.specs.declared.Bounded.{Bounded}
-use Rattle.text.specs.Choice.{onField}
-use Rattle.text.specs.Bytes.{from, pastOf}
-use Rattle.text.specs.BytesLaws.{past-spelt}
-use Rattle.text.specs.Numbers.{numberAt, fieldAt}
-use Rattle.text.specs.Digits.{digits}
-use Rattle.text.specs.DigitsLaws.{number-spelt, field-spelt}
-use Rattle.text.specs.Limits.{boundedOf}
-use Rattle.text.specs.Each.{eachThen}
-use Rattle.text.specs.Below.{EachFrom, each-first}
-use Rattle.text.specs.Parsed.{Parsed, many, lines}
-use Rattle.text.specs.ParsedLaws.{then-got, pick-got, got-is, bounded-within, ranged-spelt, PartSpelt, many-spelt, many-length}
+use Rattle.text.specs.Reading.Choice.{onField}
+use Rattle.text.specs.Reading.Bytes.{from, pastOf}
+use Rattle.text.specs.Reading.BytesLaws.{past-spelt}
+use Rattle.text.specs.Reading.Numbers.{numberAt, fieldAt}
+use Rattle.text.specs.Writing.Digits.{digits}
+use Rattle.text.specs.Writing.DigitsLaws.{number-spelt, field-spelt}
+use Rattle.text.specs.Reading.Limits.{boundedOf}
+use Rattle.text.specs.Elements.EachThen.{eachThen}
+use Rattle.finite.specs.Below.{EachFrom}
+use Rattle.finite.specs.LoopLaws.{each-first}
+use Rattle.text.specs.Reading.Parsed.{Parsed, many, lines}
+use Rattle.text.specs.Reading.ParsedLaws.{then-got, pick-got, got-is, bounded-within, ranged-spelt, PartSpelt, many-spelt, many-length}
 use Rattle.line.specs.declared.Train.{Train}
 use Rattle.line.specs.declared.Line.{Line}
 use Rattle.line.specs.Record.{legsOf}
 use Rattle.line.specs.Within.{Within}
 use Rattle.line.specs.Spell.{field}
-use Rattle.rules.specs.Paths.{train, legs, segmentOf, Routed, EachTrain}
-use Rattle.rules.specs.Minutes.{departs, arrives}
-use Rattle.rules.specs.Tests.{departureOf, arrivalOf}
-use Rattle.rules.specs.Rules.{InDays}
-use Rattle.rules.specs.Orders.{listCount}
-use Rattle.rules.specs.PathsLaws.{routed-leg}
+use Rattle.rules.specs.Statement.Paths.{train, legs, segmentOf, Routed, EachTrain}
+use Rattle.rules.specs.Statement.Minutes.{departs, arrives}
+use Rattle.rules.specs.Check.Tests.{departureOf, arrivalOf}
+use Rattle.rules.specs.Statement.Rules.{InDays}
+use Rattle.rules.specs.Lists.Orders.{listCount}
+use Rattle.rules.specs.StatementLaws.PathsLaws.{routed-leg}
 use Rattle.timetable.specs.Reading.{afterField, timeAt, countAt, withLeg, legsAt, trainsAt, minutesAt, ownCountAt, nameAt, listAt, totalAt, Rest, restAt, Timetable, timetableFile}
 use Rattle.timetable.specs.ReadingLaws.{count-is, minutes-counted}
 use Rattle.timetable.specs.ListLaws.{own-malformed, own-unended, own-over, own-value}
 use Rattle.timetable.specs.Spell.{legsText, trainsText, minutesText, namesText, listText, restText}
-use Rattle.timetable.specs.SameText.{legs-same}
+use Rattle.timetable.specs.SameTextLaws.{legs-same}
 use Rattle.timetable.specs.StoresLaws.{departure-stored, arrival-stored, leg-stored, legs-stored, trains-stored}
 
 -- ---- fields

@@ -6,16 +6,16 @@ use native.Mathlib.Omega.{arith}
 use lib.ListN.{length, getD, set, length-set}
 use lib.Seq.{getD-set-same, getD-set-other}
 use Rattle.text.specs.declared.Cursor.{Cursor}
-use Rattle.text.specs.Below.{EachFrom}
-use Rattle.text.specs.Parsed.{Parsed}
-use Rattle.text.specs.ParsedLaws.{then-got, got-is}
+use Rattle.finite.specs.Below.{EachFrom}
+use Rattle.text.specs.Reading.Parsed.{Parsed}
+use Rattle.text.specs.Reading.ParsedLaws.{then-got, got-is}
 use Rattle.line.specs.declared.Train.{Train}
 use Rattle.line.specs.declared.Line.{Line}
 use Rattle.line.specs.Record.{legsOf}
-use Rattle.rules.specs.Paths.{train, legs, segmentOf, Routed}
-use Rattle.rules.specs.Minutes.{departs, arrives}
-use Rattle.rules.specs.Tests.{departureOf, arrivalOf}
-use Rattle.rules.specs.PathsLaws.{segment-below, segment-apart}
+use Rattle.rules.specs.Statement.Paths.{train, legs, segmentOf, Routed}
+use Rattle.rules.specs.Statement.Minutes.{departs, arrives}
+use Rattle.rules.specs.Check.Tests.{departureOf, arrivalOf}
+use Rattle.rules.specs.StatementLaws.PathsLaws.{segment-below, segment-apart}
 use Rattle.timetable.specs.Reading.{afterField, timeAt, withLeg, legsAt, trainsAt}
 
 -- ---- the legs of a train, which is train i

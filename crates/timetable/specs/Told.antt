@@ -2,7 +2,7 @@
 use mathlib.Core.List.{map}
 use lib.ListN.{take}
 use Rattle.line.specs.declared.Line.{Line}
-use Rattle.rules.specs.Orders.{listCount, listed}
+use Rattle.rules.specs.Lists.Orders.{listCount, listed}
 use Rattle.timetable.specs.declared.reading.RestPart.{RestPart}
 use Rattle.timetable.specs.declared.reading.TimetablePart.{TimetablePart}
 use Rattle.timetable.specs.Reading.{Rest, Timetable}

@@ -4,15 +4,15 @@ use mathlib.Core.Bool.{Bool, not, _&&_}
 use mathlib.Core.Option.{Option, some, none}
 use mathlib.Core.List.{List}
 use lib.Dec.{leb}
-use Rattle.text.specs.Below.{first, all}
-use Rattle.text.specs.Lend.{Spelling}
+use Rattle.finite.specs.Below.{first, all}
+use Rattle.text.specs.Writing.Lend.{Spelling}
 use Rattle.line.specs.declared.Train.{Train}
 use Rattle.line.specs.declared.Line.{Line}
 use Rattle.line.specs.declared.writing.Fault.{Fault}
 use Rattle.line.specs.Record.{legsOf}
 use Rattle.line.specs.Writing.{thenFault, onFault, faultOf}
-use Rattle.rules.specs.Paths.{train}
-use Rattle.rules.specs.Tests.{departureOf, arrivalOf}
+use Rattle.rules.specs.Statement.Paths.{train}
+use Rattle.rules.specs.Check.Tests.{departureOf, arrivalOf}
 use Rattle.timetable.specs.Spell.{timetableText}
 
 -- each time of the train, which is train i, is at most 2,879

@@ -11,12 +11,14 @@ use borrow.Author.Tests.{not-false}
 use lib.Dec.{eqb}
 use lib.ListN.{length, getD, drop, length-append, length-drop, length-map, length-take}
 use lib.Seq.{drop-cons, drop-length, getD-take}
-use Rattle.text.specs.Decide.{Decides, is-true, decides-and, decides-le}
-use Rattle.text.specs.Below.{EachBelow, decides-all, first-found, first-none, none-first}
-use Rattle.text.specs.Digits.{fieldText}
-use Rattle.text.specs.Each.{eachThen}
-use Rattle.text.specs.Lend.{Spelling}
-use Rattle.text.specs.SpliceLaws.{Putting, putting-room}
+use Rattle.finite.specs.Decide.{Decides}
+use Rattle.finite.specs.DecideLaws.{is-true, decides-and, decides-le}
+use Rattle.finite.specs.Below.{EachBelow}
+use Rattle.finite.specs.LoopLaws.{decides-all, first-found, first-none, none-first}
+use Rattle.text.specs.Writing.Digits.{fieldText}
+use Rattle.text.specs.Elements.EachThen.{eachThen}
+use Rattle.text.specs.Writing.Lend.{Spelling}
+use Rattle.text.specs.Writing.SpliceLaws.{Putting, putting-room}
 use Rattle.line.specs.declared.Train.{Train}
 use Rattle.line.specs.declared.Line.{Line}
 use Rattle.line.specs.declared.writing.Fault.{Fault}
@@ -26,12 +28,12 @@ use Rattle.line.specs.WithinLaws.{within-of}
 use Rattle.line.specs.Spell.{field}
 use Rattle.line.specs.Writing.{thenFault, onFault, faultOf}
 use Rattle.line.specs.SpellLaws.{each-then}
-use Rattle.rules.specs.Paths.{train, legs, EachTrain}
-use Rattle.rules.specs.Tests.{departureOf, arrivalOf}
-use Rattle.rules.specs.Rules.{InDays}
-use Rattle.rules.specs.Delay.{weightedDelay}
+use Rattle.rules.specs.Statement.Paths.{train, legs, EachTrain}
+use Rattle.rules.specs.Check.Tests.{departureOf, arrivalOf}
+use Rattle.rules.specs.Statement.Rules.{InDays}
+use Rattle.rules.specs.Statement.Delay.{weightedDelay}
 use Rattle.rules.specs.declared.orders.OrderList.{OrderList}
-use Rattle.rules.specs.Orders.{listCount, listed}
+use Rattle.rules.specs.Lists.Orders.{listCount, listed}
 use Rattle.timetable.specs.Reading.{afterField}
 use Rattle.timetable.specs.Spell.{legsText, trainsText, minutesText, namesText, listText, restText, numbers, listNumbers, timetableText}
 use Rattle.timetable.specs.Writing.{timesRight, onLine, minutesFault, spelling}

@@ -4,7 +4,7 @@ ghost use mathlib.Core.List.{map};
 ghost use Prim.Native.Nat.{_≤_};
 ghost use lib.ListN.{length, take};
 ghost use Rattle.line.specs.Within.{Within};
-ghost use Rattle.rules.specs.Orders.{listCount, listed, listsIn};
+ghost use Rattle.rules.specs.Lists.Orders.{listCount, listed, listsIn};
 ghost use Rattle.timetable.specs.Reading.{timetableFile};
 ghost use Rattle.timetable.specs.Check.{sameList, listsBreach, restBreach, verdictOf, endingVerdict, answerVerdict, judged, checkOf};
 use crate::reading::read_timetable;

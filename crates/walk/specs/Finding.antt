@@ -2,9 +2,9 @@
 use mathlib.Core.Path.{_≡_}
 use Rattle.line.specs.declared.Line.{Line}
 use Rattle.plans.specs.declared.found.Found.{Found}
-use Rattle.plans.specs.Planning.{planning}
-use Rattle.plans.specs.Tallies.{cutOff}
-use Rattle.plans.specs.Finding.{Finds}
+use Rattle.plans.specs.Instance.Planning.{planning}
+use Rattle.plans.specs.Contracts.Tallies.{cutOff}
+use Rattle.plans.specs.Contracts.FoundBest.{Finds}
 use Rattle.walk.specs.Walk.{walk}
 
 pub record FindsWalked (l : Line) (r : Found) : Type 0 where

@@ -5,29 +5,29 @@ use mathlib.Core.Bool.{false, false≢true}
 use mathlib.Core.List.{List}
 use native.Mathlib.Omega.{arith}
 use lib.ListN.{replicate}
-use Rattle.text.specs.Decide.{is-false}
+use Rattle.finite.specs.DecideLaws.{is-false}
 use Rattle.line.specs.declared.Line.{Line}
 use Rattle.line.specs.Within.{Within, Arrays}
-use Rattle.rules.specs.Paths.{EachTrain}
-use Rattle.rules.specs.Rules.{NotLate}
-use Rattle.orders.specs.NoLater.{slack}
-use Rattle.orders.specs.NoLaterLaws.{slack-most}
-use Rattle.orders.specs.Least.{Least, minutes, none, Fit, IsLeast}
-use Rattle.orders.specs.Marks.{free}
-use Rattle.orders.specs.Plans.{Keeps}
+use Rattle.rules.specs.Statement.Paths.{EachTrain}
+use Rattle.rules.specs.Statement.Rules.{NotLate}
+use Rattle.orders.specs.LeastMinutes.NoLater.{slack}
+use Rattle.orders.specs.LeastMinutes.NoLaterLaws.{slack-most}
+use Rattle.orders.specs.LeastMinutes.Least.{Least, minutes, none, Fit, IsLeast}
+use Rattle.orders.specs.Plan.Marks.{free}
+use Rattle.orders.specs.Plan.Plans.{Keeps}
 use Rattle.plans.specs.declared.tally.Tally.{Tally}
-use Rattle.plans.specs.BestSoFar.{BestSoFar, nothing, found}
+use Rattle.plans.specs.Theory.BestSoFar.{BestSoFar, nothing, found}
 use Rattle.walk.specs.Walk.{Walked, walk, plenty, takeUp}
 use Rattle.walk.specs.ProblemLaws.{least-found}
-use Rattle.plans.specs.Planning.{start, inTime, planning}
-use Rattle.plans.specs.PlanningLaws.{decides-inTime}
-use Rattle.plans.specs.LineSearched.{starts, planning-laws}
-use Rattle.walk.specs.Solved.{solved, unsolved}
-use Rattle.plans.specs.Tallies.{bestOf, cutOff}
+use Rattle.plans.specs.Instance.Planning.{start, inTime, planning}
+use Rattle.plans.specs.Instance.PlanningLaws.{decides-inTime}
+use Rattle.plans.specs.Instance.LineSearchedLaws.{starts, planning-laws}
+use Rattle.walk.specs.WalkBestLaws.{walk-best, walk-nothing}
+use Rattle.plans.specs.Contracts.Tallies.{bestOf, cutOff}
 use Rattle.walk.specs.Taking.{takenUp, planPart, Walks}
 use Rattle.walk.specs.TakingLaws.{taken-up, taken-none, taken-cut, taken-some}
-use Rattle.plans.specs.Finding.{foundOf}
-use Rattle.plans.specs.FindingLaws.{finds-of}
+use Rattle.plans.specs.Contracts.FoundBest.{foundOf}
+use Rattle.plans.specs.Contracts.FoundBestLaws.{finds-of}
 use Rattle.walk.specs.Finding.{FindsWalked}
 
 module _ (l : Line) (w : Within l) (a : Arrays l) where
@@ -65,8 +65,8 @@ module _ (l : Line) (w : Within l) (a : Arrays l) where
         omega (arith, one, some, ap (λ (x : Walked). x .steps) part) in
         record {
           finds =
-              finds-of l r best′ (λ e. solved l w a best′ (sym best-is ∙ (rw e refl))) (walks .tallied .delay-is)
-              (λ e. unsolved l w a (sym best-is ∙ (rw e refl)));
+              finds-of l r best′ (λ e. walk-best l w a best′ (sym best-is ∙ (rw e refl))) (walks .tallied .delay-is)
+              (λ e. walk-nothing l w a (sym best-is ∙ (rw e refl)));
           steps = steps-are ∙ ap cutOff all;
         }
 
@@ -89,6 +89,6 @@ module _ (l : Line) (w : Within l) (a : Arrays l) where
         record {
           finds =
               finds-of l y m (λ e. absurd (false≢true (sym none-yet ∙ e))) (λ e. absurd (false≢true (sym none-yet ∙ e)))
-              (λ e. unsolved l w a (ap (λ (x : Walked). x .best) walk-one));
+              (λ e. walk-nothing l w a (ap (λ (x : Walked). x .best) walk-one));
           steps = one ∙ ap cutOff (sym (ap (λ (x : Walked). x .steps) walk-one));
         }

@@ -1,9 +1,9 @@
 -- The walk of request K9: its definition, that it finds the best timetable, and the contracts of its functions.
 pub mod Walk
 pub mod Look
-pub mod Sound
+pub mod SoundLaws
 pub mod WalkLaws
-pub mod Solved
+pub mod WalkBestLaws
 pub mod ProblemLaws
 pub mod Scanning
 pub mod ScanningLaws

@@ -3,9 +3,9 @@ use mathlib.Core.Path.{_≡_, refl}
 use mathlib.Core.Bool.{Bool, true, false, cond, _&&_}
 use mathlib.Core.List.{List, [], _∷_}
 use Prim.Native.Nat.{ℕ}
-use Rattle.orders.specs.Least.{Least, minutes, none}
-use Rattle.plans.specs.Problem.{Problem}
-use Rattle.plans.specs.BestSoFar.{BestSoFar, improves}
+use Rattle.orders.specs.LeastMinutes.Least.{Least, minutes, none}
+use Rattle.plans.specs.Theory.Problem.{Problem}
+use Rattle.plans.specs.Theory.BestSoFar.{BestSoFar, improves}
 use Rattle.walk.specs.Walk.{Look, ends, solved, splits, look, lookLeast, lookWays}
 
 module _ (P : Problem) where

@@ -2,9 +2,9 @@
 use Prim.Native.Nat.{ℕ}
 use mathlib.Core.Path.{_≡_, refl, ap}
 use mathlib.Core.List.{List}
-use Rattle.orders.specs.Least.{Least, minutes, none, Fit, IsLeast}
-use Rattle.orders.specs.LeastLaws.{least-one}
-use Rattle.plans.specs.Problem.{Problem, Laws}
+use Rattle.orders.specs.LeastMinutes.Least.{Least, minutes, none, Fit, IsLeast}
+use Rattle.orders.specs.LeastMinutes.LeastLaws.{least-one}
+use Rattle.plans.specs.Theory.Problem.{Problem, Laws}
 
 module _ (P : Problem) (L : Laws P) (cs : P .Plan) (s : List ℕ) (z : Fit (P .events) s) where
   pub least-found : (m : List ℕ) → IsLeast (P .events) (P .Keeps cs) s m → P .least cs s ≡ minutes m

@@ -8,11 +8,11 @@ use lib.ListN.{length, getD}
 use Rattle.line.specs.declared.Segment.{Segment}
 use Rattle.rules.specs.declared.conflicts.Conflict.{Conflict}
 use Rattle.rules.specs.declared.conflicts.Layout.{Layout}
-use Rattle.rules.specs.Minutes.{departsOn, arrivesOn}
-use Rattle.rules.specs.Directions.{on}
-use Rattle.rules.specs.Conflicts.{passage, neitherFirst}
-use Rattle.rules.specs.Scanning.{Scans}
-use Rattle.rules.specs.ConflictsLaws.{NoSegment}
+use Rattle.rules.specs.Statement.Minutes.{departsOn, arrivesOn}
+use Rattle.rules.specs.Conflict.Directions.{on}
+use Rattle.rules.specs.Conflict.Conflicts.{passage, neitherFirst}
+use Rattle.rules.specs.Scan.Scanning.{Scans}
+use Rattle.rules.specs.Conflict.ConflictsLaws.{NoSegment}
 
 -- the 16 entries from b on are the same in both
 unfoldable pub SameRow : List ℕ → List ℕ → ℕ → Type 0
@@ -27,13 +27,13 @@ abbrev pub SameTimes : List ℕ → List ℕ → ℕ → ℕ → Type 0
 SameTimes m former p i = (departsOn m p i ≡ departsOn former p i) × (arrivesOn m p i ≡ arrivesOn former p i)
 
 -- train i is in conflict with none of the n on segment p, which is g
-unfoldable pub Apart : Segment → List ℕ → List ℕ → ℕ → ℕ → ℕ → Type 0
-Apart g ds m p n i =
+unfoldable pub InNoConflict : Segment → List ℕ → List ℕ → ℕ → ℕ → ℕ → Type 0
+InNoConflict g ds m p n i =
     (j : ℕ) → j < n → (j ≡ i → ⊥) → on ds p i ≡ true → on ds p j ≡ true → neitherFirst g (passage ds m p i) (passage ds m p j) ≡ false
 
 -- each of the first k trains has its former minutes there or is in no conflict
 unfoldable pub ChangedApart : Segment → List ℕ → List ℕ → List ℕ → ℕ → ℕ → ℕ → Type 0
-ChangedApart g ds m former p n k = (i : ℕ) → i < k → SameTimes m former p i ⊎ Apart g ds m p n i
+ChangedApart g ds m former p n k = (i : ℕ) → i < k → SameTimes m former p i ⊎ InNoConflict g ds m p n i
 
 -- no conflict on the segments below `clear` at these minutes
 unfoldable pub ClearBelow : Layout → List ℕ → List ℕ → ℕ → Type 0

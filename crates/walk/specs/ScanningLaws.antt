@@ -8,19 +8,19 @@ use mathlib.Core.List.{List}
 use native.Mathlib.Omega.{arith}
 use lib.ListN.{getD}
 use borrow.Author.Count.{below-more}
-use Rattle.text.specs.Decide.{is-true, is-false, decides-not, decides-eq}
-use Rattle.text.specs.Below.{EachBelow}
+use Rattle.finite.specs.DecideLaws.{is-true, is-false, decides-not, decides-eq}
+use Rattle.finite.specs.Below.{EachBelow}
 use Rattle.line.specs.declared.Segment.{Segment}
 use Rattle.line.specs.Record.{noSegment}
 use Rattle.rules.specs.declared.conflicts.Conflict.{Conflict}
 use Rattle.rules.specs.declared.conflicts.Layout.{Layout}
 use Rattle.rules.specs.declared.passages.Passage.{Passage}
-use Rattle.rules.specs.Directions.{way, on}
-use Rattle.rules.specs.Conflicts.{passage, neitherFirst, pairOn, conflictIn}
-use Rattle.rules.specs.ConflictsLaws.{neither-turned, decides-clash, NoSegment, segment-start}
-use Rattle.rules.specs.StationLaws.{none-clash, clash-none, segment-each}
-use Rattle.rules.specs.LowestLaws.{NoneBelow, none-below}
-use Rattle.walk.specs.Scanning.{SameRow, SameOn, SameTimes, Apart, ChangedApart, ClearBelow, clearSegments}
+use Rattle.rules.specs.Conflict.Directions.{way, on}
+use Rattle.rules.specs.Conflict.Conflicts.{passage, neitherFirst, pairOn, conflictIn}
+use Rattle.rules.specs.Conflict.ConflictsLaws.{neither-turned, decides-clash, NoSegment, segment-start}
+use Rattle.rules.specs.Scan.StationLaws.{none-clash, clash-none, segment-each}
+use Rattle.rules.specs.Conflict.LowestLaws.{NoneBelow, none-below}
+use Rattle.walk.specs.Scanning.{SameRow, SameOn, SameTimes, InNoConflict, ChangedApart, ClearBelow, clearSegments}
 
 -- ---- a segment that had no conflict has none where no train with other minutes is in conflict
 
@@ -33,13 +33,13 @@ module _ (g : Segment) (ds m : List ℕ) (p i : ℕ) where
   abbrev pub ApartFrom : ℕ → Type 0
   ApartFrom j = (j ≡ i → ⊥) → on ds p i ≡ true → on ds p j ≡ true → neitherFirst g (passage ds m p i) (passage ds m p j) ≡ false
 
-  pub apart-each : (n j : ℕ) → n ≤ j → EachBelow j ApartFrom → Apart g ds m p n i
-  unfolding Apart
+  pub apart-each : (n j : ℕ) → n ≤ j → EachBelow j ApartFrom → InNoConflict g ds m p n i
+  unfolding InNoConflict
   apart-each n j l h k a = h k (omega arith)
 
   -- for the code: what it compares, with both passages
-  pub apart-off : (n : ℕ) (x : Passage) → x ≡ passage ds m p i → x .way ≡ 0 → Apart g ds m p n i
-  unfolding Apart
+  pub apart-off : (n : ℕ) (x : Passage) → x ≡ passage ds m p i → x .way ≡ 0 → InNoConflict g ds m p n i
+  unfolding InNoConflict
   apart-off n x e o j l d u v = absurd (decides-not (decides-eq (way ds p i) 0) .yea u (sym (ap (λ (z : Passage). z .way) e) ∙ o))
 
   pub apart-other-off : (j : ℕ) (y : Passage) → y ≡ passage ds m p j → y .way ≡ 0 → ApartFrom j
@@ -53,9 +53,9 @@ module _ (g : Segment) (ds m former : List ℕ) (p n : ℕ) where
   unfolding ChangedApart
   changed-start i l = absurd (omega arith)
 
-  pub changed-more : (i : ℕ) → ChangedApart g ds m former p n i → SameTimes m former p i ⊎ Apart g ds m p n i → ChangedApart g ds m former p n (i + 1)
+  pub changed-more : (i : ℕ) → ChangedApart g ds m former p n i → SameTimes m former p i ⊎ InNoConflict g ds m p n i → ChangedApart g ds m former p n (i + 1)
   unfolding ChangedApart
-  changed-more i h k = below-more (λ j. SameTimes m former p j ⊎ Apart g ds m p n j) i h k
+  changed-more i h k = below-more (λ j. SameTimes m former p j ⊎ InNoConflict g ds m p n j) i h k
 
   pub changed-all : (i : ℕ) → n ≤ i → ChangedApart g ds m former p n i → ChangedApart g ds m former p n n
   unfolding ChangedApart
@@ -70,7 +70,7 @@ module _ (g : Segment) (ds m former : List ℕ) (p n : ℕ) where
 
   -- two trains at their former minutes are in conflict only if they were; one with other minutes is in none
   pub changed-clear : pairOn g ds former n p ≡ Conflict.Nothing → ChangedApart g ds m former p n n → pairOn g ds m n p ≡ Conflict.Nothing
-  unfolding ChangedApart Apart
+  unfolding ChangedApart InNoConflict
   changed-clear e h =
       clash-none g ds m n p (λ i a j b. is-false (decides-clash g ds m p i j) (λ c.
       let u = is-true (decides-not (decides-eq (way ds p i) 0)) (c .1 .0) in

@@ -9,24 +9,24 @@ use lib.ListN.{getD, set}
 use Rattle.line.specs.declared.Line.{Line}
 use Rattle.rules.specs.declared.conflicts.Conflict.{Conflict}
 use Rattle.rules.specs.declared.conflicts.Layout.{Layout}
-use Rattle.rules.specs.Conflicts.{conflictOf, conflictIn}
-use Rattle.orders.specs.Bits.{withBit}
-use Rattle.orders.specs.Choices.{Choice}
-use Rattle.orders.specs.Lifting.{Alive}
+use Rattle.rules.specs.Conflict.Conflicts.{conflictOf, conflictIn}
+use Rattle.orders.specs.Plan.Bits.{withBit}
+use Rattle.orders.specs.Plan.Choices.{Choice}
+use Rattle.orders.specs.Lift.Lifting.{Alive}
 use Rattle.walk.specs.Walk.{Walked}
-use Rattle.plans.specs.BestSoFar.{improves}
-use Rattle.plans.specs.Ways.{wayOf, wayCount}
-use Rattle.plans.specs.Planning.{planning}
-use Rattle.plans.specs.Keys.{betterBy}
-use Rattle.plans.specs.Tallies.{bestOf, cutOf, cutOff, Tallied}
-use Rattle.plans.specs.WaysTold.{TellsWay, Steps}
+use Rattle.plans.specs.Theory.BestSoFar.{improves}
+use Rattle.plans.specs.Conflict.Ways.{wayOf, wayCount}
+use Rattle.plans.specs.Instance.Planning.{planning}
+use Rattle.plans.specs.Contracts.Keys.{betterBy}
+use Rattle.plans.specs.Contracts.Tallies.{bestOf, cutOf, cutOff, Tallied}
+use Rattle.plans.specs.Contracts.WaysTold.{TellsWay, Steps}
 use Rattle.walk.specs.Scanning.{ClearBelow, clearSegments}
 use Rattle.walk.specs.ScanningLaws.{clear-told}
-use Rattle.plans.specs.Choosing.{Planned, Given, NoRaise, Fails, Raised, Raises, IsWay}
+use Rattle.plans.specs.Contracts.Choosing.{Planned, Given, NoRaise, Fails, RaisesChoice, Raises, IsWay}
 use Rattle.walk.specs.Taking.{Tries, TriesFirst, Walks, planPart, wayPart, waysPart}
-use Rattle.plans.specs.TryingLaws.{way-there, way-absent, is-way, put-back}
-use Rattle.plans.specs.NextPlansLaws.{cut-low, way-added, way-chooses, way-raises, next-planned, next-falls}
-use Rattle.plans.specs.GivenLaws.{conflict-known, told}
+use Rattle.plans.specs.Contracts.TryingLaws.{way-there, way-absent, is-way, put-back}
+use Rattle.plans.specs.Contracts.NextPlansLaws.{cut-low, way-added, way-chooses, way-raises, next-planned, next-falls}
+use Rattle.plans.specs.Contracts.GivenLaws.{conflict-known, told}
 use Rattle.walk.specs.WalksLaws.{walks-cut, walks-clear, walks-split, counted-tallied, walks-dead, walks-alive, walks-skip, walks-more}
 use Rattle.plans.specs.declared.tally.Tally.{Tally}
 use Rattle.plans.specs.declared.ways.Way.{Way}
@@ -103,7 +103,7 @@ module _ (l : Line) (m marks best t ds key : List ℕ) (layout : Layout) (cost :
             (subst (NoRaise l c marks m) cut-is (h l c marks (way-chooses l m marks t ds cost (g .tabled) (g .planned) c way i v v-is m refl)))
 
       module _ (b : Tally) (counted : (b .found ≡ y .found) × (b .delay ≡ y .delay) × (b .steps ≡ cutOff (y .steps + 1))) (q : List ℕ) (q-is : q ≡ m)
-          (cut : ℕ) (cut-is : cut ≡ cutOf b) (n : List ℕ) (r : ℕ) (h : Raised q (set marks (way .row) v) t ds way cost cut n r) where
+          (cut : ℕ) (cut-is : cut ≡ cutOf b) (n : List ℕ) (r : ℕ) (h : RaisesChoice q (set marks (way .row) v) t ds way cost cut n r) where
         raises : Raises l c marks m (cutOf b) n r
         raises =
             subst (λ (x : ℕ). Raises l c marks m x n r) cut-is

@@ -3,23 +3,23 @@ use Prim.Native.Nat.{ℕ, _+_, _-_, _<_}
 use mathlib.Core.Path.{_≡_}
 use mathlib.Core.List.{List}
 use lib.ListN.{length}
-use Rattle.text.specs.Below.{gather}
+use Rattle.finite.specs.Below.{gather}
 use Rattle.line.specs.declared.Line.{Line}
 use Rattle.rules.specs.declared.conflicts.Conflict.{Conflict}
 use Rattle.rules.specs.declared.conflicts.Layout.{Layout}
-use Rattle.rules.specs.Conflicts.{conflictOf}
-use Rattle.orders.specs.NoLater.{slack}
-use Rattle.orders.specs.Least.{minutes}
-use Rattle.orders.specs.Choices.{Choice}
-use Rattle.orders.specs.Marks.{also}
-use Rattle.plans.specs.Problem.{Problem}
-use Rattle.plans.specs.BestSoFar.{BestSoFar}
+use Rattle.rules.specs.Conflict.Conflicts.{conflictOf}
+use Rattle.orders.specs.LeastMinutes.NoLater.{slack}
+use Rattle.orders.specs.LeastMinutes.Least.{minutes}
+use Rattle.orders.specs.Plan.Choices.{Choice}
+use Rattle.orders.specs.Plan.Marks.{also}
+use Rattle.plans.specs.Theory.Problem.{Problem}
+use Rattle.plans.specs.Theory.BestSoFar.{BestSoFar}
 use Rattle.walk.specs.Scanning.{ClearBelow}
 use Rattle.walk.specs.Walk.{Walked, inOrder, lookLeast, follow, takeUp}
-use Rattle.plans.specs.Ways.{wayOf, wayCount}
-use Rattle.plans.specs.Planning.{planning}
-use Rattle.plans.specs.Tallies.{bestOf, cutOff, Tallied}
-use Rattle.plans.specs.Choosing.{Given, IsWay}
+use Rattle.plans.specs.Conflict.Ways.{wayOf, wayCount}
+use Rattle.plans.specs.Instance.Planning.{planning}
+use Rattle.plans.specs.Contracts.Tallies.{bestOf, cutOff, Tallied}
+use Rattle.plans.specs.Contracts.Choosing.{Given, IsWay}
 use Rattle.plans.specs.declared.tally.Tally.{Tally}
 use Rattle.plans.specs.declared.ways.Way.{Way}
 

@@ -4,10 +4,11 @@ use mathlib.Core.Path.{_≡_, refl, _∙_, ap}
 use mathlib.Core.Bool.{true, false, _&&_}
 use mathlib.Core.List.{List, [], _∷_, _++_, append-nil}
 use native.Mathlib.Omega.{arith}
-use Rattle.text.specs.Below.{gather, gather-more}
-use Rattle.orders.specs.Least.{minutes, none}
-use Rattle.plans.specs.Problem.{Problem}
-use Rattle.plans.specs.BestSoFar.{BestSoFar, found, improves}
+use Rattle.finite.specs.Below.{gather}
+use Rattle.finite.specs.LoopLaws.{gather-more}
+use Rattle.orders.specs.LeastMinutes.Least.{minutes, none}
+use Rattle.plans.specs.Theory.Problem.{Problem}
+use Rattle.plans.specs.Theory.BestSoFar.{BestSoFar, found, improves}
 use Rattle.walk.specs.Walk.{Look, ends, solved, splits, Walked, inOrder, lookWays, lookLeast, look, follow, takeUp}
 use Rattle.walk.specs.Taking.{takenUp}
 

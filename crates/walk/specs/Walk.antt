@@ -3,9 +3,9 @@
 use mathlib.Core.Bool.{cond, _&&_}
 use mathlib.Core.List.{List, [], _∷_}
 use Prim.Native.Nat.{ℕ, zero, suc, _+_, _*_}
-use Rattle.orders.specs.Least.{Least, minutes, none}
-use Rattle.plans.specs.Problem.{Problem}
-use Rattle.plans.specs.BestSoFar.{BestSoFar, nothing, found, improves}
+use Rattle.orders.specs.LeastMinutes.Least.{Least, minutes, none}
+use Rattle.plans.specs.Theory.Problem.{Problem}
+use Rattle.plans.specs.Theory.BestSoFar.{BestSoFar, nothing, found, improves}
 
 -- what a plan comes to when it is taken up: it ends, it is the best so far, or it splits at a conflict of its minutes
 pub data Look (Choice : Type 0) : Type 0 where

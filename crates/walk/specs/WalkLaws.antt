@@ -2,13 +2,13 @@
 use Prim.Native.Nat.{ℕ}
 use mathlib.Core.List.{List}
 use native.Mathlib.Omega.{arith}
-use Rattle.orders.specs.NoLaterLaws.{slack-most}
-use Rattle.plans.specs.Problem.{Problem, Laws}
-use Rattle.plans.specs.BestSoFar.{nothing}
+use Rattle.orders.specs.LeastMinutes.NoLaterLaws.{slack-most}
+use Rattle.plans.specs.Theory.Problem.{Problem, Laws}
+use Rattle.plans.specs.Theory.BestSoFar.{nothing}
 use Rattle.walk.specs.Walk.{plenty, walk}
-use Rattle.plans.specs.Search.{Searched}
-use Rattle.plans.specs.SearchLaws.{under-start}
-use Rattle.walk.specs.Sound.{Enough, takeUp-sound}
+use Rattle.plans.specs.Theory.Search.{Searched}
+use Rattle.plans.specs.Theory.SearchLaws.{under-start}
+use Rattle.walk.specs.SoundLaws.{Enough, takeUp-sound}
 
 plenty-enough : (P : Problem) (cs : P .Plan) (s : List ℕ) → Enough P (plenty P) cs s
 unfolding plenty

@@ -4,29 +4,30 @@ use mathlib.Core.Path.{_≡_, refl, sym, _∙_, ap, ap₂}
 use mathlib.Core.Bool.{Bool, true, false, _&&_, and-eq-true-iff}
 use mathlib.Core.List.{List, [], _∷_, _++_}
 use native.Mathlib.Omega.{arith}
-use Rattle.text.specs.Below.{gather, gather-more}
+use Rattle.finite.specs.Below.{gather}
+use Rattle.finite.specs.LoopLaws.{gather-more}
 use Rattle.line.specs.declared.Line.{Line}
 use Rattle.line.specs.Within.{Within, Arrays}
 use Rattle.rules.specs.declared.conflicts.Conflict.{Conflict}
-use Rattle.rules.specs.Conflicts.{conflictOf}
-use Rattle.orders.specs.NoLater.{slack}
-use Rattle.orders.specs.Least.{Least, minutes, none, Fit, IsLeast}
-use Rattle.orders.specs.Choices.{Choice}
-use Rattle.orders.specs.Marks.{Plan, also}
-use Rattle.orders.specs.Plans.{Keeps}
-use Rattle.orders.specs.PlanArcs.{least}
+use Rattle.rules.specs.Conflict.Conflicts.{conflictOf}
+use Rattle.orders.specs.LeastMinutes.NoLater.{slack}
+use Rattle.orders.specs.LeastMinutes.Least.{Least, minutes, none, Fit, IsLeast}
+use Rattle.orders.specs.Plan.Choices.{Choice}
+use Rattle.orders.specs.Plan.Marks.{Plan, also}
+use Rattle.orders.specs.Plan.Plans.{Keeps}
+use Rattle.orders.specs.LeastMinutes.PlanArcs.{least}
 use Rattle.walk.specs.Walk.{Walked, inOrder, takeUp}
-use Rattle.plans.specs.BestSoFar.{BestSoFar, found, improves, improves-true}
-use Rattle.plans.specs.Ways.{wayOf, wayCount, ways}
-use Rattle.plans.specs.WaysLaws.{ways-none, all-ways, no-ways}
-use Rattle.plans.specs.Planning.{inTime, planning}
-use Rattle.plans.specs.Tallies.{bestOf, cutOf, cutOff, Tallied}
-use Rattle.plans.specs.Choosing.{Planned, NoRaise}
+use Rattle.plans.specs.Theory.BestSoFar.{BestSoFar, found, improves, improves-true}
+use Rattle.plans.specs.Conflict.Ways.{wayOf, wayCount, ways}
+use Rattle.plans.specs.Conflict.WaysLaws.{ways-none, all-ways, no-ways}
+use Rattle.plans.specs.Instance.Planning.{inTime, planning}
+use Rattle.plans.specs.Contracts.Tallies.{bestOf, cutOf, cutOff, Tallied}
+use Rattle.plans.specs.Contracts.Choosing.{Planned, NoRaise}
 use Rattle.walk.specs.Taking.{takenUp, Walks, planPart, wayPart, waysPart}
 use Rattle.walk.specs.TakingLaws.{taken-up, taken-none, taken-some, taken-cut, taken-clear, taken-split, none-more, more-best, more-steps}
-use Rattle.plans.specs.NextPlansLaws.{recounted, recounted-best, delay-low, raise-none}
+use Rattle.plans.specs.Contracts.NextPlansLaws.{recounted, recounted-best, delay-low, raise-none}
 use Rattle.walk.specs.ProblemLaws.{least-found}
-use Rattle.plans.specs.LineSearched.{planning-laws}
+use Rattle.plans.specs.Instance.LineSearchedLaws.{planning-laws}
 use Rattle.plans.specs.declared.tally.Tally.{Tally}
 
 -- ---- a choice more: the walk goes on with its least minutes, or leaves it where raising found none within the cut

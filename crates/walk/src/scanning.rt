@@ -4,10 +4,10 @@ ghost use mathlib.Core.Path.{_≡_};
 ghost use mathlib.Core.Bool.{true, false};
 ghost use Prim.Native.Nat.{_+_, _*_, _-_, _≤_, _<_};
 ghost use lib.ListN.{length};
-ghost use Rattle.rules.specs.Conflicts.{pairOn, segmentConflict, conflictIn};
-ghost use Rattle.rules.specs.Scanning.{LaidOut, Scans};
+ghost use Rattle.rules.specs.Conflict.Conflicts.{pairOn, segmentConflict, conflictIn};
+ghost use Rattle.rules.specs.Scan.Scanning.{LaidOut, Scans};
 ghost use Rattle.rules.specs.declared.conflicts.Conflict.{Conflict as SomeConflict};
-ghost use Rattle.walk.specs.Scanning.{SameRow, SameOn, SameTimes, Apart, ChangedApart, ClearBelow, ScansAgain, clearSegments};
+ghost use Rattle.walk.specs.Scanning.{SameRow, SameOn, SameTimes, InNoConflict, ChangedApart, ClearBelow, ScansAgain, clearSegments};
 use line::Segment;
 use rules::conflicts::Conflict;
 use rules::conflicts::Layout;
@@ -58,7 +58,7 @@ fn same_times(m: &[u16], former: &[u16], p: usize, i: usize) -> bool
 // Whether train i is in conflict with any other on segment p.
 fn in_conflict(g: Segment, ds: &[u16], m: &[u16], p: usize, i: usize, n: usize) -> bool
     requires { ⌜ (length (now ds) ≡ 176) × (length (now m) ≡ 352) × (p < 11) × (i < n) × (n ≤ 12) ⌝ }
-    ensures { λ r. ⌜ (r ≡ false → Apart g (now (ds .entry)) (now (m .entry)) p n i) ⌝ }
+    ensures { λ r. ⌜ (r ≡ false → InNoConflict g (now (ds .entry)) (now (m .entry)) p n i) ⌝ }
 {
     let x = passage_of(ds, m, p, i);
     if x.way == 0 {

@@ -2,7 +2,7 @@
 use mathlib.Core.Path.{_∙_, ap}
 use Prim.Native.Nat.{ℕ}
 use borrow.Author.Needs.{needs}
-use Rattle.solver.specs.SolvingLaws.{solved-read}
+use Rattle.solver.specs.Promise.SolvingLaws.{solved-read}
 use Rattle.service.specs.Packing.{packed}
 use Rattle.screen.specs.Walking.{length-told}
 use Rattle.screen.proofs.gaugeviolet_walk_length.Statement.{statement}

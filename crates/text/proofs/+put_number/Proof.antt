@@ -6,8 +6,8 @@ use Prim.Native.Nat.{ℕ, _<_}
 use native.Mathlib.Omega.{arith}
 use borrow.Fn.Kinds.{In}
 use borrow.Fn.PlainCycle.{Measures, is, falls, and}
-use Rattle.text.specs.DigitsLaws.{digits-one, digits-more, length-one, length-more}
-use Rattle.text.specs.SpliceLaws.{put-then}
+use Rattle.text.specs.Writing.DigitsLaws.{digits-one, digits-more, length-one, length-more}
+use Rattle.text.specs.Writing.SpliceLaws.{put-then}
 use Rattle.text.proofs.put_number.Reads as put-number
 use Rattle.text.proofs.put_number.Kinds as put-number-kinds
 use Rattle.text.proofs.+put_number.Lts-put_number as put-number-lts

@@ -1,6 +1,6 @@
 -- `text::digit_of` meets its contract: each `return` rewrites with the tests that led there. Assumes nothing.
 use borrow.Author.Tests.{lt-ltb, le-ltb}
-use Rattle.text.specs.Bytes.{digitOf}
+use Rattle.text.specs.Reading.Bytes.{digitOf}
 use Rattle.text.proofs.digit_of.Statement.{statement}
 use Rattle.text.proofs.digit_of.Tie as tie
 

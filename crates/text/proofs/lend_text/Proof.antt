@@ -7,7 +7,7 @@ use borrow.Author.Needs.{needs}
 use denote.Ref.{now}
 use lib.ListN.{length, take, drop, length-set}
 use lib.Seq.{sets, length-take-le}
-use Rattle.text.specs.LendLaws.{copy-step, copy-end, lent-short, lent-whole}
+use Rattle.text.specs.Writing.LendLaws.{copy-step, copy-end, lent-short, lent-whole}
 use Rattle.text.proofs.lend_text.Statement.{statement}
 use Rattle.text.proofs.lend_text.Tie as tie
 

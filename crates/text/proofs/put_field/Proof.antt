@@ -4,8 +4,8 @@ use borrow.Author.Needs.{needs}
 use native.Mathlib.Omega.{arith}
 use mathlib.Core.List.{_∷_, []}
 use lib.ListN.{length-append}
-use Rattle.text.specs.Digits.{digits}
-use Rattle.text.specs.SpliceLaws.{put-then}
+use Rattle.text.specs.Writing.Digits.{digits}
+use Rattle.text.specs.Writing.SpliceLaws.{put-then}
 use Rattle.text.proofs.put_field.Statement.{statement}
 use Rattle.text.proofs.put_field.Tie as tie
 

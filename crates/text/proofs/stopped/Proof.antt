@@ -1,6 +1,6 @@
 -- `text::stopped` meets its contract: in each arm the answer is what the definition gives for that case. Assumes nothing.
 use mathlib.Core.Path.{sym, ap}
-use Rattle.text.specs.Told.{stoppedBy}
+use Rattle.text.specs.Reading.Told.{stoppedBy}
 use borrow.Author.Needs.{needs}
 use Rattle.text.proofs.stopped.Statement.{statement}
 use Rattle.text.proofs.stopped.Tie as tie

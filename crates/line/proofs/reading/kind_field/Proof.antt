@@ -4,7 +4,7 @@ use native.Mathlib.Omega.{arith}
 use mathlib.Core.Path.{_≡_, _∙_, sym, ap}
 use denote.Ref.{now}
 use Rattle.text.specs.declared.Step.{Step}
-use Rattle.text.specs.Bytes.{byteAt, ahead, pastOf}
+use Rattle.text.specs.Reading.Bytes.{byteAt, ahead, pastOf}
 use Rattle.line.specs.declared.reading.Letter.{Letter}
 use Rattle.line.specs.File.{letterOf, kindAt}
 use Rattle.line.specs.FileLaws.{letter-inside}

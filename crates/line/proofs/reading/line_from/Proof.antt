@@ -1,8 +1,8 @@
 -- `line::reading::line_from` meets its contract: each `return` is the law of where it ends: in a section, at bytes after the last, or there. The
 -- count of stations is in its range, and after each section there are still no more lines than bytes. Assumes nothing.
 use mathlib.Core.Path.{_∙_, sym, ap, refl}
-use Rattle.text.specs.Lines.{Counted}
-use Rattle.text.specs.LinesLaws.{keeps-counted}
+use Rattle.text.specs.Places.Lines.{Counted}
+use Rattle.text.specs.Places.LinesLaws.{keeps-counted}
 use Rattle.line.specs.File.{answered}
 use Rattle.line.specs.FileLaws.{ended-told}
 use Rattle.line.specs.SectionLaws.{section-range, no-stations, no-segments, no-trains, bytes-after, line-read, refusal}

@@ -2,9 +2,9 @@
 -- there are still no more lines than bytes. Assumes nothing.
 use mathlib.Core.Path.{_∙_, refl, sym, ap}
 use denote.Ref.{now}
-use Rattle.text.specs.Told.{stoppedBy}
-use Rattle.text.specs.LinesLaws.{field-counted}
-use Rattle.text.specs.ToldLaws.{ranged-told}
+use Rattle.text.specs.Reading.Told.{stoppedBy}
+use Rattle.text.specs.Places.LinesLaws.{field-counted}
+use Rattle.text.specs.Reading.ToldLaws.{ranged-told}
 use Rattle.line.specs.Ranges.{station}
 use Rattle.line.specs.FileLaws.{ended-told, path-no-origin, path-no-destination, path-nowhere, path-got}
 use borrow.Author.Needs.{needs}

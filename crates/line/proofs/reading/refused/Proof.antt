@@ -3,7 +3,7 @@
 use mathlib.Core.Path.{_≡_, _∙_, sym, ap, refl}
 use lib.ListN.{replicate}
 use Rattle.text.specs.declared.Ending.{Ending}
-use Rattle.text.specs.Told.{toldEnding}
+use Rattle.text.specs.Reading.Told.{toldEnding}
 use Rattle.line.specs.declared.Answer.{Answer}
 use Rattle.line.specs.declared.ReadLine.{ReadLine}
 use Rattle.line.specs.declared.Segment.{Segment}

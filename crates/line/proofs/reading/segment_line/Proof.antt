@@ -2,9 +2,9 @@
 -- there are still no more lines than bytes. Assumes nothing.
 use mathlib.Core.Path.{_∙_, sym, ap, refl}
 use denote.Ref.{now}
-use Rattle.text.specs.Told.{stoppedBy}
-use Rattle.text.specs.LinesLaws.{field-counted}
-use Rattle.text.specs.ToldLaws.{ranged-told}
+use Rattle.text.specs.Reading.Told.{stoppedBy}
+use Rattle.text.specs.Places.LinesLaws.{field-counted}
+use Rattle.text.specs.Reading.ToldLaws.{ranged-told}
 use Rattle.line.specs.declared.reading.KindField.{KindField}
 use Rattle.line.specs.Ranges.{gap}
 use Rattle.line.specs.File.{toldKind}

@@ -6,10 +6,10 @@ use native.Mathlib.Omega.{arith}
 use native.Mathlib.Nat.{sub-zero}
 use denote.Ref.{now}
 use lib.ListN.{replicate}
-use Rattle.text.specs.Lists.{padded}
-use Rattle.text.specs.Lines.{Counted}
-use Rattle.text.specs.LinesLaws.{keeps-counted}
-use Rattle.text.specs.LayLaws.{layMany, lay-done, lay-step, lay-stop}
+use Rattle.text.specs.Elements.Padded.{padded}
+use Rattle.text.specs.Places.Lines.{Counted}
+use Rattle.text.specs.Places.LinesLaws.{keeps-counted}
+use Rattle.text.specs.Elements.LayLaws.{layMany, lay-done, lay-step, lay-stop}
 use Rattle.line.specs.declared.Segment.{Segment}
 use Rattle.line.specs.File.{segmentLine}
 use Rattle.line.specs.FileLaws.{ended-told}

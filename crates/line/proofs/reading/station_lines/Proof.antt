@@ -5,12 +5,12 @@ use mathlib.Core.Path.{_≡_, _∙_, sym, ap, refl}
 use native.Mathlib.Omega.{arith}
 use native.Mathlib.Nat.{sub-zero}
 use denote.Ref.{now}
-use Rattle.text.specs.Lists.{padded}
-use Rattle.text.specs.Lines.{Counted}
-use Rattle.text.specs.LinesLaws.{field-counted}
-use Rattle.text.specs.LayLaws.{layMany, lay-done, lay-step, lay-stop}
-use Rattle.text.specs.Told.{stoppedBy}
-use Rattle.text.specs.ToldLaws.{ranged-told}
+use Rattle.text.specs.Elements.Padded.{padded}
+use Rattle.text.specs.Places.Lines.{Counted}
+use Rattle.text.specs.Places.LinesLaws.{field-counted}
+use Rattle.text.specs.Elements.LayLaws.{layMany, lay-done, lay-step, lay-stop}
+use Rattle.text.specs.Reading.Told.{stoppedBy}
+use Rattle.text.specs.Reading.ToldLaws.{ranged-told}
 use Rattle.line.specs.Ranges.{tracks}
 use Rattle.line.specs.File.{stationLine}
 use Rattle.line.specs.FileLaws.{ended-told}

@@ -2,10 +2,10 @@
 -- there are still no more lines than bytes. Assumes nothing.
 use mathlib.Core.Path.{_∙_, sym, ap, refl}
 use denote.Ref.{now}
-use Rattle.text.specs.Told.{stoppedBy}
-use Rattle.text.specs.Lines.{Counted}
-use Rattle.text.specs.LinesLaws.{keeps-counted, field-counted}
-use Rattle.text.specs.ToldLaws.{ranged-told}
+use Rattle.text.specs.Reading.Told.{stoppedBy}
+use Rattle.text.specs.Places.Lines.{Counted}
+use Rattle.text.specs.Places.LinesLaws.{keeps-counted, field-counted}
+use Rattle.text.specs.Reading.ToldLaws.{ranged-told}
 use Rattle.line.specs.Ranges.{time, weight}
 use Rattle.line.specs.PlaceLaws.{stands-path, part-counted}
 use Rattle.line.specs.FileLaws.{ended-told, head-no-path, head-no-earliest, head-no-latest, head-no-weight, head-got}

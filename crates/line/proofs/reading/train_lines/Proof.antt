@@ -7,13 +7,13 @@ use mathlib.Core.Path.{_≡_, _∙_, sym, ap, refl}
 use native.Mathlib.Nat.{sub-zero}
 use denote.Ref.{now}
 use lib.ListN.{replicate}
-use Rattle.text.specs.Parsed.{Parsed, mapParsed}
-use Rattle.text.specs.Lists.{padded}
-use Rattle.text.specs.Told.{stoppedBy}
-use Rattle.text.specs.Lines.{Counted}
-use Rattle.text.specs.LinesLaws.{keeps-counted, field-counted}
-use Rattle.text.specs.LayLaws.{layMany, lay-done}
-use Rattle.text.specs.ToldLaws.{ranged-told}
+use Rattle.text.specs.Reading.Parsed.{Parsed, mapParsed}
+use Rattle.text.specs.Elements.Padded.{padded}
+use Rattle.text.specs.Reading.Told.{stoppedBy}
+use Rattle.text.specs.Places.Lines.{Counted}
+use Rattle.text.specs.Places.LinesLaws.{keeps-counted, field-counted}
+use Rattle.text.specs.Elements.LayLaws.{layMany, lay-done}
+use Rattle.text.specs.Reading.ToldLaws.{ranged-told}
 use Rattle.line.specs.Record.{noTrain}
 use Rattle.line.specs.File.{Journey, trainLine}
 use Rattle.line.specs.Ranges.{run, stop}

@@ -1,10 +1,10 @@
 -- `line::reading::train_section` meets its contract: it is refused at its count, or it is what its lines are. Assumes nothing.
 use mathlib.Core.Path.{_∙_, sym, ap, refl}
 use native.Mathlib.Omega.{arith}
-use Rattle.text.specs.LinesLaws.{field-counted}
-use Rattle.text.specs.ParsedLaws.{ranged-spelt}
-use Rattle.text.specs.Told.{stoppedBy}
-use Rattle.text.specs.ToldLaws.{ranged-told}
+use Rattle.text.specs.Places.LinesLaws.{field-counted}
+use Rattle.text.specs.Reading.ParsedLaws.{ranged-spelt}
+use Rattle.text.specs.Reading.Told.{stoppedBy}
+use Rattle.text.specs.Reading.ToldLaws.{ranged-told}
 use Rattle.line.specs.Ranges.{trainCount}
 use Rattle.line.specs.FileLaws.{ended-told}
 use Rattle.line.specs.SectionLaws.{section-no-count, section-lines}

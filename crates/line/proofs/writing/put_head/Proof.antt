@@ -1,7 +1,7 @@
 -- `line::writing::put_head` meets its contract: the five fields are put one after the other, and each fits where all of them do. Assumes nothing.
 use native.Mathlib.Omega.{arith}
 use borrow.Author.Needs.{needs}
-use Rattle.text.specs.SpliceLaws.{put-then}
+use Rattle.text.specs.Writing.SpliceLaws.{put-then}
 use Rattle.line.specs.SpellLaws.{head-parts, head-size}
 use Rattle.line.proofs.writing.put_head.Statement.{statement}
 use Rattle.line.proofs.writing.put_head.Tie as tie

@@ -7,7 +7,7 @@ use borrow.Author.Needs.{needs}
 use mir.Syntax.{w16}
 use mir.Val.{Fits}
 use lib.ListN.{take, drop, getD}
-use Rattle.text.specs.SpliceLaws.{Putting, putting-start, put-then}
+use Rattle.text.specs.Writing.SpliceLaws.{Putting, putting-start, put-then}
 use Rattle.line.specs.Spell.{journeyText}
 use Rattle.line.specs.SpellLaws.{journey-room, journey-put, journey-last-room, journey-end}
 use Rattle.line.proofs.writing.put_journey.Statement.{statement}

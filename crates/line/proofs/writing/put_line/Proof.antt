@@ -2,8 +2,8 @@
 -- the limits has a path. Assumes nothing.
 use native.Mathlib.Omega.{arith}
 use borrow.Author.Needs.{needs}
-use Rattle.text.specs.EachLaws.{each-map}
-use Rattle.text.specs.SpliceLaws.{put-then}
+use Rattle.finite.specs.EachLaws.{each-map}
+use Rattle.text.specs.Writing.SpliceLaws.{put-then}
 use Rattle.line.specs.Record.{trainsOf, HasPath}
 use Rattle.line.specs.Within.{TrainWithin}
 use Rattle.line.specs.RecordLaws.{train-path}

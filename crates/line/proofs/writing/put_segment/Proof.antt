@@ -2,7 +2,7 @@
 -- Assumes nothing.
 use native.Mathlib.Omega.{arith}
 use borrow.Author.Needs.{needs}
-use Rattle.text.specs.SpliceLaws.{put-then}
+use Rattle.text.specs.Writing.SpliceLaws.{put-then}
 use Rattle.line.specs.SpellLaws.{segment-parts, segment-size}
 use Rattle.line.proofs.writing.put_segment.Statement.{statement}
 use Rattle.line.proofs.writing.put_segment.Tie as tie

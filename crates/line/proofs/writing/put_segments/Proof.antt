@@ -5,8 +5,8 @@ use mathlib.Core.List.{[]}
 use native.Mathlib.Omega.{arith}
 use borrow.Author.Needs.{needs}
 use lib.ListN.{take, drop}
-use Rattle.text.specs.Each.{eachThen}
-use Rattle.text.specs.SpliceLaws.{Putting, putting-start}
+use Rattle.text.specs.Elements.EachThen.{eachThen}
+use Rattle.text.specs.Writing.SpliceLaws.{Putting, putting-start}
 use Rattle.line.specs.Record.{noSegment}
 use Rattle.line.specs.Spell.{segmentText}
 use Rattle.line.specs.SpellLaws.{segment-then, each-room, each-put, each-end}

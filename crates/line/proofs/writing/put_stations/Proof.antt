@@ -7,8 +7,8 @@ use borrow.Author.Needs.{needs}
 use lib.ListN.{take, drop, getD}
 use mir.Syntax.{w16}
 use mir.Val.{Fits}
-use Rattle.text.specs.Each.{eachThen}
-use Rattle.text.specs.SpliceLaws.{Putting, putting-start}
+use Rattle.text.specs.Elements.EachThen.{eachThen}
+use Rattle.text.specs.Writing.SpliceLaws.{Putting, putting-start}
 use Rattle.line.specs.Spell.{stationText}
 use Rattle.line.specs.SpellLaws.{station-then, each-room, each-put, each-end}
 use Rattle.line.proofs.writing.put_stations.Statement.{statement}

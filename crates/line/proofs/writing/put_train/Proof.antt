@@ -1,7 +1,7 @@
 -- `line::writing::put_train` meets its contract: the head and then the runs and stops are put, and each fits where both do. Assumes nothing.
 use native.Mathlib.Omega.{arith}
 use borrow.Author.Needs.{needs}
-use Rattle.text.specs.SpliceLaws.{put-then}
+use Rattle.text.specs.Writing.SpliceLaws.{put-then}
 use Rattle.line.specs.SpellLaws.{train-parts, train-size}
 use Rattle.line.proofs.writing.put_train.Statement.{statement}
 use Rattle.line.proofs.writing.put_train.Tie as tie

@@ -5,9 +5,9 @@ use mathlib.Core.List.{[]}
 use native.Mathlib.Omega.{arith}
 use borrow.Author.Needs.{needs}
 use lib.ListN.{take, drop}
-use Rattle.text.specs.Each.{eachThen}
-use Rattle.text.specs.EachLaws.{each-at}
-use Rattle.text.specs.SpliceLaws.{Putting, putting-start}
+use Rattle.text.specs.Elements.EachThen.{eachThen}
+use Rattle.finite.specs.EachLaws.{each-at}
+use Rattle.text.specs.Writing.SpliceLaws.{Putting, putting-start}
 use Rattle.line.specs.declared.Train.{Train}
 use Rattle.line.specs.Record.{HasPath}
 use Rattle.line.specs.Spell.{trainText}

@@ -5,8 +5,8 @@ use mathlib.Core.Path.{_∙_, sym, ap}
 use native.Mathlib.Omega.{arith}
 use denote.Ref.{now}
 use lib.ListN.{length, replicate, length-replicate}
-use Rattle.text.specs.Lend.{Spelling}
-use Rattle.text.specs.LendLaws.{lent-refused, lent-front}
+use Rattle.text.specs.Writing.Lend.{Spelling}
+use Rattle.text.specs.Writing.LendLaws.{lent-refused, lent-front}
 use Rattle.line.specs.Spell.{textOf}
 use Rattle.line.specs.Writing.{onFault, refusedBy, spelling}
 use Rattle.line.specs.WithinLaws.{within-of}

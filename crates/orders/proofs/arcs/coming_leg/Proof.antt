@@ -1,6 +1,6 @@
 -- `orders::arcs::coming_leg` meets its contract: the train comes on the segment before its next one; past the ends of the line there is no leg.
 use borrow.Author.Needs.{needs}
-use Rattle.orders.specs.LegTimesLaws.{comes-first, comes-last, comes-out, comes-in}
+use Rattle.orders.specs.Raise.LegTimesLaws.{comes-first, comes-last, comes-out, comes-in}
 use Rattle.orders.proofs.arcs.coming_leg.Statement.{statement}
 use Rattle.orders.proofs.arcs.coming_leg.Tie as tie
 

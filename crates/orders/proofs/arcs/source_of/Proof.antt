@@ -1,6 +1,6 @@
 -- `orders::arcs::source_of` meets its contract: by the tests that tell how the train goes behind.
 use borrow.Author.Needs.{needs}
-use Rattle.orders.specs.LegTimesLaws.{source-shared, source-alone, source-meeting}
+use Rattle.orders.specs.Raise.LegTimesLaws.{source-shared, source-alone, source-meeting}
 use Rattle.orders.proofs.arcs.source_of.Statement.{statement}
 use Rattle.orders.proofs.arcs.source_of.Tie as tie
 

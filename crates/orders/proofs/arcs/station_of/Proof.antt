@@ -1,7 +1,7 @@
 -- `orders::arcs::station_of` meets its contract: outbound the lower station of the segment, else the higher one.
 use native.Mathlib.Omega.{arith}
 use borrow.Author.Needs.{needs}
-use Rattle.orders.specs.LegTimesLaws.{station-out, station-in}
+use Rattle.orders.specs.Raise.LegTimesLaws.{station-out, station-in}
 use Rattle.orders.proofs.arcs.station_of.Statement.{statement}
 use Rattle.orders.proofs.arcs.station_of.Tie as tie
 

@@ -3,7 +3,7 @@ use Prim.Native.Nat.{_+_, _/_}
 use mathlib.Core.Path.{refl}
 use native.Mathlib.Omega.{arith}
 use borrow.Author.Needs.{needs}
-use Rattle.orders.specs.LegTimesLaws.{behind-shared, behind-alone, behind-meeting}
+use Rattle.orders.specs.Raise.LegTimesLaws.{behind-shared, behind-alone, behind-meeting}
 use Rattle.orders.proofs.arcs.times_behind.Statement.{statement}
 use Rattle.orders.proofs.arcs.times_behind.Tie as tie
 

@@ -1,6 +1,6 @@
 -- `orders::bits::has_bit` meets its contract. Assumes nothing.
 use borrow.Author.Needs.{needs}
-use Rattle.orders.specs.BitsLaws.{bit-of}
+use Rattle.orders.specs.Plan.BitsLaws.{bit-of}
 use Rattle.orders.proofs.bits.has_bit.Statement.{statement}
 use Rattle.orders.proofs.bits.has_bit.Tie as tie
 

@@ -3,7 +3,7 @@ use Prim.Native.Nat.{_/_, _^_}
 use native.Mathlib.Omega.{arith}
 use lib.Count.{trailing-le}
 use borrow.Author.Needs.{needs}
-use Rattle.orders.specs.BitsLaws.{next-none, next-some}
+use Rattle.orders.specs.Plan.BitsLaws.{next-none, next-some}
 use Rattle.orders.proofs.bits.next_bit.Statement.{statement}
 use Rattle.orders.proofs.bits.next_bit.Tie as tie
 

@@ -1,7 +1,7 @@
 -- `orders::first::first_minutes` meets its contract, by the laws of the minutes of the trains alone on the line. Assumes nothing.
 use mathlib.Core.Path.{_≡_, sym, _∙_}
 use lib.ListN.{length, length-map}
-use Rattle.orders.specs.FirstPlanLaws.{first-plan}
+use Rattle.orders.specs.LeastMinutes.FirstPlanLaws.{first-plan}
 use borrow.Author.Needs.{needs}
 use Rattle.orders.proofs.first.first_minutes.Statement.{statement}
 use Rattle.orders.proofs.first.first_minutes.Tie as tie

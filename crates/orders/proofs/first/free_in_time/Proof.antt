@@ -1,7 +1,7 @@
 -- `orders::first::free_in_time` meets its contract. The invariant: the trains before i arrive in time. Assumes nothing.
 use Prim.Native.Nat.{_-_, _≤_}
 use native.Mathlib.Omega.{arith}
-use Rattle.orders.specs.FirstPlanLaws.{EndsBelow, ends-more, ends-late, ends-all}
+use Rattle.orders.specs.LeastMinutes.FirstPlanLaws.{EndsBelow, ends-more, ends-late, ends-all}
 use borrow.Author.Needs.{needs}
 use Rattle.orders.proofs.first.free_in_time.Statement.{statement}
 use Rattle.orders.proofs.first.free_in_time.Tie as tie

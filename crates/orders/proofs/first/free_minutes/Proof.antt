@@ -4,10 +4,10 @@ use Prim.Native.Nat.{_-_, _%_, _≤_}
 use mathlib.Core.Path.{_∙_}
 use mathlib.Core.Logic.{⊎-elim}
 use native.Mathlib.Omega.{arith}
-use Rattle.orders.specs.FillLaws.{Begun, begun-none, begun-more}
-use Rattle.orders.specs.LegsLaws.{leg-is, leg-not}
-use Rattle.orders.specs.FirstPlan.{freeEntry}
-use Rattle.orders.specs.FirstPlanLaws.{minute-none, minutes-made}
+use Rattle.orders.specs.LineTables.FillLaws.{Begun, begun-none, begun-more}
+use Rattle.orders.specs.Graph.LegsLaws.{leg-is, leg-not}
+use Rattle.orders.specs.LeastMinutes.FirstPlan.{freeEntry}
+use Rattle.orders.specs.LeastMinutes.FirstPlanLaws.{minute-none, minutes-made}
 use borrow.Author.Needs.{needs}
 use Rattle.orders.proofs.first.free_minutes.Statement.{statement}
 use Rattle.orders.proofs.first.free_minutes.Tie as tie

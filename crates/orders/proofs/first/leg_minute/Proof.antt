@@ -2,9 +2,9 @@
 use Prim.Native.Nat.{_%_}
 use native.Mathlib.Omega.{arith}
 use borrow.Author.Needs.{needs}
-use Rattle.rules.specs.PathsLaws.{legs-most}
-use Rattle.orders.specs.LegsLaws.{leg-path}
-use Rattle.orders.specs.FirstPlanLaws.{run-free, minute-departs, minute-arrives}
+use Rattle.rules.specs.StatementLaws.PathsLaws.{legs-most}
+use Rattle.orders.specs.Graph.LegsLaws.{leg-path}
+use Rattle.orders.specs.LeastMinutes.FirstPlanLaws.{run-free, minute-departs, minute-arrives}
 use Rattle.orders.proofs.first.leg_minute.Statement.{statement}
 use Rattle.orders.proofs.first.leg_minute.Tie as tie
 

@@ -3,10 +3,10 @@
 use mathlib.Core.Path.{refl}
 use native.Mathlib.Omega.{arith}
 use borrow.Author.Needs.{needs}
-use Rattle.orders.specs.LiftingLaws.{ready-leg}
-use Rattle.orders.specs.RowLaws.{comes-leg}
-use Rattle.orders.specs.ServingLaws.{serves-comes}
-use Rattle.orders.specs.ProspectsLaws.{none-chosen, before-none}
+use Rattle.orders.specs.Lift.LiftingLaws.{ready-leg}
+use Rattle.orders.specs.Raise.RowLaws.{comes-leg}
+use Rattle.orders.specs.Lift.ServingLaws.{serves-comes}
+use Rattle.orders.specs.Look.ProspectsLaws.{none-chosen, before-none}
 use Rattle.orders.proofs.prospects.come_after_fails.Statement.{statement}
 use Rattle.orders.proofs.prospects.come_after_fails.Tie as tie
 

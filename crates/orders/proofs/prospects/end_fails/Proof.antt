@@ -5,8 +5,8 @@ use mathlib.Core.Bool.{false≢true}
 use native.Mathlib.Omega.{arith}
 use borrow.Author.Tests.{ltb-true}
 use borrow.Author.Needs.{needs}
-use Rattle.orders.specs.CostLaws.{cost-most}
-use Rattle.orders.specs.ProspectsLaws.{none-late, none-dear}
+use Rattle.orders.specs.Raise.CostLaws.{cost-most}
+use Rattle.orders.specs.Look.ProspectsLaws.{none-late, none-dear}
 use Rattle.orders.proofs.prospects.end_fails.Statement.{statement}
 use Rattle.orders.proofs.prospects.end_fails.Tie as tie
 

@@ -2,9 +2,9 @@
 use mathlib.Core.Path.{refl}
 use native.Mathlib.Omega.{arith}
 use borrow.Author.Needs.{needs}
-use Rattle.orders.specs.LiftingLaws.{ready-leg}
-use Rattle.orders.specs.ServingLaws.{serves-behind}
-use Rattle.orders.specs.ProspectsLaws.{none-chosen}
+use Rattle.orders.specs.Lift.LiftingLaws.{ready-leg}
+use Rattle.orders.specs.Lift.ServingLaws.{serves-behind}
+use Rattle.orders.specs.Look.ProspectsLaws.{none-chosen}
 use Rattle.orders.proofs.prospects.follow_fails.Statement.{statement}
 use Rattle.orders.proofs.prospects.follow_fails.Tie as tie
 

@@ -3,9 +3,9 @@
 use mathlib.Core.Path.{subst⁻¹}
 use native.Mathlib.Omega.{arith}
 use borrow.Author.Needs.{needs}
-use Rattle.orders.specs.LegGraph.{UsedLeg}
-use Rattle.orders.specs.LiftingLaws.{ready-leg}
-use Rattle.orders.specs.ProspectsLaws.{arrives-small, none-by}
+use Rattle.orders.specs.Graph.LegGraph.{UsedLeg}
+use Rattle.orders.specs.Lift.LiftingLaws.{ready-leg}
+use Rattle.orders.specs.Look.ProspectsLaws.{arrives-small, none-by}
 use Rattle.orders.proofs.prospects.train_fails.Statement.{statement}
 use Rattle.orders.proofs.prospects.train_fails.Tie as tie
 
@@ -38,7 +38,7 @@ end-fails-requires c κs =
     let a = c .before .before .before .before in
     let r = a .pre .0 in
     let last = r .shaped .last-used (a .args .e) (r .leg) in
-    ready-leg _ _ _ _ _ _ _ _ r (subst⁻¹ (UsedLeg (a .args .marks .now) (a .args .t .now) (a .args .ds .now)) (c .before .last-at .ensures) last)
+    ready-leg _ _ _ _ _ _ _ _ r (subst⁻¹ (UsedLeg (a .args .ds .now)) (c .before .last-at .ensures) last)
 
 returns : tie.Need-returns
 returns c q =

@@ -12,36 +12,15 @@ use lib.ListN.{getD}
 use borrow.Author.Needs.{needs}
 use borrow.Fn.Kinds.{In}
 use borrow.Fn.PlainCycle.{Measures, is, falls, and}
-use Rattle.orders.specs.NoLater.{slack}
-use Rattle.orders.specs.Bits.{inMask}
-use Rattle.orders.specs.LegGraph.{leaving, UsedLeg}
-use Rattle.orders.specs.Lifting.{Any, After, Gone, Going, Stepped}
-use Rattle.orders.specs.RaisedPaths.{AsideOf}
-use Rattle.orders.specs.LiftingLaws.{
-  lifted-dead,
-  followed-dead,
-  going-start,
-  going-ready,
-  going-slack,
-  going-dead,
-  stepped-ready,
-  stepped-last,
-}
-use Rattle.orders.specs.ServingLaws.{serves-behind, serves-comes}
-use Rattle.orders.specs.RowLaws.{
-  FromTrain,
-  after-row,
-  gone-row,
-  row-start,
-  row-none,
-  row-next,
-  row-end,
-  comes-leg,
-  row-still,
-  row-raised,
-  row-dead,
-}
-use Rattle.orders.specs.SpreadingLaws.{RestAside, spread-after, spread-gone, spread-end}
+use Rattle.orders.specs.LeastMinutes.NoLater.{slack}
+use Rattle.orders.specs.Plan.Bits.{inMask}
+use Rattle.orders.specs.Graph.LegGraph.{leaving, UsedLeg}
+use Rattle.orders.specs.Lift.Lifting.{Any, After, Gone, Going, Stepped}
+use Rattle.orders.specs.Lift.RaisedPaths.{AsideOf}
+use Rattle.orders.specs.Lift.LiftingLaws.{lifted-dead, followed-dead, going-start, going-ready, going-slack, going-dead, stepped-ready, stepped-last}
+use Rattle.orders.specs.Lift.ServingLaws.{serves-behind, serves-comes}
+use Rattle.orders.specs.Raise.RowLaws.{FromTrain, after-row, gone-row, row-start, row-none, row-next, row-end, comes-leg, row-still, row-raised, row-dead}
+use Rattle.orders.specs.Lift.SpreadingLaws.{RestAside, spread-after, spread-gone, spread-end}
 use Rattle.orders.proofs.raising.comers.Reads as comers
 use Rattle.orders.proofs.raising.comers.Kinds as comers-kinds
 use Rattle.orders.proofs.raising.+comers+followers+lift.Lts-comers as comers-lts
@@ -713,7 +692,7 @@ followers-returns-3 t c =
 
 abbrev lift-Inv-loop : lift-lts.InvT-loop
 lift-Inv-loop m₀ marks t ds e v w src cost cut c₀ f₀ left₀ m c f left =
-    Going marks t ds src cut Any (AsideOf t left₀ e) (AsideOf t left f) m₀ m c × UsedLeg marks t ds f
+    Going marks t ds src cut Any (AsideOf t left₀ e) (AsideOf t left f) m₀ m c × UsedLeg ds f
 
 abbrev lift-μ-loop : lift-lts.MeasureT-loop
 lift-μ-loop m₀ marks t ds e v w src cost cut c₀ f₀ left₀ m c f left = left

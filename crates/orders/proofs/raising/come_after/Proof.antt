@@ -4,10 +4,10 @@ use mathlib.Core.Logic.{inr}
 use mathlib.Core.Path.{refl}
 use native.Mathlib.Omega.{arith}
 use borrow.Author.Needs.{needs}
-use Rattle.orders.specs.ChoosingLaws.{chose-still, chose, comes-near}
-use Rattle.orders.specs.RowLaws.{comes-leg}
-use Rattle.orders.specs.ServingLaws.{serves-comes}
-use Rattle.orders.specs.LiftingLaws.{ready-leg}
+use Rattle.orders.specs.Lift.ChosenArcsLaws.{chose-still, chose, comes-near}
+use Rattle.orders.specs.Raise.RowLaws.{comes-leg}
+use Rattle.orders.specs.Lift.ServingLaws.{serves-comes}
+use Rattle.orders.specs.Lift.LiftingLaws.{ready-leg}
 use Rattle.orders.proofs.raising.come_after.Statement.{statement}
 use Rattle.orders.proofs.raising.come_after.Tie as tie
 

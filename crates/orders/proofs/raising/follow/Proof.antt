@@ -3,9 +3,9 @@
 use mathlib.Core.Path.{refl}
 use native.Mathlib.Omega.{arith}
 use borrow.Author.Needs.{needs}
-use Rattle.orders.specs.ChoosingLaws.{chose-still, chose, follows-near}
-use Rattle.orders.specs.ServingLaws.{serves-behind}
-use Rattle.orders.specs.LiftingLaws.{ready-leg}
+use Rattle.orders.specs.Lift.ChosenArcsLaws.{chose-still, chose, follows-near}
+use Rattle.orders.specs.Lift.ServingLaws.{serves-behind}
+use Rattle.orders.specs.Lift.LiftingLaws.{ready-leg}
 use Rattle.orders.proofs.raising.follow.Statement.{statement}
 use Rattle.orders.proofs.raising.follow.Tie as tie
 

@@ -2,9 +2,9 @@
 use mathlib.Core.Path.{refl}
 use native.Mathlib.Omega.{arith}
 use borrow.Author.Needs.{needs}
-use Rattle.orders.specs.CostLaws.{cost-most}
-use Rattle.orders.specs.LegTimesLaws.{departs-small, departs-by, arrives-by}
-use Rattle.orders.specs.StoreLaws.{store-late, store-back, store-dear, store}
+use Rattle.orders.specs.Raise.CostLaws.{cost-most}
+use Rattle.orders.specs.Raise.LegTimesLaws.{departs-small, departs-by, arrives-by}
+use Rattle.orders.specs.Raise.StoreLaws.{store-late, store-back, store-dear, store}
 use Rattle.orders.proofs.raising.raise_leg.Statement.{statement}
 use Rattle.orders.proofs.raising.raise_leg.Tie as tie
 

@@ -8,9 +8,9 @@ use mathlib.Core.List.{List}
 use native.Mathlib.Omega.{arith}
 use lib.ListN.{getD}
 use borrow.Author.Needs.{needs}
-use Rattle.orders.specs.Lifting.{Ready}
-use Rattle.orders.specs.RaisedPaths.{LegRaised}
-use Rattle.orders.specs.RaisedPathsLaws.{AlongPath, path-start, path-dead, path-ready, path-few, path-ends, path-still, path-next, left, left-falls}
+use Rattle.orders.specs.Lift.Lifting.{Ready}
+use Rattle.orders.specs.Lift.RaisedPaths.{LegRaised}
+use Rattle.orders.specs.Lift.RaisedPathsLaws.{AlongPath, path-start, path-dead, path-ready, path-few, path-ends, path-still, path-next, left, left-falls}
 use Rattle.orders.proofs.raising.raise_path.Statement.{statement}
 use Rattle.orders.proofs.raising.raise_path.Tie as tie
 

@@ -1,7 +1,7 @@
 -- `orders::tables::last_leg` meets its contract. Assumes nothing.
 use native.Mathlib.Omega.{arith}
-use Rattle.rules.specs.PathsLaws.{legs-few}
-use Rattle.orders.specs.TablesLaws.{last-on}
+use Rattle.rules.specs.StatementLaws.PathsLaws.{legs-few}
+use Rattle.orders.specs.LineTables.TablesLaws.{last-on}
 use borrow.Author.Needs.{needs}
 use Rattle.orders.proofs.tables.last_leg.Statement.{statement}
 use Rattle.orders.proofs.tables.last_leg.Tie as tie

@@ -3,10 +3,10 @@ use Prim.Native.Nat.{_%_, _≤_, _<_}
 use mathlib.Core.Path.{refl, _∙_}
 use native.Mathlib.Omega.{arith}
 use borrow.Author.Needs.{needs}
-use Rattle.rules.specs.Paths.{train}
-use Rattle.rules.specs.PathsLaws.{legs-most}
-use Rattle.orders.specs.LegsLaws.{leg-path}
-use Rattle.orders.specs.TablesLaws.{rest-after, at-last, entry-of, entry-middle, entry-free}
+use Rattle.rules.specs.Statement.Paths.{train}
+use Rattle.rules.specs.StatementLaws.PathsLaws.{legs-most}
+use Rattle.orders.specs.Graph.LegsLaws.{leg-path}
+use Rattle.orders.specs.LineTables.TablesLaws.{rest-after, at-last, entry-of, entry-middle, entry-free}
 use Rattle.orders.proofs.tables.leg_entry.Statement.{statement}
 use Rattle.orders.proofs.tables.leg_entry.Tie as tie
 

@@ -1,5 +1,5 @@
 -- `orders::tables::leg_on` meets its contract, by the train's direction. Assumes nothing.
-use Rattle.orders.specs.TablesLaws.{leg-out, leg-in}
+use Rattle.orders.specs.LineTables.TablesLaws.{leg-out, leg-in}
 use borrow.Author.Needs.{needs}
 use Rattle.orders.proofs.tables.leg_on.Statement.{statement}
 use Rattle.orders.proofs.tables.leg_on.Tie as tie

@@ -1,6 +1,6 @@
 -- `orders::tables::limit_of` meets its contract. Assumes nothing.
 use borrow.Author.Needs.{needs}
-use Rattle.orders.specs.TablesLaws.{limit-some, limit-none}
+use Rattle.orders.specs.LineTables.TablesLaws.{limit-some, limit-none}
 use Rattle.orders.proofs.tables.limit_of.Statement.{statement}
 use Rattle.orders.proofs.tables.limit_of.Tie as tie
 

@@ -1,6 +1,6 @@
 -- `orders::tables::next_leg` meets its contract. Assumes nothing.
 use mathlib.Core.Path.{sym, _∙_}
-use Rattle.orders.specs.TablesLaws.{next-last, next-on}
+use Rattle.orders.specs.LineTables.TablesLaws.{next-last, next-on}
 use borrow.Author.Needs.{needs}
 use Rattle.orders.proofs.tables.next_leg.Statement.{statement}
 use Rattle.orders.proofs.tables.next_leg.Tie as tie

@@ -1,5 +1,5 @@
 -- `orders::tables::no_leg_entry` meets its contract. Assumes nothing.
-use Rattle.orders.specs.TablesLaws.{no-leg-next, no-leg-last, no-leg-other}
+use Rattle.orders.specs.LineTables.TablesLaws.{no-leg-next, no-leg-last, no-leg-other}
 use borrow.Author.Needs.{needs}
 use Rattle.orders.proofs.tables.no_leg_entry.Statement.{statement}
 use Rattle.orders.proofs.tables.no_leg_entry.Tie as tie

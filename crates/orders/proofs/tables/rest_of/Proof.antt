@@ -5,11 +5,11 @@ use mathlib.Core.Path.{_≡_, refl, _∙_, ap}
 use native.Mathlib.Omega.{arith}
 use borrow.Author.Needs.{needs}
 use Rattle.line.specs.declared.Line.{Line}
-use Rattle.rules.specs.Paths as paths
-use Rattle.rules.specs.Paths.{train}
-use Rattle.rules.specs.PathsLaws.{legs-most}
-use Rattle.orders.specs.Tables.{restOf}
-use Rattle.orders.specs.TablesLaws.{rest-most, rest-start, rest-step}
+use Rattle.rules.specs.Statement.Paths as paths
+use Rattle.rules.specs.Statement.Paths.{train}
+use Rattle.rules.specs.StatementLaws.PathsLaws.{legs-most}
+use Rattle.orders.specs.LineTables.Tables.{restOf}
+use Rattle.orders.specs.LineTables.TablesLaws.{rest-most, rest-start, rest-step}
 use Rattle.orders.proofs.tables.rest_of.Statement.{statement}
 use Rattle.orders.proofs.tables.rest_of.Tie as tie
 

@@ -1,6 +1,6 @@
 -- `orders::tables::segment_entry` meets its contract. Assumes nothing.
 use mathlib.Core.Path.{_∙_}
-use Rattle.orders.specs.TablesLaws.{segment-following, segment-opposing, segment-shares}
+use Rattle.orders.specs.LineTables.TablesLaws.{segment-following, segment-opposing, segment-shares}
 use borrow.Author.Needs.{needs}
 use Rattle.orders.proofs.tables.segment_entry.Statement.{statement}
 use Rattle.orders.proofs.tables.segment_entry.Tie as tie

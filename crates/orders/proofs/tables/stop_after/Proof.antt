@@ -2,8 +2,8 @@
 use mathlib.Core.Path.{sym, _∙_}
 use native.Mathlib.Omega.{arith}
 use borrow.Author.Needs.{needs}
-use Rattle.rules.specs.PathsLaws.{legs-most}
-use Rattle.orders.specs.TablesLaws.{stop-last, stop-on}
+use Rattle.rules.specs.StatementLaws.PathsLaws.{legs-most}
+use Rattle.orders.specs.LineTables.TablesLaws.{stop-last, stop-on}
 use Rattle.orders.proofs.tables.stop_after.Statement.{statement}
 use Rattle.orders.proofs.tables.stop_after.Tie as tie
 

@@ -5,10 +5,10 @@ use mathlib.Core.Path.{_∙_}
 use mathlib.Core.Logic.{⊎-elim}
 use native.Mathlib.Omega.{arith}
 use borrow.Author.Needs.{needs}
-use Rattle.orders.specs.Tables.{tableSize, tableEntry}
-use Rattle.orders.specs.FillLaws.{Begun, begun-more}
-use Rattle.orders.specs.LegsLaws.{leg-is, leg-not}
-use Rattle.orders.specs.TablesLaws.{no-leg-is, legs-later, tables-made}
+use Rattle.orders.specs.LineTables.Tables.{tableSize, tableEntry}
+use Rattle.orders.specs.LineTables.FillLaws.{Begun, begun-more}
+use Rattle.orders.specs.Graph.LegsLaws.{leg-is, leg-not}
+use Rattle.orders.specs.LineTables.TablesLaws.{no-leg-is, legs-later, tables-made}
 use Rattle.orders.proofs.tables.tables_of.Statement.{statement}
 use Rattle.orders.proofs.tables.tables_of.Tie as tie
 

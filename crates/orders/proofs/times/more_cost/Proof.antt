@@ -1,7 +1,7 @@
 -- `orders::times::more_cost` meets its contract: only the minutes past the free arrival count.
 use native.Mathlib.Omega.{arith}
 use borrow.Author.Needs.{needs}
-use Rattle.orders.specs.LegTimesLaws.{more-none, more-early, more-is, more-most}
+use Rattle.orders.specs.Raise.LegTimesLaws.{more-none, more-early, more-is, more-most}
 use Rattle.orders.proofs.times.more_cost.Statement.{statement}
 use Rattle.orders.proofs.times.more_cost.Tie as tie
 

@@ -5,8 +5,8 @@ use native.Mathlib.Omega.{arith}
 use borrow.Author.Needs.{needs}
 use lib.ListN.{length, getD, length-set}
 use lib.Seq.{ext-getD}
-use Rattle.text.specs.Below.{EachBelow}
-use Rattle.rules.specs.OrdersLaws.{entries-more}
+use Rattle.finite.specs.Below.{EachBelow}
+use Rattle.rules.specs.Lists.OrdersLaws.{entries-more}
 use Rattle.plans.proofs.choosing.copy_minutes.Statement.{statement}
 use Rattle.plans.proofs.choosing.copy_minutes.Tie as tie
 

@@ -1,6 +1,6 @@
 -- `plans::choosing::fails` meets its contract: the plan costs too much already, or a first look along the legs shows it. Assumes nothing.
 use native.Mathlib.Omega.{arith}
-use Rattle.plans.specs.ChoosingLaws.{segment-asks, station-asks, none-raises, dear-none}
+use Rattle.plans.specs.Contracts.ChoosingLaws.{segment-asks, station-asks, none-raises, dear-none}
 use Rattle.plans.proofs.choosing.fails.Statement.{statement}
 use Rattle.plans.proofs.choosing.fails.Tie as tie
 

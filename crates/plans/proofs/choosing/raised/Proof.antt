@@ -1,6 +1,6 @@
 -- `plans::choosing::raised` meets its contract: the laws of raising, for every line of which what it asks for holds. Assumes nothing.
 use native.Mathlib.Omega.{arith}
-use Rattle.plans.specs.ChoosingLaws.{segment-asks, station-asks, chose-raises, dear-raises}
+use Rattle.plans.specs.Contracts.ChoosingLaws.{segment-asks, station-asks, chose-raises, dear-raises}
 use Rattle.plans.proofs.choosing.raised.Statement.{statement}
 use Rattle.plans.proofs.choosing.raised.Tie as tie
 

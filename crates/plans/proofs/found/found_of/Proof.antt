@@ -1,6 +1,6 @@
 -- `plans::found::found_of` meets its contract: what was found, or nothing. Assumes nothing.
 use borrow.Author.Tests.{not-true, not-false}
-use Rattle.plans.specs.FindingLaws.{found-some, found-none}
+use Rattle.plans.specs.Contracts.FoundBestLaws.{found-some, found-none}
 use Rattle.plans.proofs.found.found_of.Statement.{statement}
 use Rattle.plans.proofs.found.found_of.Tie as tie
 

@@ -3,9 +3,9 @@ use Prim.Native.Nat.{_-_, _≤_}
 use mathlib.Core.Path.{_≡_, refl}
 use native.Mathlib.Omega.{arith}
 use borrow.Author.Needs.{needs}
-use Rattle.plans.specs.Ranking.{aheadFrom}
-use Rattle.plans.specs.Keys.{keyed}
-use Rattle.plans.specs.KeysLaws.{earlier-apart, earlier-alike, earlier-end}
+use Rattle.plans.specs.Theory.Ranking.{aheadFrom}
+use Rattle.plans.specs.Contracts.Keys.{keyed}
+use Rattle.plans.specs.Contracts.KeysLaws.{earlier-apart, earlier-alike, earlier-end}
 use Rattle.plans.proofs.ranking.earlier.Statement.{statement}
 use Rattle.plans.proofs.ranking.earlier.Tie as tie
 

@@ -1,7 +1,7 @@
 -- `plans::ranking::improves` meets its contract, test by test. Assumes nothing.
 use mathlib.Core.Path.{_∙_}
 use borrow.Author.Needs.{needs}
-use Rattle.plans.specs.KeysLaws.{better-nothing, better-delay, better-earlier}
+use Rattle.plans.specs.Contracts.KeysLaws.{better-nothing, better-delay, better-earlier}
 use Rattle.plans.proofs.ranking.improves.Statement.{statement}
 use Rattle.plans.proofs.ranking.improves.Tie as tie
 

@@ -3,8 +3,8 @@ use Prim.Native.Nat.{ℕ, _+_, _*_}
 use mathlib.Core.Path.{_∙_, ap}
 use native.Mathlib.Omega.{arith}
 use borrow.Author.Needs.{needs}
-use Rattle.rules.specs.PathsLaws.{routed-leg}
-use Rattle.plans.specs.KeysLaws.{entry-none, entry-leg}
+use Rattle.rules.specs.StatementLaws.PathsLaws.{routed-leg}
+use Rattle.plans.specs.Contracts.KeysLaws.{entry-none, entry-leg}
 use Rattle.plans.proofs.ranking.key_entry.Statement.{statement}
 use Rattle.plans.proofs.ranking.key_entry.Tie as tie
 

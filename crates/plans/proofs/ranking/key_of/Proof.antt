@@ -4,10 +4,10 @@ use mathlib.Core.Path.{_≡_}
 use native.Mathlib.Omega.{arith}
 use borrow.Author.Needs.{needs}
 use lib.ListN.{length, getD, length-set, length-replicate}
-use Rattle.text.specs.Below.{EachBelow}
-use Rattle.rules.specs.OrdersLaws.{entries-more}
-use Rattle.plans.specs.Keys.{keyEntry}
-use Rattle.plans.specs.KeysLaws.{key-all}
+use Rattle.finite.specs.Below.{EachBelow}
+use Rattle.rules.specs.Lists.OrdersLaws.{entries-more}
+use Rattle.plans.specs.Contracts.Keys.{keyEntry}
+use Rattle.plans.specs.Contracts.KeysLaws.{key-all}
 use Rattle.plans.proofs.ranking.key_of.Statement.{statement}
 use Rattle.plans.proofs.ranking.key_of.Tie as tie
 

@@ -2,7 +2,7 @@
 -- else there is no pair any more. Assumes nothing.
 use native.Mathlib.Omega.{arith}
 use borrow.Author.Needs.{needs}
-use Rattle.plans.specs.WaysToldLaws.{lowest-most, pair-same, pair-next-row, pair-last}
+use Rattle.plans.specs.Contracts.WaysToldLaws.{lowest-most, pair-same, pair-next-row, pair-last}
 use Rattle.plans.proofs.ways.pair_step.Statement.{statement}
 use Rattle.plans.proofs.ways.pair_step.Tie as tie
 

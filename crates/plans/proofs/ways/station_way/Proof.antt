@@ -2,7 +2,7 @@
 -- left out. Assumes nothing.
 use mathlib.Core.Path.{refl, sym, _∙_}
 use borrow.Author.Needs.{needs}
-use Rattle.plans.specs.WaysToldLaws.{tells-pair, tells-none, steps-pair}
+use Rattle.plans.specs.Contracts.WaysToldLaws.{tells-pair, tells-none, steps-pair}
 use Rattle.plans.proofs.ways.station_way.Statement.{statement}
 use Rattle.plans.proofs.ways.station_way.Tie as tie
 

@@ -2,7 +2,7 @@
 use mathlib.Core.Path.{refl, sym, _∙_}
 use borrow.Author.Needs.{needs}
 use borrow.Author.Tests.{not-true, not-false}
-use Rattle.text.specs.Decide.{both-first, both-second}
+use Rattle.finite.specs.DecideLaws.{both-first, both-second}
 use Rattle.plans.proofs.ways.two_of.Statement.{statement}
 use Rattle.plans.proofs.ways.two_of.Tie as tie
 

@@ -1,6 +1,6 @@
 -- `plans::ways::way_of` meets its contract, variant by variant. Assumes nothing.
 use borrow.Author.Needs.{needs}
-use Rattle.plans.specs.WaysToldLaws.{tells-nothing, tells-as, steps-one}
+use Rattle.plans.specs.Contracts.WaysToldLaws.{tells-nothing, tells-as, steps-one}
 use Rattle.plans.proofs.ways.way_of.Statement.{statement}
 use Rattle.plans.proofs.ways.way_of.Tie as tie
 

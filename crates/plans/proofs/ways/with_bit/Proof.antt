@@ -1,6 +1,6 @@
 -- `plans::ways::with_bit` meets its contract. Assumes nothing.
 use borrow.Author.Needs.{needs}
-use Rattle.plans.specs.WaysToldLaws.{bit-put}
+use Rattle.plans.specs.Contracts.WaysToldLaws.{bit-put}
 use Rattle.plans.proofs.ways.with_bit.Statement.{statement}
 use Rattle.plans.proofs.ways.with_bit.Tie as tie
 

@@ -3,8 +3,8 @@ use mathlib.Core.Path.{refl}
 use borrow.Author.Needs.{needs}
 use denote.Enum.Declared.{tagOf}
 use denote.Ref.{now}
-use Rattle.rules.specs.ConflictsLaws.{conflict-stays}
-use Rattle.rules.specs.StationLaws.{lowest-segment, lowest-station}
+use Rattle.rules.specs.Conflict.ConflictsLaws.{conflict-stays}
+use Rattle.rules.specs.Scan.StationLaws.{lowest-segment, lowest-station}
 use Rattle.rules.proofs.conflicts.Conflict.{the-type}
 use Rattle.rules.proofs.conflicts.lowest_conflict.Statement.{statement}
 use Rattle.rules.proofs.conflicts.lowest_conflict.Tie as tie

@@ -4,7 +4,7 @@ use mathlib.Core.Path.{refl, sym, _∙_}
 use native.Mathlib.Omega.{arith}
 use borrow.Author.Needs.{needs}
 use denote.Enum.Declared.{tagOf}
-use Rattle.rules.specs.ConflictsLaws.{conflict-stays, NoSegment, segment-start, segment-on, segment-found, segment-none}
+use Rattle.rules.specs.Conflict.ConflictsLaws.{conflict-stays, NoSegment, segment-start, segment-on, segment-found, segment-none}
 use Rattle.rules.proofs.conflicts.Conflict.{the-type}
 use Rattle.rules.proofs.conflicts.segment_conflict.Statement.{statement}
 use Rattle.rules.proofs.conflicts.segment_conflict.Tie as tie

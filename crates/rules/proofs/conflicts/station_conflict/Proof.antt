@@ -4,8 +4,8 @@ use mathlib.Core.Path.{refl}
 use native.Mathlib.Omega.{arith}
 use borrow.Author.Needs.{needs}
 use denote.Enum.Declared.{tagOf}
-use Rattle.rules.specs.ConflictsLaws.{conflict-stays}
-use Rattle.rules.specs.StationLaws.{NoCrowd, station-start, station-on, station-found, station-none}
+use Rattle.rules.specs.Conflict.ConflictsLaws.{conflict-stays}
+use Rattle.rules.specs.Scan.StationLaws.{NoCrowd, station-start, station-on, station-found, station-none}
 use Rattle.rules.proofs.conflicts.Conflict.{the-type}
 use Rattle.rules.proofs.conflicts.station_conflict.Statement.{statement}
 use Rattle.rules.proofs.conflicts.station_conflict.Tie as tie

@@ -5,10 +5,10 @@ use mathlib.Core.Path.{_≡_, refl, sym, _∙_, ap}
 use native.Mathlib.Omega.{arith}
 use borrow.Author.Needs.{needs}
 use Rattle.line.specs.declared.Line.{Line}
-use Rattle.rules.specs.Paths.{train}
-use Rattle.rules.specs.PathsLaws.{legs-most}
-use Rattle.rules.specs.Delay.{freeAfter}
-use Rattle.rules.specs.RulesLaws.{free-start, free-next, free-step, free-most}
+use Rattle.rules.specs.Statement.Paths.{train}
+use Rattle.rules.specs.StatementLaws.PathsLaws.{legs-most}
+use Rattle.rules.specs.Statement.Delay.{freeAfter}
+use Rattle.rules.specs.Check.RulesLaws.{free-start, free-next, free-step, free-most}
 use Rattle.rules.proofs.delay.free_after.Statement.{statement}
 use Rattle.rules.proofs.delay.free_after.Tie as tie
 

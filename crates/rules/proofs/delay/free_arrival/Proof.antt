@@ -4,9 +4,9 @@ use mathlib.Core.Path.{_≡_, sym, _∙_, ap}
 use native.Mathlib.Omega.{arith}
 use borrow.Author.Needs.{needs}
 use lib.ListN.{length, length-map}
-use Rattle.rules.specs.Paths.{legs}
-use Rattle.rules.specs.PathsLaws.{routed, legs-few}
-use Rattle.rules.specs.Delay.{freeAfter}
+use Rattle.rules.specs.Statement.Paths.{legs}
+use Rattle.rules.specs.StatementLaws.PathsLaws.{routed, legs-few}
+use Rattle.rules.specs.Statement.Delay.{freeAfter}
 use Rattle.rules.proofs.delay.free_arrival.Statement.{statement}
 use Rattle.rules.proofs.delay.free_arrival.Tie as tie
 

@@ -8,11 +8,11 @@ use native.Mathlib.Omega.{arith}
 use denote.Ref.{now}
 use borrow.Author.Needs.{needs}
 use lib.ListN.{length, length-map}
-use Rattle.text.specs.Below.{sum}
+use Rattle.finite.specs.Below.{sum}
 use Rattle.line.specs.Within.{TrainWithin}
-use Rattle.rules.specs.Paths.{train, Routed}
-use Rattle.rules.specs.PathsLaws.{train-within, routed-within, legs-few}
-use Rattle.rules.specs.RulesLaws.{sum-next, cost, cost-start, cost-late, cost-none, cost-end}
+use Rattle.rules.specs.Statement.Paths.{train, Routed}
+use Rattle.rules.specs.StatementLaws.PathsLaws.{train-within, routed-within, legs-few}
+use Rattle.rules.specs.Check.RulesLaws.{sum-next, cost, cost-start, cost-late, cost-none, cost-end}
 use Rattle.rules.proofs.delay.weighted_delay.Statement.{statement}
 use Rattle.rules.proofs.delay.weighted_delay.Tie as tie
 

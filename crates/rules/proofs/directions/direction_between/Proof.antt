@@ -1,7 +1,7 @@
 -- `rules::directions::direction_between` meets its contract: at each way out the tests so far tell whether segment p is between the two stations.
 use native.Mathlib.Omega.{arith}
 use borrow.Author.Needs.{needs}
-use Rattle.rules.specs.DirectionsLaws.{between-off, between-out, between-in}
+use Rattle.rules.specs.Conflict.DirectionsLaws.{between-off, between-out, between-in}
 use Rattle.rules.proofs.directions.direction_between.Statement.{statement}
 use Rattle.rules.proofs.directions.direction_between.Tie as tie
 

@@ -4,7 +4,7 @@ use Prim.Native.Nat.{_+_, _-_, _*_, _≤_}
 use mathlib.Core.Path.{sym, _∙_}
 use native.Mathlib.Omega.{arith}
 use borrow.Author.Needs.{needs}
-use Rattle.rules.specs.DirectionsLaws.{Filled, entry-is, filled-none, filled-at, filled-more, filled-all}
+use Rattle.rules.specs.Conflict.DirectionsLaws.{Filled, entry-is, filled-none, filled-at, filled-more, filled-all}
 use Rattle.rules.proofs.directions.directions_of.Statement.{statement}
 use Rattle.rules.proofs.directions.directions_of.Tie as tie
 

@@ -1,8 +1,8 @@
 -- `rules::passages::behind` meets its contract: each room tells by its highest bit whether its gap is short, and one of them has it where one is.
 use native.Mathlib.Omega.{arith}
 use borrow.Author.Needs.{needs}
-use Rattle.rules.specs.Scanning.{keepsBehind}
-use Rattle.rules.specs.BitsLaws.{room-denies, either-denies}
+use Rattle.rules.specs.Scan.Scanning.{keepsBehind}
+use Rattle.rules.specs.Scan.SignBitLaws.{room-denies, either-denies}
 use Rattle.rules.proofs.passages.behind.Statement.{statement}
 use Rattle.rules.proofs.passages.behind.Tie as tie
 

@@ -1,5 +1,5 @@
 -- `rules::passages::both_deny` meets its contract, by one law of the highest bit.
-use Rattle.rules.specs.BitsLaws.{both-denied}
+use Rattle.rules.specs.Scan.SignBitLaws.{both-denied}
 use Rattle.rules.proofs.passages.both_deny.Statement.{statement}
 use Rattle.rules.proofs.passages.both_deny.Tie as tie
 

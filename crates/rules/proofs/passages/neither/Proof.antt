@@ -6,8 +6,8 @@ use mathlib.Core.Logic.{⊎-elim}
 use mathlib.Core.Bool.{true, false}
 use borrow.Author.Needs.{needs}
 use Rattle.line.specs.declared.Kind.{Kind}
-use Rattle.rules.specs.Scanning.{neitherAlone}
-use Rattle.rules.specs.ConflictsLaws.{neither-by}
+use Rattle.rules.specs.Scan.Scanning.{neitherAlone}
+use Rattle.rules.specs.Conflict.ConflictsLaws.{neither-by}
 use Rattle.rules.proofs.passages.neither.Statement.{statement}
 use Rattle.rules.proofs.passages.neither.Tie as tie
 

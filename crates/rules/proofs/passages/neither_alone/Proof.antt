@@ -1,8 +1,8 @@
 -- `rules::passages::neither_alone` meets its contract: each room tells by its highest bit whether its order fails, and both have it where both fail.
 use native.Mathlib.Omega.{arith}
 use borrow.Author.Needs.{needs}
-use Rattle.rules.specs.Scanning.{neitherAlone}
-use Rattle.rules.specs.BitsLaws.{room-denies}
+use Rattle.rules.specs.Scan.Scanning.{neitherAlone}
+use Rattle.rules.specs.Scan.SignBitLaws.{room-denies}
 use Rattle.rules.proofs.passages.neither_alone.Statement.{statement}
 use Rattle.rules.proofs.passages.neither_alone.Tie as tie
 

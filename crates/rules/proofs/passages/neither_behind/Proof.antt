@@ -1,7 +1,7 @@
 -- `rules::passages::neither_behind` meets its contract: each answer of `behind` tells by its highest bit whether its order fails, and both have it where
 -- both fail.
 use borrow.Author.Needs.{needs}
-use Rattle.rules.specs.Scanning.{neitherBehind}
+use Rattle.rules.specs.Scan.Scanning.{neitherBehind}
 use Rattle.rules.proofs.passages.neither_behind.Statement.{statement}
 use Rattle.rules.proofs.passages.neither_behind.Tie as tie
 

@@ -3,7 +3,7 @@ use Prim.Native.Nat.{_-_, _≤_}
 use mathlib.Core.Path.{sym, _∙_}
 use native.Mathlib.Omega.{arith}
 use borrow.Author.Needs.{needs}
-use Rattle.rules.specs.ConflictsLaws.{conflict-start, NoPair, pair-on, pair-found, pair-none}
+use Rattle.rules.specs.Conflict.ConflictsLaws.{conflict-start, NoPair, pair-on, pair-found, pair-none}
 use Rattle.rules.proofs.passages.pair_on.Statement.{statement}
 use Rattle.rules.proofs.passages.pair_on.Tie as tie
 

@@ -7,9 +7,9 @@ use mathlib.Core.Bool.{false}
 use native.Mathlib.Omega.{arith}
 use borrow.Author.Needs.{needs}
 use borrow.Author.Count.{below-more}
-use Rattle.text.specs.Below.{EachBelow}
-use Rattle.rules.specs.Conflicts.{clash}
-use Rattle.rules.specs.ConflictsLaws.{clash-below, clash-off, clash-other-off, clash-here, clash-not, partner-found, partner-none}
+use Rattle.finite.specs.Below.{EachBelow}
+use Rattle.rules.specs.Conflict.Conflicts.{clash}
+use Rattle.rules.specs.Conflict.ConflictsLaws.{clash-below, clash-off, clash-other-off, clash-here, clash-not, partner-found, partner-none}
 use Rattle.rules.proofs.passages.partner.Statement.{statement}
 use Rattle.rules.proofs.passages.partner.Tie as tie
 

@@ -3,7 +3,7 @@ use Prim.Native.Nat.{ℕ}
 use mathlib.Core.Path.{_∙_, ap}
 use denote.Ref.{now}
 use borrow.Author.Needs.{needs}
-use Rattle.rules.specs.Minutes.{arrivesOn}
+use Rattle.rules.specs.Statement.Minutes.{arrivesOn}
 use Rattle.rules.proofs.rules.arrival_of.Statement.{statement}
 use Rattle.rules.proofs.rules.arrival_of.Tie as tie
 

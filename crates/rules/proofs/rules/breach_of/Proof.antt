@@ -3,10 +3,10 @@
 use mathlib.Core.Path.{_∙_, ap}
 use denote.Ref.{now}
 use borrow.Author.Needs.{needs}
-use Rattle.rules.specs.Breaches.{conflictBreach, breachOf}
-use Rattle.rules.specs.ConflictsLaws.{conflict-told}
-use Rattle.rules.specs.StationLaws.{directions-size}
-use Rattle.rules.specs.BreachesLaws.{breach-first, breach-later, place-fits}
+use Rattle.rules.specs.Check.Breaches.{conflictBreach, breachOf}
+use Rattle.rules.specs.Conflict.ConflictsLaws.{conflict-told}
+use Rattle.rules.specs.Scan.StationLaws.{directions-size}
+use Rattle.rules.specs.Check.BreachesLaws.{breach-first, breach-later, place-fits}
 use Rattle.rules.proofs.rules.breach_of.Statement.{statement}
 use Rattle.rules.proofs.rules.breach_of.Tie as tie
 

@@ -2,7 +2,7 @@
 use mathlib.Core.Path.{sym, ap}
 use native.Mathlib.Omega.{arith}
 use borrow.Author.Needs.{needs}
-use Rattle.rules.specs.Breaches.{placeOf, conflictBreach}
+use Rattle.rules.specs.Check.Breaches.{placeOf, conflictBreach}
 use Rattle.rules.proofs.rules.conflict_breach.Statement.{statement}
 use Rattle.rules.proofs.rules.conflict_breach.Tie as tie
 

@@ -3,7 +3,7 @@ use Prim.Native.Nat.{ℕ}
 use mathlib.Core.Path.{_∙_, ap}
 use denote.Ref.{now}
 use borrow.Author.Needs.{needs}
-use Rattle.rules.specs.Minutes.{departsOn}
+use Rattle.rules.specs.Statement.Minutes.{departsOn}
 use Rattle.rules.proofs.rules.departure_of.Statement.{statement}
 use Rattle.rules.proofs.rules.departure_of.Tie as tie
 

@@ -1,7 +1,7 @@
 -- `rules::rules::keeps_rule` meets its contract: each branch is the test of its rule, and a number of none is kept. Assumes nothing.
 use denote.Ref.{now}
 use borrow.Author.Needs.{needs}
-use Rattle.rules.specs.RulesLaws.{keeps-start, keeps-runs, keeps-stops, keeps-end, keeps-other}
+use Rattle.rules.specs.Check.RulesLaws.{keeps-start, keeps-runs, keeps-stops, keeps-end, keeps-other}
 use Rattle.rules.proofs.rules.keeps_rule.Statement.{statement}
 use Rattle.rules.proofs.rules.keeps_rule.Tie as tie
 

@@ -1,7 +1,7 @@
 -- `rules::rules::segment_between` meets its contract: the two cases of the specification, whose differences are not cut off. Assumes nothing.
 use native.Mathlib.Omega.{arith}
 use borrow.Author.Needs.{needs}
-use Rattle.rules.specs.PathsLaws.{segment-out, segment-in}
+use Rattle.rules.specs.StatementLaws.PathsLaws.{segment-out, segment-in}
 use Rattle.rules.proofs.rules.segment_between.Statement.{statement}
 use Rattle.rules.proofs.rules.segment_between.Tie as tie
 

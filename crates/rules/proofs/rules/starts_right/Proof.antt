@@ -3,9 +3,9 @@ use mathlib.Core.Path.{_≡_, sym, _∙_}
 use native.Mathlib.Omega.{arith}
 use borrow.Author.Needs.{needs}
 use lib.ListN.{length, length-map}
-use Rattle.rules.specs.Paths.{train, Routed}
-use Rattle.rules.specs.PathsLaws.{routed, legs-few}
-use Rattle.rules.specs.RulesLaws.{starts-is}
+use Rattle.rules.specs.Statement.Paths.{train, Routed}
+use Rattle.rules.specs.StatementLaws.PathsLaws.{routed, legs-few}
+use Rattle.rules.specs.Check.RulesLaws.{starts-is}
 use Rattle.rules.proofs.rules.starts_right.Statement.{statement}
 use Rattle.rules.proofs.rules.starts_right.Tie as tie
 

@@ -7,11 +7,11 @@ use denote.Ref.{now}
 use borrow.Author.Needs.{needs}
 use borrow.Author.Count.{below-more}
 use lib.ListN.{length, length-map}
-use Rattle.text.specs.Decide.{is-true, is-false}
-use Rattle.text.specs.Below.{EachBelow}
-use Rattle.rules.specs.Paths.{train, Routed}
-use Rattle.rules.specs.PathsLaws.{routed, legs-few}
-use Rattle.rules.specs.RulesLaws.{StopAt, decides-stops}
+use Rattle.finite.specs.DecideLaws.{is-true, is-false}
+use Rattle.finite.specs.Below.{EachBelow}
+use Rattle.rules.specs.Statement.Paths.{train, Routed}
+use Rattle.rules.specs.StatementLaws.PathsLaws.{routed, legs-few}
+use Rattle.rules.specs.Check.RulesLaws.{StopAt, decides-stops}
 use Rattle.rules.proofs.rules.stops_right.Statement.{statement}
 use Rattle.rules.proofs.rules.stops_right.Tie as tie
 

@@ -6,8 +6,8 @@ use denote.Ref.{now}
 use borrow.Author.Needs.{needs}
 use borrow.Author.Count.{below-none, below-more}
 use borrow.Author.Tests.{not-true, not-false}
-use Rattle.text.specs.Below.{EachBelow}
-use Rattle.rules.specs.BreachesLaws.{RuleKept, breach-at, breach-none}
+use Rattle.finite.specs.Below.{EachBelow}
+use Rattle.rules.specs.Check.BreachesLaws.{RuleKept, breach-at, breach-none}
 use Rattle.rules.proofs.rules.train_breach.Statement.{statement}
 use Rattle.rules.proofs.rules.train_breach.Tie as tie
 

@@ -6,9 +6,10 @@ use mathlib.Core.Logic.{⊎-elim}
 use native.Mathlib.Omega.{arith}
 use borrow.Author.Needs.{needs}
 use denote.Ref.{now}
-use Rattle.text.specs.Below.{count as countOf, count-none, count-in, count-out, count-most}
-use Rattle.rules.specs.Conflicts.{standsAt, crowdMask}
-use Rattle.rules.specs.StationLaws.{stands-here, mask-start, mask-in, mask-full, mask-out, bit-next, bit-small}
+use Rattle.finite.specs.Below.{count as countOf}
+use Rattle.finite.specs.LoopLaws.{count-none, count-in, count-out, count-most}
+use Rattle.rules.specs.Conflict.Conflicts.{standsAt, crowdMask}
+use Rattle.rules.specs.Scan.StationLaws.{stands-here, mask-start, mask-in, mask-full, mask-out, bit-next, bit-small}
 use Rattle.rules.proofs.stations.crowd_mask.Statement.{statement}
 use Rattle.rules.proofs.stations.crowd_mask.Tie as tie
 

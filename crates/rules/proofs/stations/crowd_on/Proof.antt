@@ -1,6 +1,6 @@
 -- `rules::stations::crowd_on` meets its contract: each way out by the law of that answer. Assumes nothing.
 use mathlib.Core.Path.{sym, _∙_}
-use Rattle.rules.specs.StationLaws.{crowd-never, crowd-minute}
+use Rattle.rules.specs.Scan.StationLaws.{crowd-never, crowd-minute}
 use borrow.Author.Needs.{needs}
 use Rattle.rules.proofs.stations.crowd_on.Statement.{statement}
 use Rattle.rules.proofs.stations.crowd_on.Tie as tie

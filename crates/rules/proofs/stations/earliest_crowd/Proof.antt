@@ -6,11 +6,11 @@ use mathlib.Core.Logic.{⊎-elim}
 use native.Mathlib.Omega.{arith}
 use borrow.Author.Needs.{needs}
 use denote.Ref.{now}
-use Rattle.text.specs.Below.{count as countOf}
-use Rattle.rules.specs.Conflicts.{standingAt}
-use Rattle.rules.specs.Scanning.{standsBy}
-use Rattle.rules.specs.StationLaws.{Earliest, earliest-start, earliest-on, earliest-sooner, earliest-minute, earliest-never}
-use Rattle.rules.specs.ScanningLaws.{standing-of}
+use Rattle.finite.specs.Below.{count as countOf}
+use Rattle.rules.specs.Conflict.Conflicts.{standingAt}
+use Rattle.rules.specs.Scan.Scanning.{standsBy}
+use Rattle.rules.specs.Scan.StationLaws.{Earliest, earliest-start, earliest-on, earliest-sooner, earliest-minute, earliest-never}
+use Rattle.rules.specs.Scan.ScanningLaws.{standing-of}
 use Rattle.rules.proofs.stations.earliest_crowd.Statement.{statement}
 use Rattle.rules.proofs.stations.earliest_crowd.Tie as tie
 

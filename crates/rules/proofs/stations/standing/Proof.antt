@@ -5,9 +5,10 @@ use mathlib.Core.Logic.{⊎-elim}
 use native.Mathlib.Omega.{arith}
 use borrow.Author.Needs.{needs}
 use denote.Ref.{now}
-use Rattle.text.specs.Below.{count as countOf, count-none, count-in, count-out, count-most}
-use Rattle.rules.specs.Scanning.{standsBy}
-use Rattle.rules.specs.ScanningLaws.{stands-both, stands-not}
+use Rattle.finite.specs.Below.{count as countOf}
+use Rattle.finite.specs.LoopLaws.{count-none, count-in, count-out, count-most}
+use Rattle.rules.specs.Scan.Scanning.{standsBy}
+use Rattle.rules.specs.Scan.ScanningLaws.{stands-both, stands-not}
 use Rattle.rules.proofs.stations.standing.Statement.{statement}
 use Rattle.rules.proofs.stations.standing.Tie as tie
 

@@ -1,7 +1,7 @@
 -- `rules::stations::stands` meets its contract: each way out by the law of that case. Assumes nothing.
 use mathlib.Core.Path.{refl}
 use native.Mathlib.Omega.{arith}
-use Rattle.rules.specs.StationLaws.{stands-last, stands-early, stands-elsewhere}
+use Rattle.rules.specs.Scan.StationLaws.{stands-last, stands-early, stands-elsewhere}
 use Rattle.rules.proofs.stations.stands.Statement.{statement}
 use Rattle.rules.proofs.stations.stands.Tie as tie
 

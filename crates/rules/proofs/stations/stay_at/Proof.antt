@@ -7,9 +7,9 @@ use native.Mathlib.Omega.{arith}
 use borrow.Author.Tests.{eq-eqb, ne-eqb}
 use lib.Dec.{eqb}
 use denote.Ref.{now}
-use Rattle.text.specs.Decide.{both-first, both-second}
-use Rattle.rules.specs.Directions.{on}
-use Rattle.rules.specs.StationLaws.{stay-outbound, stay-inbound}
+use Rattle.finite.specs.DecideLaws.{both-first, both-second}
+use Rattle.rules.specs.Conflict.Directions.{on}
+use Rattle.rules.specs.Scan.StationLaws.{stay-outbound, stay-inbound}
 use borrow.Author.Needs.{needs}
 use Rattle.rules.proofs.stations.stay_at.Statement.{statement}
 use Rattle.rules.proofs.stations.stay_at.Tie as tie

@@ -6,8 +6,8 @@ use mathlib.Core.Logic.{⊎-elim}
 use native.Mathlib.Omega.{arith}
 use borrow.Author.Needs.{needs}
 use denote.Ref.{now}
-use Rattle.rules.specs.Scanning.{StaysOf}
-use Rattle.rules.specs.ScanningLaws.{stays-start, stays-in, stays-out}
+use Rattle.rules.specs.Scan.Scanning.{StaysOf}
+use Rattle.rules.specs.Scan.ScanningLaws.{stays-start, stays-in, stays-out}
 use Rattle.rules.proofs.stations.stays_at.Statement.{statement}
 use Rattle.rules.proofs.stations.stays_at.Tie as tie
 

@@ -1,7 +1,7 @@
 -- `solver::ahead::choose_conflict` meets its contract: what the scan selects is one to settle, and so is what looking ahead finds where that has ways out.
 -- Assumes nothing.
 use borrow.Author.Needs.{needs}
-use Rattle.solver.specs.AheadLaws.{look-from, look-select, look-after, finds-chosen, chosen-after}
+use Rattle.solver.specs.Lookahead.AheadLaws.{look-from, look-select, look-after, finds-chosen, chosen-after}
 use Rattle.solver.proofs.ahead.choose_conflict.Statement.{statement}
 use Rattle.solver.proofs.ahead.choose_conflict.Tie as tie
 

@@ -1,7 +1,7 @@
 -- `solver::ahead::chosen_prices` meets its contract: prices with all forced choices promise it, and a way that is dead within the cut of the best so far
 -- holds nothing better. Assumes nothing.
 use borrow.Author.Needs.{needs}
-use Rattle.solver.specs.AheadLaws.{try-price, prices-better}
+use Rattle.solver.specs.Lookahead.AheadLaws.{try-price, prices-better}
 use Rattle.solver.proofs.ahead.chosen_prices.Statement.{statement}
 use Rattle.solver.proofs.ahead.chosen_prices.Tie as tie
 

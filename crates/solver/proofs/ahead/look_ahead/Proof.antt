@@ -4,9 +4,9 @@ use mathlib.Core.Path.{_≡_, refl, sym, _∙_, subst}
 use denote.Ref.{now}
 use borrow.Author.Needs.{needs}
 use lib.ListN.{length, length-set}
-use Rattle.solver.specs.Selecting.{KnownReal, FindsReal}
-use Rattle.solver.specs.SelectingLaws.{finds-then}
-use Rattle.solver.specs.AheadLaws.{look-select, look-after, finds-from}
+use Rattle.solver.specs.Selection.Selecting.{KnownReal, FindsReal}
+use Rattle.solver.specs.Selection.SelectingLaws.{finds-then}
+use Rattle.solver.specs.Lookahead.AheadLaws.{look-select, look-after, finds-from}
 use Rattle.solver.proofs.ahead.look_ahead.Statement.{statement}
 use Rattle.solver.proofs.ahead.look_ahead.Tie as tie
 

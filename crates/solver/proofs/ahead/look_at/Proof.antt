@@ -2,8 +2,8 @@
 -- its ways are priced it has some. Assumes nothing.
 use native.Mathlib.Omega.{arith}
 use borrow.Author.Needs.{needs}
-use Rattle.plans.specs.TryingLaws.{count-most}
-use Rattle.solver.specs.AheadLaws.{look-select, look-after, look-try}
+use Rattle.plans.specs.Contracts.TryingLaws.{count-most}
+use Rattle.solver.specs.Lookahead.AheadLaws.{look-select, look-after, look-try}
 use Rattle.solver.proofs.ahead.look_at.Statement.{statement}
 use Rattle.solver.proofs.ahead.look_at.Tie as tie
 

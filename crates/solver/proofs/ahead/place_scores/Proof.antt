@@ -3,7 +3,7 @@
 use Prim.Native.Nat.{_-_}
 use mathlib.Core.Path.{_≡_, _∙_}
 use borrow.Author.Needs.{needs}
-use Rattle.solver.specs.SelectingLaws.{can-select-after}
+use Rattle.solver.specs.Selection.SelectingLaws.{can-select-after}
 use Rattle.solver.proofs.ahead.place_scores.Statement.{statement}
 use Rattle.solver.proofs.ahead.place_scores.Tie as tie
 

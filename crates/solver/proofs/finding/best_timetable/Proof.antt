@@ -6,14 +6,14 @@ use native.Mathlib.Omega.{arith}
 use borrow.Author.Needs.{needs}
 use borrow.Author.Tests.{not-true, not-false}
 use lib.ListN.{replicate}
-use Rattle.orders.specs.Least.{IsLeast}
-use Rattle.orders.specs.Marks.{free}
-use Rattle.orders.specs.Plans.{Keeps}
+use Rattle.orders.specs.LeastMinutes.Least.{IsLeast}
+use Rattle.orders.specs.Plan.Marks.{free}
+use Rattle.orders.specs.Plan.Plans.{Keeps}
 use Rattle.plans.specs.declared.found.Found.{Found}
-use Rattle.plans.specs.Finding.{Finds}
-use Rattle.plans.specs.FirstLaws.{first-given, first-under}
-use Rattle.solver.specs.Finding.{First}
-use Rattle.solver.specs.FindingLaws.{finds-searched, finds-nothing}
+use Rattle.plans.specs.Contracts.FoundBest.{Finds}
+use Rattle.plans.specs.Contracts.FirstLaws.{first-given, first-under}
+use Rattle.solver.specs.Search.Finding.{FirstHeld}
+use Rattle.solver.specs.Search.FindingLaws.{finds-searched, finds-nothing}
 use Rattle.solver.proofs.finding.best_timetable.Statement.{statement}
 use Rattle.solver.proofs.finding.best_timetable.Tie as tie
 
@@ -54,7 +54,7 @@ least : (c : tie.After-key) →
 least c = firstly c .first-minutes .ensures .least (not-false _ (laid c .before .before .before .before .before .if1 .left))
 
 first : (c : tie.After-key) →
-    First (firstly c .before .args .line) (firstly c .first-minutes .result .minutes) (replicate 352 0)
+    FirstHeld (firstly c .before .args .line) (firstly c .first-minutes .result .minutes) (replicate 352 0)
     (laid c .before .before .before .tables-of .result) (laid c .before .before .directions-of .result) (laid c .before .key-of .result)
     (laid c .layout-of .result) (firstly c .first-minutes .result .cost) (record { found = false; delay = 0; steps = 0 })
 first c =

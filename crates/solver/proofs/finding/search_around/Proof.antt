@@ -3,8 +3,8 @@
 use borrow.Author.Needs.{needs}
 use lib.ListN.{length-replicate}
 use Prim.Native.Nat.{ℕ}
-use Rattle.orders.specs.Marks.{free}
-use Rattle.solver.specs.FindingLaws.{afresh-cut, first-searchable, near-held, improved-none, improved-sought}
+use Rattle.orders.specs.Plan.Marks.{free}
+use Rattle.solver.specs.Search.FindingLaws.{afresh-cut, first-searchable, near-held, improved-none, improved-sought}
 use Rattle.solver.proofs.finding.search_around.Statement.{statement}
 use Rattle.solver.proofs.finding.search_around.Tie as tie
 

@@ -2,13 +2,13 @@
 use Prim.Native.Nat.{_-_}
 use native.Mathlib.Omega.{arith}
 use borrow.Author.Needs.{needs}
-use Rattle.solver.specs.Finding.{Improves}
-use Rattle.solver.specs.FindingLaws.{improves-same, improves-then, find-after}
+use Rattle.solver.specs.Search.Finding.{MayImprove}
+use Rattle.solver.specs.Search.FindingLaws.{improves-same, improves-then, find-after}
 use Rattle.solver.proofs.finding.search_near.Statement.{statement}
 use Rattle.solver.proofs.finding.search_near.Tie as tie
 
 abbrev Inv-loop : tie.InvT-loop
-Inv-loop m best₀ t ds key layout cost number end b₀ k₀ best b k = Improves m best₀ t ds key layout cost b₀ best b
+Inv-loop m best₀ t ds key layout cost number end b₀ k₀ best b k = MayImprove m best₀ t ds key layout cost b₀ best b
 
 abbrev μ-loop : tie.MeasureT-loop
 μ-loop m best₀ t ds key layout cost number end b₀ k₀ best b k = end - k

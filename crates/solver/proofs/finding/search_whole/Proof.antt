@@ -5,8 +5,8 @@ use mathlib.Core.List.{List}
 use denote.Ref.{now}
 use borrow.Author.Needs.{needs}
 use Rattle.plans.specs.declared.tally.Tally.{Tally}
-use Rattle.solver.specs.Finding.{Improves}
-use Rattle.solver.specs.FindingLaws.{searches-improves, searches-below, find-after, improves-then, searches-then}
+use Rattle.solver.specs.Search.Finding.{MayImprove}
+use Rattle.solver.specs.Search.FindingLaws.{searches-improves, searches-below, find-after, improves-then, searches-then}
 use Rattle.solver.proofs.finding.search_whole.Statement.{statement}
 use Rattle.solver.proofs.finding.search_whole.Tie as tie
 
@@ -38,7 +38,7 @@ third c = c .before .before .before .before
 
 abbrev Held : tie.Start → List ℕ → Tally → Type 0
 Held a best r =
-    Improves (now (a .args .m)) (now (a .args .best)) (now (a .args .t)) (now (a .args .ds)) (now (a .args .key)) (a .args .layout) (a .args .cost) (a .args .tally) best r
+    MayImprove (now (a .args .m)) (now (a .args .best)) (now (a .args .t)) (now (a .args .ds)) (now (a .args .key)) (a .args .layout) (a .args .cost) (a .args .tally) best r
 
 first-held : (c : tie.After-search-within) → Held (begun c) (c .search-within .last .1 .0) (c .search-within .result)
 first-held c = searches-improves _ _ _ _ _ _ _ _ _ _ _ (c .search-within .ensures)

@@ -1,7 +1,7 @@
 -- `solver::finding::search_within` meets its contract: it takes up the plan without choices. Assumes nothing.
 use borrow.Author.Needs.{needs}
-use Rattle.orders.specs.Marks.{free}
-use Rattle.solver.specs.FindingLaws.{afresh-held, searched-sought}
+use Rattle.orders.specs.Plan.Marks.{free}
+use Rattle.solver.specs.Search.FindingLaws.{afresh-held, searched-sought}
 use Rattle.solver.proofs.finding.search_within.Statement.{statement}
 use Rattle.solver.proofs.finding.search_within.Tie as tie
 

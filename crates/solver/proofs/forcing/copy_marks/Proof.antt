@@ -5,8 +5,8 @@ use native.Mathlib.Omega.{arith}
 use borrow.Author.Needs.{needs}
 use lib.ListN.{length, getD, length-set}
 use lib.Seq.{ext-getD}
-use Rattle.text.specs.Below.{EachBelow}
-use Rattle.rules.specs.OrdersLaws.{entries-more}
+use Rattle.finite.specs.Below.{EachBelow}
+use Rattle.rules.specs.Lists.OrdersLaws.{entries-more}
 use Rattle.solver.proofs.forcing.copy_marks.Statement.{statement}
 use Rattle.solver.proofs.forcing.copy_marks.Tie as tie
 

@@ -7,24 +7,24 @@ use borrow.Author.Needs.{needs}
 use lib.ListN.{length, length-replicate}
 use Prim.Native.Nat.{ℕ}
 use Rattle.line.specs.declared.Line.{Line}
-use Rattle.orders.specs.Choices.{Choice}
-use Rattle.orders.specs.Marks.{Plan, also}
-use Rattle.plans.specs.Planning.{planning}
-use Rattle.plans.specs.Search.{Narrows}
-use Rattle.plans.specs.Tallies.{bestOf}
-use Rattle.plans.specs.Choosing.{IsWay}
-use Rattle.plans.specs.GivenLaws.{key-long}
-use Rattle.solver.specs.PricingLaws.{planned-after}
-use Rattle.solver.specs.Searching.{Held}
-use Rattle.solver.specs.SearchingLaws.{cut-few}
-use Rattle.solver.specs.Forcing.{Followed}
-use Rattle.solver.specs.ForcingLaws.{can-settle, followed-first, followed-alive, followed-none, followed-worse, followed-dead, followed-more}
+use Rattle.orders.specs.Plan.Choices.{Choice}
+use Rattle.orders.specs.Plan.Marks.{Plan, also}
+use Rattle.plans.specs.Instance.Planning.{planning}
+use Rattle.plans.specs.Theory.Search.{Narrows}
+use Rattle.plans.specs.Contracts.Tallies.{bestOf}
+use Rattle.plans.specs.Contracts.Choosing.{IsWay}
+use Rattle.plans.specs.Contracts.GivenLaws.{key-long}
+use Rattle.solver.specs.Selection.PricingLaws.{planned-after}
+use Rattle.solver.specs.Search.Searching.{Held}
+use Rattle.solver.specs.Search.SearchingLaws.{cut-few}
+use Rattle.solver.specs.Lookahead.Forcing.{Narrowed}
+use Rattle.solver.specs.Lookahead.ForcingLaws.{can-settle, followed-first, followed-alive, followed-none, followed-worse, followed-dead, followed-more}
 use Rattle.solver.proofs.forcing.forced_price.Statement.{statement}
 use Rattle.solver.proofs.forcing.forced_price.Tie as tie
 
 abbrev Inv-loop : tie.InvT-loop
 Inv-loop m marks best t ds key layout cost tally cut own₀ q₀ former₀ c₀ h₀ left₀ own q former c h left =
-    ((l : Line) (p : Plan) → Followed l p q₀ own₀ best t ds key layout c₀ tally → Followed l p q own best t ds key layout c tally) × (length former ≡ 352)
+    ((l : Line) (p : Plan) → Narrowed l p q₀ own₀ best t ds key layout c₀ tally → Narrowed l p q own best t ds key layout c tally) × (length former ≡ 352)
 
 abbrev μ-loop : tie.MeasureT-loop
 μ-loop m marks best t ds key layout cost tally cut own₀ q₀ former₀ c₀ h₀ left₀ own q former c h left = left
@@ -47,7 +47,7 @@ Way₀ a l x = IsWay l (now (a .args .m)) (now (a .args .ds)) x (a .args .way)
 
 -- what the plan of the first choice comes to at first
 first : (c : tie.After-settle Inv-loop μ-loop) (l : Line) (x : Choice) → Held₀ (begun c) l → Way₀ (begun c) l x →
-    Followed l (also x (now (begun c .args .marks))) (c .settle .last .0) (c .settle .last .1 .0) (now (begun c .args .best)) (now (begun c .args .t))
+    Narrowed l (also x (now (begun c .args .marks))) (c .settle .last .0) (c .settle .last .1 .0) (now (begun c .args .best)) (now (begun c .args .t))
     (now (begun c .args .ds)) (now (begun c .args .key)) (begun c .args .layout) (c .settle .result) (begun c .args .tally)
 first c l x h i =
     followed-first l _ _ _ _ _ _ _ _ _ h _ (c .before .before .before .before .before .before .before .before .before .cut-of .ensures) x _ i _ _ (c .before .before .before .before .before .copy-minutes .ensures) (c .before .before .before .before .before .before .before .copy-marks .ensures) _ _ _ (c .settle .ensures)

@@ -6,12 +6,12 @@ use mathlib.Core.Logic.{⊎-elim}
 use native.Mathlib.Omega.{arith}
 use borrow.Author.Needs.{needs}
 use lib.ListN.{length, length-set, length-replicate}
-use Rattle.rules.specs.StationLaws.{directions-size}
-use Rattle.plans.specs.Ways.{wayOf}
-use Rattle.plans.specs.WaysToldLaws.{steps-within}
-use Rattle.plans.specs.TryingLaws.{way-there, count-most, range-of, way-of-real}
-use Rattle.solver.specs.PricingLaws.{dead-skip, dead-more}
-use Rattle.solver.specs.Forcing.{PricesAllForced}
+use Rattle.rules.specs.Scan.StationLaws.{directions-size}
+use Rattle.plans.specs.Conflict.Ways.{wayOf}
+use Rattle.plans.specs.Contracts.WaysToldLaws.{steps-within}
+use Rattle.plans.specs.Contracts.TryingLaws.{way-there, count-most, range-of, way-of-real}
+use Rattle.solver.specs.Selection.PricingLaws.{dead-skip, dead-more}
+use Rattle.solver.specs.Lookahead.Forcing.{PricesAllForced}
 use Rattle.solver.proofs.forcing.forced_prices.Statement.{statement}
 use Rattle.solver.proofs.forcing.forced_prices.Tie as tie
 

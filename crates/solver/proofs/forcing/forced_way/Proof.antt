@@ -5,10 +5,10 @@ use mathlib.Core.Bool.{true, false, true≢false}
 use native.Mathlib.Omega.{arith}
 use borrow.Author.Needs.{needs}
 use lib.ListN.{length-set}
-use Rattle.rules.specs.StationLaws.{directions-size}
-use Rattle.plans.specs.TryingLaws.{count-most, range-of}
-use Rattle.solver.specs.PricingLaws.{planned-after}
-use Rattle.solver.specs.ForcingLaws.{forces-none, all-dead, none-left, one-left}
+use Rattle.rules.specs.Scan.StationLaws.{directions-size}
+use Rattle.plans.specs.Contracts.TryingLaws.{count-most, range-of}
+use Rattle.solver.specs.Selection.PricingLaws.{planned-after}
+use Rattle.solver.specs.Lookahead.ForcingLaws.{forces-none, all-dead, none-left, one-left}
 use Rattle.solver.proofs.forcing.forced_way.Statement.{statement}
 use Rattle.solver.proofs.forcing.forced_way.Tie as tie
 

@@ -2,7 +2,7 @@
 use mathlib.Core.Path.{refl}
 use native.Mathlib.Omega.{arith}
 use denote.Ref.{now}
-use Rattle.plans.specs.NextPlansLaws.{row-few, second-there, way-added, way-chooses, way-raises}
+use Rattle.plans.specs.Contracts.NextPlansLaws.{row-few, second-there, way-added, way-chooses, way-raises}
 use Rattle.solver.proofs.forcing.settle.Statement.{statement}
 use Rattle.solver.proofs.forcing.settle.Tie as tie
 

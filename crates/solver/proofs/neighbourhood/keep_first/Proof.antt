@@ -2,8 +2,8 @@
 -- starts from minutes below that plan's lawful timetables and ends with its least. Assumes nothing.
 use native.Mathlib.Omega.{arith}
 use denote.Ref.{now}
-use Rattle.orders.specs.Choices.{onSegment}
-use Rattle.solver.specs.NeighbourhoodLaws.{row-few, second-few, chooses-first, leads-first}
+use Rattle.orders.specs.Plan.Choices.{onSegment}
+use Rattle.solver.specs.Search.NeighbourhoodLaws.{row-few, second-few, chooses-first, leads-first}
 use Rattle.solver.proofs.neighbourhood.keep_first.Statement.{statement}
 use Rattle.solver.proofs.neighbourhood.keep_first.Tie as tie
 

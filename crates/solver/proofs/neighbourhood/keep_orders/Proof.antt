@@ -4,8 +4,8 @@ use Prim.Native.Nat.{_-_}
 use mathlib.Core.Path.{refl}
 use native.Mathlib.Omega.{arith}
 use borrow.Author.Needs.{needs}
-use Rattle.solver.specs.Neighbourhood.{Leads, OnSegments}
-use Rattle.solver.specs.NeighbourhoodLaws.{leads-nowhere, leads-then, leads-among, keep-after, keep-among, segment-among, layout-segments, layout-few}
+use Rattle.solver.specs.Search.Neighbourhood.{Leads, OnSegments}
+use Rattle.solver.specs.Search.NeighbourhoodLaws.{leads-nowhere, leads-then, leads-among, keep-after, keep-among, segment-among, layout-segments, layout-few}
 use Rattle.solver.proofs.neighbourhood.keep_orders.Statement.{statement}
 use Rattle.solver.proofs.neighbourhood.keep_orders.Tie as tie
 

@@ -1,8 +1,8 @@
 -- `solver::neighbourhood::keep_pair` meets its contract: an order to keep fits every line with that segment, either way round. Assumes nothing.
 use borrow.Author.Needs.{needs}
 use borrow.Author.Tests.{not-false}
-use Rattle.rules.specs.StationLaws.{directions-size}
-use Rattle.solver.specs.NeighbourhoodLaws.{leads-nowhere, leads-among, keep-among, order-other, order-fits, segment-low}
+use Rattle.rules.specs.Scan.StationLaws.{directions-size}
+use Rattle.solver.specs.Search.NeighbourhoodLaws.{leads-nowhere, leads-among, keep-among, order-other, order-fits, segment-low}
 use Rattle.solver.proofs.neighbourhood.keep_pair.Statement.{statement}
 use Rattle.solver.proofs.neighbourhood.keep_pair.Tie as tie
 

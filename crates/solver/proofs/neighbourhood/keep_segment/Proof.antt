@@ -2,8 +2,8 @@
 -- nothing.
 use Prim.Native.Nat.{_-_}
 use borrow.Author.Needs.{needs}
-use Rattle.solver.specs.Neighbourhood.{Leads, OnSegment}
-use Rattle.solver.specs.NeighbourhoodLaws.{leads-nowhere, leads-then, keep-after}
+use Rattle.solver.specs.Search.Neighbourhood.{Leads, OnSegment}
+use Rattle.solver.specs.Search.NeighbourhoodLaws.{leads-nowhere, leads-then, keep-after}
 use Rattle.solver.proofs.neighbourhood.keep_segment.Statement.{statement}
 use Rattle.solver.proofs.neighbourhood.keep_segment.Tie as tie
 

@@ -2,8 +2,8 @@
 -- wherever the first was. Assumes nothing.
 use Prim.Native.Nat.{_-_}
 use native.Mathlib.Omega.{arith}
-use Rattle.solver.specs.Neighbourhood.{Leads, OnSegment}
-use Rattle.solver.specs.NeighbourhoodLaws.{leads-nowhere, leads-then, keep-after}
+use Rattle.solver.specs.Search.Neighbourhood.{Leads, OnSegment}
+use Rattle.solver.specs.Search.NeighbourhoodLaws.{leads-nowhere, leads-then, keep-after}
 use Rattle.solver.proofs.neighbourhood.keep_train.Statement.{statement}
 use Rattle.solver.proofs.neighbourhood.keep_train.Tie as tie
 

@@ -6,7 +6,7 @@ use mathlib.Core.Logic.{inl, ⊎-elim}
 use native.Mathlib.Omega.{arith}
 use denote.Ref.{now}
 use borrow.Author.Needs.{needs}
-use Rattle.solver.specs.PricingLaws.{PickedBefore, picked-keep, picked-more, picked-cheapest}
+use Rattle.solver.specs.Selection.PricingLaws.{PickedBefore, picked-keep, picked-more, picked-cheapest}
 use Rattle.solver.proofs.pricing.cheapest.Statement.{statement}
 use Rattle.solver.proofs.pricing.cheapest.Tie as tie
 

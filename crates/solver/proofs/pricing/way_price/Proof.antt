@@ -3,8 +3,8 @@ use native.Mathlib.Omega.{arith}
 use denote.Ref.{now}
 use Prim.Native.Nat.{ℕ}
 use lib.ListN.{length-replicate}
-use Rattle.solver.specs.PricingLaws.{priced}
-use Rattle.plans.specs.NextPlansLaws.{row-few, second-there, way-chooses}
+use Rattle.solver.specs.Selection.PricingLaws.{priced}
+use Rattle.plans.specs.Contracts.NextPlansLaws.{row-few, second-there, way-chooses}
 use Rattle.solver.proofs.pricing.way_price.Statement.{statement}
 use Rattle.solver.proofs.pricing.way_price.Tie as tie
 

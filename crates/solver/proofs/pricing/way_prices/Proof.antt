@@ -6,12 +6,12 @@ use mathlib.Core.Logic.{⊎-elim}
 use native.Mathlib.Omega.{arith}
 use borrow.Author.Needs.{needs}
 use lib.ListN.{length, length-set, length-replicate}
-use Rattle.rules.specs.StationLaws.{directions-size}
-use Rattle.plans.specs.Ways.{wayOf}
-use Rattle.plans.specs.WaysToldLaws.{steps-within}
-use Rattle.plans.specs.TryingLaws.{way-there, count-most, range-of, way-of-real}
-use Rattle.solver.specs.Pricing.{PricesWays}
-use Rattle.solver.specs.PricingLaws.{prices-none, prices-skip, prices-more, planned-after}
+use Rattle.rules.specs.Scan.StationLaws.{directions-size}
+use Rattle.plans.specs.Conflict.Ways.{wayOf}
+use Rattle.plans.specs.Contracts.WaysToldLaws.{steps-within}
+use Rattle.plans.specs.Contracts.TryingLaws.{way-there, count-most, range-of, way-of-real}
+use Rattle.solver.specs.Selection.Pricing.{PricesWays}
+use Rattle.solver.specs.Selection.PricingLaws.{prices-none, prices-skip, prices-more, planned-after}
 use Rattle.solver.proofs.pricing.way_prices.Statement.{statement}
 use Rattle.solver.proofs.pricing.way_prices.Tie as tie
 

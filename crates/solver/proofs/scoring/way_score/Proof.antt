@@ -5,11 +5,11 @@ use mathlib.Core.Path.{_≡_, refl, _∙_}
 use mathlib.Core.Logic.{⊎-elim}
 use native.Mathlib.Omega.{arith}
 use borrow.Author.Needs.{needs}
-use Rattle.rules.specs.StationLaws.{directions-size}
-use Rattle.plans.specs.Ways.{wayOf}
-use Rattle.plans.specs.WaysToldLaws.{steps-within}
-use Rattle.plans.specs.TryingLaws.{way-there, count-most, range-of, way-of-real}
-use Rattle.solver.specs.PricingLaws.{planned-after}
+use Rattle.rules.specs.Scan.StationLaws.{directions-size}
+use Rattle.plans.specs.Conflict.Ways.{wayOf}
+use Rattle.plans.specs.Contracts.WaysToldLaws.{steps-within}
+use Rattle.plans.specs.Contracts.TryingLaws.{way-there, count-most, range-of, way-of-real}
+use Rattle.solver.specs.Selection.PricingLaws.{planned-after}
 use Rattle.solver.proofs.scoring.way_score.Statement.{statement}
 use Rattle.solver.proofs.scoring.way_score.Tie as tie
 

@@ -7,18 +7,18 @@ use native.Mathlib.Omega.{arith}
 use denote.Ref.{now}
 use borrow.Author.Needs.{needs}
 use lib.ListN.{length, length-set, length-replicate}
-use Rattle.text.specs.Below.{count}
-use Rattle.rules.specs.StationLaws.{directions-size}
-use Rattle.orders.specs.NoLater.{slack}
-use Rattle.plans.specs.Ways.{wayOf}
-use Rattle.plans.specs.TryingLaws.{way-there, way-absent, count-most, range-of, way-of-real}
-use Rattle.plans.specs.NextPlansLaws.{cut-low, row-few, second-there, way-chooses, next-falls}
-use Rattle.plans.specs.GivenLaws.{key-long}
-use Rattle.solver.specs.Pricing.{Cheapest, untried}
-use Rattle.solver.specs.PricingLaws.{untried-falls}
-use Rattle.solver.specs.Searching.{TriesSome}
-use Rattle.solver.specs.SearchingLaws.{counted-tallied, held-after, held-by, sought-spent, sought-cut, sought-clear, sought-dead, next-held}
-use Rattle.solver.specs.SearchingLaws.{sought-alive, sought-marks, sought-by, ways-priced, ways-done, ways-skip, ways-more}
+use Rattle.finite.specs.Below.{count}
+use Rattle.rules.specs.Scan.StationLaws.{directions-size}
+use Rattle.orders.specs.LeastMinutes.NoLater.{slack}
+use Rattle.plans.specs.Conflict.Ways.{wayOf}
+use Rattle.plans.specs.Contracts.TryingLaws.{way-there, way-absent, count-most, range-of, way-of-real}
+use Rattle.plans.specs.Contracts.NextPlansLaws.{cut-low, row-few, second-there, way-chooses, next-falls}
+use Rattle.plans.specs.Contracts.GivenLaws.{key-long}
+use Rattle.solver.specs.Selection.Pricing.{Cheapest, untried}
+use Rattle.solver.specs.Selection.PricingLaws.{untried-falls}
+use Rattle.solver.specs.Search.Searching.{TriesSome}
+use Rattle.solver.specs.Search.SearchingLaws.{counted-tallied, held-after, held-by, sought-spent, sought-cut, sought-clear, sought-dead, next-held}
+use Rattle.solver.specs.Search.SearchingLaws.{sought-alive, sought-marks, sought-by, ways-priced, ways-done, ways-skip, ways-more}
 use borrow.Fn.Kinds.{In}
 use borrow.Fn.PlainCycle.{Measures, is, falls, and}
 use Rattle.solver.proofs.search.take_up.Reads as take-up

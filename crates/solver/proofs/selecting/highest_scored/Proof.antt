@@ -3,8 +3,8 @@
 use Prim.Native.Nat.{_<_}
 use native.Mathlib.Omega.{arith}
 use borrow.Author.Needs.{needs}
-use Rattle.solver.specs.Selecting.{FindsReal}
-use Rattle.solver.specs.SelectingLaws.{select-scans, can-select-after, finds-nothing, finds-then}
+use Rattle.solver.specs.Selection.Selecting.{FindsReal}
+use Rattle.solver.specs.Selection.SelectingLaws.{select-scans, can-select-after, finds-nothing, finds-then}
 use Rattle.solver.proofs.selecting.highest_scored.Statement.{statement}
 use Rattle.solver.proofs.selecting.highest_scored.Tie as tie
 

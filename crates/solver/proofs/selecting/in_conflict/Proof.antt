@@ -2,7 +2,7 @@
 -- nothing.
 use mathlib.Core.Bool.{false≢true}
 use native.Mathlib.Omega.{arith}
-use Rattle.rules.specs.ConflictsLaws.{clash-here}
+use Rattle.rules.specs.Conflict.ConflictsLaws.{clash-here}
 use borrow.Author.Needs.{needs}
 use Rattle.solver.proofs.selecting.in_conflict.Statement.{statement}
 use Rattle.solver.proofs.selecting.in_conflict.Tie as tie

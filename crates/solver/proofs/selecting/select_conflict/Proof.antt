@@ -2,8 +2,8 @@
 -- is one. Assumes nothing.
 use mathlib.Core.Path.{_∙_, ap}
 use native.Mathlib.Omega.{arith}
-use Rattle.plans.specs.Ways.{wayCount}
-use Rattle.solver.specs.SelectingLaws.{select-scans, lowest-chosen, some-chosen}
+use Rattle.plans.specs.Conflict.Ways.{wayCount}
+use Rattle.solver.specs.Selection.SelectingLaws.{select-scans, lowest-chosen, some-chosen}
 use borrow.Author.Needs.{needs}
 use Rattle.solver.proofs.selecting.select_conflict.Statement.{statement}
 use Rattle.solver.proofs.selecting.select_conflict.Tie as tie

@@ -1,8 +1,8 @@
 -- `solver::selecting::with_pair` meets its contract: two trains that the test finds in conflict are in one on every line with this segment. Assumes
 -- nothing.
 use native.Mathlib.Omega.{arith}
-use Rattle.rules.specs.StationLaws.{directions-size}
-use Rattle.solver.specs.SelectingLaws.{on-low, clash-on, higher-real, scores-on-none}
+use Rattle.rules.specs.Scan.StationLaws.{directions-size}
+use Rattle.solver.specs.Selection.SelectingLaws.{on-low, clash-on, higher-real, scores-on-none}
 use Rattle.solver.proofs.selecting.with_pair.Statement.{statement}
 use Rattle.solver.proofs.selecting.with_pair.Tie as tie
 

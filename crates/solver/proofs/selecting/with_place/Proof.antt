@@ -4,7 +4,7 @@ use mathlib.Core.Path.{refl}
 use native.Mathlib.Omega.{arith}
 use denote.Ref.{now}
 use borrow.Author.Needs.{needs}
-use Rattle.solver.specs.SelectingLaws.{select-scans, can-score-on, finds-on}
+use Rattle.solver.specs.Selection.SelectingLaws.{select-scans, can-score-on, finds-on}
 use Rattle.solver.proofs.selecting.with_place.Statement.{statement}
 use Rattle.solver.proofs.selecting.with_place.Tie as tie
 

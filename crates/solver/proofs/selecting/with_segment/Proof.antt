@@ -1,8 +1,8 @@
 -- `solver::selecting::with_segment` meets its contract: train after train. The invariant: what is held is in conflict where the old one is. Assumes
 -- nothing.
 use Prim.Native.Nat.{_-_}
-use Rattle.solver.specs.Selecting.{ScoresOn}
-use Rattle.solver.specs.SelectingLaws.{scores-on-none, scores-on-then, can-score-on-after}
+use Rattle.solver.specs.Selection.Selecting.{ScoresOn}
+use Rattle.solver.specs.Selection.SelectingLaws.{scores-on-none, scores-on-then, can-score-on-after}
 use borrow.Author.Needs.{needs}
 use Rattle.solver.proofs.selecting.with_segment.Statement.{statement}
 use Rattle.solver.proofs.selecting.with_segment.Tie as tie

@@ -2,7 +2,7 @@
 -- nothing.
 use mathlib.Core.Path.{refl}
 use native.Mathlib.Omega.{arith}
-use Rattle.solver.specs.SelectingLaws.{select-scans, crowd-on-real, higher-real}
+use Rattle.solver.specs.Selection.SelectingLaws.{select-scans, crowd-on-real, higher-real}
 use borrow.Author.Needs.{needs}
 use Rattle.solver.proofs.selecting.with_station.Statement.{statement}
 use Rattle.solver.proofs.selecting.with_station.Tie as tie

@@ -1,8 +1,8 @@
 -- `solver::selecting::with_train` meets its contract: pair after pair. The invariant: what is held is in conflict where the old one is. Assumes nothing.
 use Prim.Native.Nat.{_-_}
 use native.Mathlib.Omega.{arith}
-use Rattle.solver.specs.Selecting.{ScoresOn}
-use Rattle.solver.specs.SelectingLaws.{on-low, scores-on-none, scores-on-then, can-score-on-after}
+use Rattle.solver.specs.Selection.Selecting.{ScoresOn}
+use Rattle.solver.specs.Selection.SelectingLaws.{on-low, scores-on-none, scores-on-then, can-score-on-after}
 use borrow.Author.Needs.{needs}
 use Rattle.solver.proofs.selecting.with_train.Statement.{statement}
 use Rattle.solver.proofs.selecting.with_train.Tie as tie

@@ -1,7 +1,7 @@
 -- In each arm the answer is what the definition gives for that case.
 use mathlib.Core.Path.{sym, ap}
 use borrow.Author.Needs.{needs}
-use Rattle.solver.specs.Solving.{fileRefused}
+use Rattle.solver.specs.Promise.Solving.{fileRefused}
 use Rattle.solver.proofs.solving.file_refused.Statement.{statement}
 use Rattle.solver.proofs.solving.file_refused.Tie as tie
 

@@ -3,7 +3,7 @@
 use mathlib.Core.Path.{refl}
 use borrow.Author.Needs.{needs}
 use borrow.Author.Tests.{not-true, not-false}
-use Rattle.solver.specs.SolvingLaws.{solving-refused, solved-read, solving-none, solving-best}
+use Rattle.solver.specs.Promise.SolvingLaws.{solving-refused, solved-read, solving-none, solving-best}
 use Rattle.solver.proofs.solving.solve.Statement.{statement}
 use Rattle.solver.proofs.solving.solve.Tie as tie
 

@@ -4,7 +4,7 @@ use borrow.Author.Needs.{needs}
 use mathlib.Core.Path.{_∙_, sym}
 use denote.Ref.{now}
 use lib.ListN.{List·getD-eq-default}
-use Rattle.text.specs.BytesLaws.{getD-any}
+use Rattle.text.specs.Reading.BytesLaws.{getD-any}
 use Rattle.text.proofs.Cursor.byte.Statement.{statement}
 use Rattle.text.proofs.Cursor.byte.Tie as tie
 

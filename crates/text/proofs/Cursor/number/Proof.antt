@@ -7,16 +7,16 @@ use native.Mathlib.Omega.{arith}
 use mathlib.Core.Path.{_≡_, _∙_, sym, ap, refl}
 use denote.Ref.{now}
 use Rattle.text.specs.declared.Digit.{Digit}
-use Rattle.text.specs.Bytes.{ahead}
-use Rattle.text.specs.Numbers.{more}
-use Rattle.text.specs.BytesLaws.{digit-is, digit-inside, digit-small}
-use Rattle.text.specs.NumbersLaws.{number-none, number-zero, number-more, more-none, more-step, Room, room-first, room-step, room-below}
+use Rattle.text.specs.Reading.Bytes.{ahead}
+use Rattle.text.specs.Reading.Numbers.{more}
+use Rattle.text.specs.Reading.BytesLaws.{digit-is, digit-inside, digit-small}
+use Rattle.text.specs.Reading.NumbersLaws.{number-none, number-zero, number-more, more-none, more-step, DigitsFit, room-first, room-step, room-below}
 use Rattle.text.proofs.Cursor.number.Statement.{statement}
 use Rattle.text.proofs.Cursor.number.Tie as tie
 
 abbrev Inv-loop : tie.InvT-loop
 Inv-loop s most first next₀ value₀ left₀ next value left =
-    (more left s next value ≡ more (most - 1) s next₀ first) × Room left value
+    (more left s next value ≡ more (most - 1) s next₀ first) × DigitsFit left value
 
 abbrev μ-loop : tie.MeasureT-loop
 μ-loop s most first next₀ value₀ left₀ next value left = left

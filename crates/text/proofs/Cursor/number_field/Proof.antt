@@ -2,9 +2,9 @@
 -- nothing.
 use borrow.Author.Needs.{needs}
 use mathlib.Core.Path.{_∙_, sym}
-use Rattle.text.specs.Numbers.{fieldAt}
-use Rattle.text.specs.Lines.{Counted}
-use Rattle.text.specs.LinesLaws.{keeps-counted, number-keeps}
+use Rattle.text.specs.Reading.Numbers.{fieldAt}
+use Rattle.text.specs.Places.Lines.{Counted}
+use Rattle.text.specs.Places.LinesLaws.{keeps-counted, number-keeps}
 use Rattle.text.proofs.Cursor.number_field.Statement.{statement}
 use Rattle.text.proofs.Cursor.number_field.Tie as tie
 

@@ -5,8 +5,8 @@ use native.Mathlib.Omega.{arith}
 use mathlib.Core.Path.{_≡_, _∙_, sym}
 use denote.Ref.{now}
 use borrow.Author.Tests.{eq-eqb, ne-eqb}
-use Rattle.text.specs.Bytes.{byteAt, pastOf}
-use Rattle.text.specs.BytesLaws.{inside}
+use Rattle.text.specs.Reading.Bytes.{byteAt, pastOf}
+use Rattle.text.specs.Reading.BytesLaws.{inside}
 use Rattle.text.proofs.Cursor.past.Statement.{statement}
 use Rattle.text.proofs.Cursor.past.Tie as tie
 

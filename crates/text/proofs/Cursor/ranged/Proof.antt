@@ -1,6 +1,6 @@
 -- `text::Cursor::ranged` meets its contract: each `return` follows from the answers that led there, by the law of that case. Assumes nothing.
 use mathlib.Core.Path.{_∙_, sym}
-use Rattle.text.specs.ParsedLaws.{ranged-malformed, ranged-outside, ranged-value}
+use Rattle.text.specs.Reading.ParsedLaws.{ranged-malformed, ranged-outside, ranged-value}
 use borrow.Author.Needs.{needs}
 use Rattle.text.proofs.Cursor.ranged.Statement.{statement}
 use Rattle.text.proofs.Cursor.ranged.Tie as tie

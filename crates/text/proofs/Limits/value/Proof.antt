@@ -1,6 +1,6 @@
 -- `text::Limits::value` meets its contract: each `return` rewrites with the tests that led there. Assumes nothing.
 use borrow.Author.Tests.{lt-ltb, le-ltb}
-use Rattle.text.specs.Limits.{boundedOf}
+use Rattle.text.specs.Reading.Limits.{boundedOf}
 use borrow.Author.Needs.{needs}
 use Rattle.text.proofs.Limits.value.Statement.{statement}
 use Rattle.text.proofs.Limits.value.Tie as tie

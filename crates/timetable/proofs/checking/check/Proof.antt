@@ -1,6 +1,6 @@
 -- `timetable::checking::check` meets its contract: a file that is refused, or an accepted one, whose line is within the limits.
 use borrow.Author.Needs.{needs}
-use Rattle.timetable.specs.CheckLoops.{file-refused, file-within, file-accepted}
+use Rattle.timetable.specs.CheckLoopLaws.{file-refused, file-within, file-accepted}
 use Rattle.timetable.proofs.checking.check.Statement.{statement}
 use Rattle.timetable.proofs.checking.check.Tie as tie
 

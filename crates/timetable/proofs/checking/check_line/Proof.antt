@@ -3,7 +3,7 @@ use mathlib.Core.Path.{_∙_, ap}
 use borrow.Author.Needs.{needs}
 use Rattle.timetable.specs.Check.{verdictOf}
 use Rattle.timetable.specs.Told.{timetableOf}
-use Rattle.timetable.specs.CheckLoops.{judged-refused, judged-read, breach-rule, breach-rest}
+use Rattle.timetable.specs.CheckLoopLaws.{judged-refused, judged-read, breach-rule, breach-rest}
 use Rattle.timetable.proofs.checking.check_line.Statement.{statement}
 use Rattle.timetable.proofs.checking.check_line.Tie as tie
 

@@ -7,9 +7,9 @@ use borrow.Author.Needs.{needs}
 use borrow.Author.Count.{below-none, below-more}
 use borrow.Author.Tests.{not-true, not-false}
 use lib.ListN.{length, take, length-map}
-use Rattle.text.specs.Below.{EachBelow}
-use Rattle.rules.specs.Orders.{listed, listsIn}
-use Rattle.timetable.specs.CheckLoops.{same-at, lists-size, Right, wrong-at, wrong-none}
+use Rattle.finite.specs.Below.{EachBelow}
+use Rattle.rules.specs.Lists.Orders.{listed, listsIn}
+use Rattle.timetable.specs.CheckLoopLaws.{same-at, lists-size, Right, wrong-at, wrong-none}
 use Rattle.timetable.proofs.checking.lists_breach.Statement.{statement}
 use Rattle.timetable.proofs.checking.lists_breach.Tie as tie
 

@@ -1,6 +1,6 @@
 -- `timetable::checking::rest_breach` meets its contract: the lists are judged first, then the total.
 use borrow.Author.Needs.{needs}
-use Rattle.timetable.specs.CheckLoops.{lists-told, rest-list, rest-none, rest-total}
+use Rattle.timetable.specs.CheckLoopLaws.{lists-told, rest-list, rest-none, rest-total}
 use Rattle.timetable.proofs.checking.rest_breach.Statement.{statement}
 use Rattle.timetable.proofs.checking.rest_breach.Tie as tie
 

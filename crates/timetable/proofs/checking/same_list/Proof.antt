@@ -7,10 +7,10 @@ use borrow.Author.Count.{below-none, below-more}
 use mir.Syntax.{w16}
 use mir.Val.{Fits}
 use lib.ListN.{length, getD}
-use Rattle.text.specs.Decide.{is-true, is-false}
-use Rattle.text.specs.Below.{EachBelow}
-use Rattle.rules.specs.Orders.{listed}
-use Rattle.timetable.specs.CheckLoops.{MatchAt, decides-matches, entry-at}
+use Rattle.finite.specs.DecideLaws.{is-true, is-false}
+use Rattle.finite.specs.Below.{EachBelow}
+use Rattle.rules.specs.Lists.Orders.{listed}
+use Rattle.timetable.specs.CheckLoopLaws.{MatchAt, decides-matches, entry-at}
 use Rattle.timetable.proofs.checking.same_list.Statement.{statement}
 use Rattle.timetable.proofs.checking.same_list.Tie as tie
 

@@ -5,11 +5,11 @@ use mathlib.Core.Path.{_≡_, _∙_, sym, ap, refl}
 use native.Mathlib.Omega.{arith}
 use native.Mathlib.Nat.{sub-zero}
 use lib.ListN.{replicate}
-use Rattle.text.specs.Lines.{Counted}
-use Rattle.text.specs.LinesLaws.{field-counted}
-use Rattle.text.specs.LayLaws.{layMany, lay-done, lay-step, lay-stop}
-use Rattle.text.specs.Told.{toldField, stoppedBy}
-use Rattle.text.specs.ToldLaws.{ranged-told}
+use Rattle.text.specs.Places.Lines.{Counted}
+use Rattle.text.specs.Places.LinesLaws.{field-counted}
+use Rattle.text.specs.Elements.LayLaws.{layMany, lay-done, lay-step, lay-stop}
+use Rattle.text.specs.Reading.Told.{toldField, stoppedBy}
+use Rattle.text.specs.Reading.ToldLaws.{ranged-told}
 use Rattle.line.specs.FileLaws.{ended-told}
 use Rattle.timetable.specs.Reading.{nameAt}
 use Rattle.timetable.specs.ListLaws.{own-within, list-no-count, list-from}

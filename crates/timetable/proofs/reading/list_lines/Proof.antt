@@ -6,13 +6,13 @@ use native.Mathlib.Omega.{arith}
 use native.Mathlib.Nat.{sub-zero}
 use borrow.Author.Needs.{needs}
 use lib.ListN.{length, take, length-set}
-use Rattle.text.specs.Parsed.{Parsed, lines}
-use Rattle.text.specs.Lines.{Counted}
-use Rattle.text.specs.LinesLaws.{keeps-counted}
+use Rattle.text.specs.Reading.Parsed.{Parsed, lines}
+use Rattle.text.specs.Places.Lines.{Counted}
+use Rattle.text.specs.Places.LinesLaws.{keeps-counted}
 use Rattle.line.specs.PlaceLaws.{part-counted}
 use Rattle.line.specs.FileLaws.{ended-told}
-use Rattle.rules.specs.Orders.{listed}
-use Rattle.rules.specs.ListsLaws.{listed-more}
+use Rattle.rules.specs.Lists.Orders.{listed}
+use Rattle.rules.specs.Lists.ListsLaws.{listed-more}
 use Rattle.timetable.specs.Reading.{listAt}
 use Rattle.timetable.specs.PlaceLaws.{stands-list}
 use Rattle.timetable.specs.RestLaws.{after, after-none, after-done, after-step, after-stop}

@@ -4,8 +4,8 @@ use mathlib.Core.Path.{_≡_, _∙_, sym}
 use mathlib.Core.Logic.{⊎-elim}
 use mathlib.Core.Bool.{cond}
 use lib.Dec.{eqb}
-use Rattle.text.specs.Lines.{Counted}
-use Rattle.text.specs.LinesLaws.{keeps-counted, number-keeps}
+use Rattle.text.specs.Places.Lines.{Counted}
+use Rattle.text.specs.Places.LinesLaws.{keeps-counted, number-keeps}
 use Rattle.timetable.specs.ListLaws.{byte-none, byte-some, own-malformed, own-unended, own-over, own-value}
 use borrow.Author.Needs.{needs}
 use Rattle.timetable.proofs.reading.own_count.Statement.{statement}

@@ -1,8 +1,8 @@
 -- `timetable::reading::read_minutes` meets its contract: refused at the count, or the lines of as many trains as the line has. Assumes nothing.
 use mathlib.Core.Path.{_∙_, sym, ap, refl}
-use Rattle.text.specs.LinesLaws.{field-counted}
-use Rattle.text.specs.Told.{stoppedBy}
-use Rattle.text.specs.ToldLaws.{ranged-told}
+use Rattle.text.specs.Places.LinesLaws.{field-counted}
+use Rattle.text.specs.Reading.Told.{stoppedBy}
+use Rattle.text.specs.Reading.ToldLaws.{ranged-told}
 use Rattle.line.specs.FileLaws.{ended-told}
 use Rattle.timetable.specs.ReadingLaws.{minutes-no-count, minutes-counted}
 use borrow.Author.Needs.{needs}

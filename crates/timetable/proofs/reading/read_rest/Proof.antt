@@ -5,14 +5,14 @@ use mathlib.Core.List.{map}
 use native.Mathlib.Omega.{arith}
 use borrow.Author.Needs.{needs}
 use lib.ListN.{take}
-use Rattle.text.specs.Parsed.{Parsed}
-use Rattle.text.specs.Lines.{Counted}
-use Rattle.text.specs.LinesLaws.{keeps-counted, field-counted}
-use Rattle.text.specs.Told.{stoppedBy}
-use Rattle.text.specs.ToldLaws.{ranged-told}
+use Rattle.text.specs.Reading.Parsed.{Parsed}
+use Rattle.text.specs.Places.Lines.{Counted}
+use Rattle.text.specs.Places.LinesLaws.{keeps-counted, field-counted}
+use Rattle.text.specs.Reading.Told.{stoppedBy}
+use Rattle.text.specs.Reading.ToldLaws.{ranged-told}
 use Rattle.line.specs.FileLaws.{ended-told}
 use Rattle.line.specs.PlaceLaws.{part-counted}
-use Rattle.rules.specs.Orders.{listed}
+use Rattle.rules.specs.Lists.Orders.{listed}
 use Rattle.timetable.specs.PlaceLaws.{stands-lists}
 use Rattle.timetable.specs.RestLaws.{rest-no-count, rest-no-lists, rest-no-total, rest-more, rest-whole}
 use Rattle.timetable.proofs.reading.read_rest.Statement.{statement}

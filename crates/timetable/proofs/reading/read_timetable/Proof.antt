@@ -2,8 +2,8 @@
 use mathlib.Core.Path.{_∙_, sym}
 use native.Mathlib.Omega.{arith}
 use borrow.Author.Needs.{needs}
-use Rattle.text.specs.Lines.{Counted}
-use Rattle.text.specs.LinesLaws.{keeps-counted}
+use Rattle.text.specs.Places.Lines.{Counted}
+use Rattle.text.specs.Places.LinesLaws.{keeps-counted}
 use Rattle.line.specs.FileLaws.{ended-told}
 use Rattle.line.specs.PlaceLaws.{part-counted}
 use Rattle.timetable.specs.PlaceLaws.{stands-minutes}

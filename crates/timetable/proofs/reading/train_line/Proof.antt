@@ -5,10 +5,10 @@ use mathlib.Core.Path.{_≡_, _∙_, sym, ap, refl}
 use native.Mathlib.Omega.{arith}
 use native.Mathlib.Nat.{sub-zero}
 use denote.Ref.{now}
-use Rattle.text.specs.Told.{stoppedBy}
-use Rattle.text.specs.Lines.{Counted}
-use Rattle.text.specs.LinesLaws.{field-counted}
-use Rattle.text.specs.ToldLaws.{ranged-told}
+use Rattle.text.specs.Reading.Told.{stoppedBy}
+use Rattle.text.specs.Places.Lines.{Counted}
+use Rattle.text.specs.Places.LinesLaws.{field-counted}
+use Rattle.text.specs.Reading.ToldLaws.{ranged-told}
 use Rattle.line.specs.Record.{legsOf}
 use Rattle.line.specs.FileLaws.{ended-told}
 use Rattle.timetable.specs.Reading.{afterField, legsAt}

@@ -5,11 +5,11 @@ use mathlib.Core.Path.{_≡_, _∙_, sym, refl}
 use native.Mathlib.Omega.{arith}
 use native.Mathlib.Nat.{sub-zero}
 use lib.ListN.{length, length-map, replicate}
-use Rattle.text.specs.Lines.{Counted}
-use Rattle.text.specs.LinesLaws.{keeps-counted}
+use Rattle.text.specs.Places.Lines.{Counted}
+use Rattle.text.specs.Places.LinesLaws.{keeps-counted}
 use Rattle.line.specs.FileLaws.{ended-told}
 use Rattle.line.specs.PlaceLaws.{part-counted}
-use Rattle.rules.specs.PathsLaws.{routed}
+use Rattle.rules.specs.StatementLaws.PathsLaws.{routed}
 use Rattle.timetable.specs.Reading.{trainsAt}
 use Rattle.timetable.specs.PlaceLaws.{stands-legs}
 use Rattle.timetable.specs.ReadingLaws.{trains-done, trains-refused, trains-step}

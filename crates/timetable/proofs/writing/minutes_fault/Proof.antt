@@ -7,8 +7,8 @@ use borrow.Author.Needs.{needs}
 use borrow.Author.Count.{below-none, below-more}
 use borrow.Author.Tests.{not-true, not-false}
 use lib.ListN.{length, length-map}
-use Rattle.text.specs.Below.{EachBelow}
-use Rattle.rules.specs.PathsLaws.{routed}
+use Rattle.finite.specs.Below.{EachBelow}
+use Rattle.rules.specs.StatementLaws.PathsLaws.{routed}
 use Rattle.timetable.specs.WritingLaws.{Timed, late-at, late-none}
 use Rattle.timetable.proofs.writing.minutes_fault.Statement.{statement}
 use Rattle.timetable.proofs.writing.minutes_fault.Tie as tie

@@ -11,8 +11,8 @@ use mir.Syntax.{w16}
 use mir.Val.{Fits}
 use lib.Dec.{eqb}
 use lib.ListN.{drop, getD}
-use Rattle.text.specs.SpliceLaws.{Putting, putting-start, putting-step, putting-end, put-then}
-use Rattle.rules.specs.Orders.{listed}
+use Rattle.text.specs.Writing.SpliceLaws.{Putting, putting-start, putting-step, putting-end, put-then}
+use Rattle.rules.specs.Lists.Orders.{listed}
 use Rattle.timetable.specs.Spell.{numbers, namesText}
 use Rattle.timetable.specs.ListLaws.{byte-none, byte-some}
 use Rattle.timetable.specs.WritingLaws.{next-name, no-name, name-room, list-parts, list-size}

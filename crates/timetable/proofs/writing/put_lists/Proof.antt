@@ -6,8 +6,8 @@ use mathlib.Core.List.{[]}
 use native.Mathlib.Omega.{arith}
 use borrow.Author.Needs.{needs}
 use lib.ListN.{length, take, drop, length-map}
-use Rattle.text.specs.Each.{eachThen}
-use Rattle.text.specs.SpliceLaws.{Putting, putting-start}
+use Rattle.text.specs.Elements.EachThen.{eachThen}
+use Rattle.text.specs.Writing.SpliceLaws.{Putting, putting-start}
 use Rattle.line.specs.SpellLaws.{each-room, each-put, each-end}
 use Rattle.rules.specs.declared.orders.OrderList.{OrderList}
 use Rattle.timetable.specs.WritingLaws.{orderText, order-then, lists-text}

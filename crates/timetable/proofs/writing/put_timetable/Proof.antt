@@ -3,7 +3,7 @@
 use native.Mathlib.Omega.{arith}
 use denote.Ref.{now}
 use borrow.Author.Needs.{needs}
-use Rattle.text.specs.SpliceLaws.{put-then}
+use Rattle.text.specs.Writing.SpliceLaws.{put-then}
 use Rattle.timetable.specs.FitsLaws.{total-small}
 use Rattle.timetable.specs.WritingLaws.{timetable-parts, timetable-size}
 use Rattle.timetable.proofs.writing.put_timetable.Statement.{statement}

@@ -9,7 +9,7 @@ use denote.Ref.{now}
 use borrow.Author.Needs.{needs}
 use mir.Syntax.{w16}
 use mir.Val.{Fits}
-use Rattle.text.specs.SpliceLaws.{Putting, putting-start, putting-step, putting-end, put-then}
+use Rattle.text.specs.Writing.SpliceLaws.{Putting, putting-start, putting-step, putting-end, put-then}
 use Rattle.timetable.specs.Spell.{legsText}
 use Rattle.timetable.specs.WritingLaws.{next-leg, no-leg, leg-room}
 use Rattle.timetable.proofs.writing.put_train.Statement.{statement}

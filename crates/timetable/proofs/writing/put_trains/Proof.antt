@@ -8,8 +8,8 @@ use native.Mathlib.Omega.{arith}
 use denote.Ref.{now}
 use borrow.Author.Needs.{needs}
 use lib.ListN.{length, length-map}
-use Rattle.text.specs.SpliceLaws.{Putting, putting-start, putting-step, putting-end}
-use Rattle.rules.specs.PathsLaws.{routed}
+use Rattle.text.specs.Writing.SpliceLaws.{Putting, putting-start, putting-step, putting-end}
+use Rattle.rules.specs.StatementLaws.PathsLaws.{routed}
 use Rattle.timetable.specs.Spell.{trainsText}
 use Rattle.timetable.specs.WritingLaws.{next-train, no-train, train-room}
 use Rattle.timetable.proofs.writing.put_trains.Statement.{statement}

@@ -6,8 +6,8 @@ use native.Mathlib.Omega.{arith}
 use denote.Ref.{now}
 use borrow.Author.Needs.{needs}
 use borrow.Author.Count.{below-more}
-use Rattle.text.specs.Decide.{is-true, is-false}
-use Rattle.text.specs.Below.{EachBelow}
+use Rattle.finite.specs.DecideLaws.{is-true, is-false}
+use Rattle.finite.specs.Below.{EachBelow}
 use Rattle.timetable.specs.SpeltLaws.{DaysAt}
 use Rattle.timetable.specs.WritingLaws.{decides-times}
 use Rattle.timetable.proofs.writing.times_right.Statement.{statement}

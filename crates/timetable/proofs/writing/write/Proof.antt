@@ -6,7 +6,7 @@ use native.Mathlib.Omega.{arith}
 use denote.Ref.{now}
 use borrow.Author.Needs.{needs}
 use lib.ListN.{length, replicate, length-replicate}
-use Rattle.text.specs.LendLaws.{lent-refused, lent-front}
+use Rattle.text.specs.Writing.LendLaws.{lent-refused, lent-front}
 use Rattle.line.specs.Writing.{refusedBy}
 use Rattle.line.specs.FaultLaws.{found-first, found-later}
 use Rattle.line.specs.WithinLaws.{within-of}

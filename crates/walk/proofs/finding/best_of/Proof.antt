@@ -5,12 +5,12 @@ use native.Mathlib.Omega.{arith}
 use borrow.Author.Needs.{needs}
 use borrow.Author.Tests.{not-true, not-false}
 use lib.ListN.{replicate}
-use Rattle.orders.specs.Least.{IsLeast}
-use Rattle.orders.specs.Marks.{free}
-use Rattle.orders.specs.Plans.{Keeps}
+use Rattle.orders.specs.LeastMinutes.Least.{IsLeast}
+use Rattle.orders.specs.Plan.Marks.{free}
+use Rattle.orders.specs.Plan.Plans.{Keeps}
 use Rattle.walk.specs.ScanningLaws.{clear-none}
-use Rattle.plans.specs.Choosing.{Given}
-use Rattle.plans.specs.FirstLaws.{first-given}
+use Rattle.plans.specs.Contracts.Choosing.{Given}
+use Rattle.plans.specs.Contracts.FirstLaws.{first-given}
 use Rattle.walk.specs.Finding.{FindsWalked}
 use Rattle.walk.specs.FindingLaws.{finds-walked, finds-nothing}
 use Rattle.walk.proofs.finding.best_of.Statement.{statement}

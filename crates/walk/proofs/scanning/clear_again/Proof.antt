@@ -4,7 +4,7 @@ use Prim.Native.Nat.{_-_, _≤_}
 use native.Mathlib.Omega.{arith}
 use borrow.Author.Needs.{needs}
 use borrow.Author.Tests.{not-false}
-use Rattle.rules.specs.ConflictsLaws.{NoSegment, segment-start, segment-on}
+use Rattle.rules.specs.Conflict.ConflictsLaws.{NoSegment, segment-start, segment-on}
 use Rattle.walk.specs.ScanningLaws.{clear-within, clear-at, clear-first}
 use Rattle.walk.proofs.scanning.clear_again.Statement.{statement}
 use Rattle.walk.proofs.scanning.clear_again.Tie as tie

@@ -4,7 +4,7 @@ use mathlib.Core.Path.{refl, sym, _∙_}
 use native.Mathlib.Omega.{arith}
 use borrow.Author.Needs.{needs}
 use denote.Enum.Declared.{tagOf}
-use Rattle.rules.specs.ConflictsLaws.{conflict-stays, NoSegment, segment-on, segment-found, segment-none}
+use Rattle.rules.specs.Conflict.ConflictsLaws.{conflict-stays, NoSegment, segment-on, segment-found, segment-none}
 use Rattle.walk.specs.ScanningLaws.{clear-within, clear-below}
 use Rattle.rules.proofs.conflicts.Conflict.{the-type}
 use Rattle.walk.proofs.scanning.conflict_from.Statement.{statement}

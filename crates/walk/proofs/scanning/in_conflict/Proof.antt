@@ -6,7 +6,7 @@ use native.Mathlib.Omega.{arith}
 use borrow.Author.Count.{below-more}
 use borrow.Author.Needs.{needs}
 use denote.Ref.{now}
-use Rattle.text.specs.Below.{EachBelow}
+use Rattle.finite.specs.Below.{EachBelow}
 use Rattle.walk.specs.ScanningLaws.{ApartFrom, apart-each, apart-off, apart-other-off, apart-tested}
 use Rattle.walk.proofs.scanning.in_conflict.Statement.{statement}
 use Rattle.walk.proofs.scanning.in_conflict.Tie as tie

@@ -8,7 +8,7 @@ use lib.ListN.{getD}
 use borrow.Author.Count.{below-more}
 use borrow.Author.Needs.{needs}
 use denote.Ref.{now}
-use Rattle.text.specs.Below.{EachBelow}
+use Rattle.finite.specs.Below.{EachBelow}
 use Rattle.walk.specs.ScanningLaws.{row-same}
 use Rattle.walk.proofs.scanning.same_row.Statement.{statement}
 use Rattle.walk.proofs.scanning.same_row.Tie as tie

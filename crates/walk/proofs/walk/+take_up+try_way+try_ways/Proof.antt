@@ -9,17 +9,17 @@ use borrow.Fn.Kinds.{In}
 use borrow.Fn.PlainCycle.{Measures, is, falls, and}
 use borrow.Author.Needs.{needs}
 use lib.ListN.{length-replicate}
-use Rattle.rules.specs.StationLaws.{directions-size}
-use Rattle.orders.specs.NoLater.{slack}
-use Rattle.plans.specs.Ways.{wayOf}
-use Rattle.plans.specs.WaysToldLaws.{steps-within}
+use Rattle.rules.specs.Scan.StationLaws.{directions-size}
+use Rattle.orders.specs.LeastMinutes.NoLater.{slack}
+use Rattle.plans.specs.Conflict.Ways.{wayOf}
+use Rattle.plans.specs.Contracts.WaysToldLaws.{steps-within}
 use Rattle.walk.specs.Taking.{TriesFirst}
 use Rattle.walk.specs.WalksLaws.{walks-none}
-use Rattle.plans.specs.TryingLaws.{way-there, count-most, conflict-range, is-way}
-use Rattle.plans.specs.GivenLaws.{key-long, laid-out, conflict-known}
+use Rattle.plans.specs.Contracts.TryingLaws.{way-there, count-most, conflict-range, is-way}
+use Rattle.plans.specs.Contracts.GivenLaws.{key-long, laid-out, conflict-known}
 use Rattle.walk.specs.TakenLaws.{clear-known, given-cut, given-clear, given-split, counted-low, given-fails, given-dead, next-given}
 use Rattle.walk.specs.TakenLaws.{given-alive, given-after, tries-more, tries-skip}
-use Rattle.plans.specs.NextPlansLaws.{row-few, second-there, way-chooses, next-falls}
+use Rattle.plans.specs.Contracts.NextPlansLaws.{row-few, second-there, way-chooses, next-falls}
 use Rattle.walk.proofs.walk.take_up.Reads as take-up
 use Rattle.walk.proofs.walk.take_up.Kinds as take-up-kinds
 use Rattle.walk.proofs.walk.+take_up+try_way+try_ways.Lts-take_up as take-up-lts

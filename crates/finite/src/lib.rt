@@ -1,0 +1,1 @@
+// What holds of each of finitely many, the first, how many, and sums: mathematics in specs/, no code.

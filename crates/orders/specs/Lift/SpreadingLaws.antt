@@ -1,0 +1,48 @@
+-- Laws of seeing to what follows for other trains from a path that was raised: leg by leg, those that go after it and then those that come after it.
+use Prim.Native.Nat.{ℕ, zero, suc, _-_, _≤_, _<_}
+use mathlib.Core.Path.{_≡_, subst, subst⁻¹}
+use mathlib.Core.Logic.{_⊎_, inl, inr, ⊎-elim}
+use mathlib.Core.List.{List}
+use native.Mathlib.Omega.{arith}
+use Rattle.orders.specs.LineTables.Tables.{nextIn}
+use Rattle.orders.specs.Raise.Raising.{Nothing}
+use Rattle.orders.specs.Graph.LegGraph.{LegArc, UsedLeg, legGraph, Shaped}
+use Rattle.orders.specs.Lift.Lifting.{Alive, Any, Followed, After, Gone, Going}
+use Rattle.orders.specs.Lift.RaisedPaths.{AsideOf}
+use Rattle.orders.specs.Lift.LiftingLaws.{going-then, going-skip, followed}
+
+-- what leaves the legs that are left from f on to other trains, but for those that go after leg f's train on its segment: these are done
+abbrev pub RestAside : List ℕ → ℕ → ℕ → LegArc → Type 0
+RestAside t left f a = Gone f a ⊎ AsideOf t (left - 1) (nextIn t f) a
+
+aside-first : (t : List ℕ) (left k f : ℕ) (a : LegArc) → left ≡ suc k → AsideOf t left f a → After f a ⊎ (Gone f a ⊎ AsideOf t k (nextIn t f) a)
+unfolding AsideOf
+aside-first t left k f a q d =
+    ⊎-elim (λ o. ⊎-elim (λ x. inl x) (λ x. inr (inl x)) o) (λ o. inr (inr o)) (subst (λ (x : ℕ). AsideOf t x f a) q d)
+
+aside-none : (t : List ℕ) (left f : ℕ) (a : LegArc) → left ≤ 0 → AsideOf t left f a → ⊥
+unfolding AsideOf
+aside-none t zero f a l d = d
+aside-none t (suc k) f a l d = omega arith
+
+module _ (marks t ds : List ℕ) (src cut : ℕ) (D : LegArc → Type 0) (m n : List ℕ) (c f left : ℕ) where
+  module _ (g : Going marks t ds src cut Any D (AsideOf t left f) m n c) where
+    -- the trains that go after that of leg f
+    pub spread-after : 0 < left → (n′ : List ℕ) (r : ℕ) → Followed (After f) marks t ds src cut n n′ r → Alive r →
+        Going marks t ds src cut Any D (RestAside t left f) m n′ r
+    spread-after l n′ r h =
+        going-then marks t ds src cut Any D _ m n c g (After f) n′ r h (RestAside t left f) (λ a u d. aside-first t left (left - 1) f a (omega arith) d)
+
+    -- no leg is left
+    pub spread-end : left ≤ 0 → cut < 4294967295 → Followed D marks t ds src cut m n c
+    spread-end l i =
+        followed marks t ds D src cut m n c i
+        (going-skip marks t ds src cut Any D _ m n c g (Nothing (legGraph marks t ds)) (λ a u d. absurd (aside-none t left f a l d)))
+
+  -- the trains that come after that of leg f has left; the next leg is the first then
+  pub spread-gone : Going marks t ds src cut Any D (RestAside t left f) m n c → Shaped marks t ds → UsedLeg ds f → (f′ : ℕ) → f′ ≡ nextIn t f →
+      (n′ : List ℕ) (r : ℕ) → Followed (Gone f) marks t ds src cut n n′ r → Alive r →
+      Going marks t ds src cut Any D (AsideOf t (left - 1) f′) m n′ r × UsedLeg ds f′
+  spread-gone g s u f′ q n′ r h a =
+      subst⁻¹ (λ (x : ℕ). Going marks t ds src cut Any D (AsideOf t (left - 1) x) m n′ r × UsedLeg ds x) q
+      (going-then marks t ds src cut Any D _ m n c g (Gone f) n′ r h (AsideOf t (left - 1) (nextIn t f)) (λ a u d. d) a, s .next-used f u)

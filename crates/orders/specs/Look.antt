@@ -1,0 +1,3 @@
+-- A first look at a choice, before anything is raised.
+pub mod Prospects
+pub mod ProspectsLaws

@@ -1,0 +1,193 @@
+-- Laws of free arrival and weighted delay, of the tests of rules 10 to 13 (each test decides its rule), and of who stands by rule 15.
+use Prim.Native.Nat.{ℕ, zero, suc, _+_, _*_, _-_, _≤_, _<_}
+use mathlib.Core.Path.{_≡_, refl, sym, _∙_, ap}
+use mathlib.Core.Logic.{⊎-elim}
+use mathlib.Core.Bool.{Bool, true}
+use mathlib.Core.List.{List}
+use native.Mathlib.Nat.{mul-zero, mul-le-mul, mul-le-mul-left}
+use native.Mathlib.Numerals.{add-one}
+use native.Mathlib.Omega.{arith}
+use borrow.Author.Tests.{ne-eqb}
+use lib.ListN.{getD}
+use lib.Dec.{leb}
+use Rattle.finite.specs.Decide.{Decides}
+use Rattle.finite.specs.DecideLaws.{is-true, decides-and, decides-le, decides-eq}
+use Rattle.finite.specs.Below.{EachBelow, count, sum}
+use Rattle.finite.specs.LoopLaws.{count-grows, sum-more, decides-all}
+use Rattle.finite.specs.BelowLaws.{sum-most, sum-grows}
+use Rattle.line.specs.declared.Train.{Train}
+use Rattle.line.specs.declared.Line.{Line}
+use Rattle.line.specs.Record.{legsOf}
+use Rattle.line.specs.Within.{Within}
+use Rattle.rules.specs.Statement.Paths.{train, runOf, stopOf, legs, tracksAt, EachTrain}
+use Rattle.rules.specs.Statement.Minutes.{departure, arrival, lastArrival}
+use Rattle.rules.specs.StatementLaws.PathsLaws.{routed-within, legs-few, train-or-past, run-most, stop-most, decides-middle}
+use Rattle.rules.specs.Statement.Delay.{freeAfter, freeArrival, delay, weightedDelay}
+use Rattle.rules.specs.Statement.Rules.{InDays, NotEarly, Runs, Stops, NotLate, stands, Stands, standing, Room}
+use Rattle.rules.specs.Check.Tests.{departureOf, arrivalOf, startsRight, runsRight, stopsRight, endsRight, keepsRule}
+
+-- ---- free arrival
+
+module _ (l : Line) (i : ℕ) where
+  pub free-start : freeAfter l i 0 ≡ train l i .earliest + runOf l i 0
+  unfolding freeAfter
+  free-start = refl
+
+  -- the stop after leg k and the run over the next
+  pub free-next : (k : ℕ) → freeAfter l i (k + 1) ≡ freeAfter l i k + stopOf l i k + runOf l i (k + 1)
+  unfolding freeAfter
+  free-next k = rw add-one refl
+
+  -- the same with the runs and stops of the train
+  pub free-step : (k : ℕ) {a : ℕ} {runs stops : List ℕ} → runs ≡ train l i .runs → stops ≡ train l i .stops → a ≡ freeAfter l i k →
+      a + getD stops k 0 + getD runs (k + 1) 0 ≡ freeAfter l i (k + 1)
+  free-step k r s e = rw (r, s, e, free-next k) refl
+
+  -- it fits 16 bits
+  pub free-most : Within l → i < l .traffic .«train_count» → (k : ℕ) → k < legs l i → freeAfter l i k ≤ 3119 + 480 * k
+  free-most w h zero b =
+      let first : train l i .earliest ≤ 2879 = ⊎-elim (λ t. t .earliest .1) (λ e. omega (arith, ap (λ (t : Train). t .earliest) e)) (train-or-past l i w h) in
+      omega (arith, free-start, first, run-most l i w h 0 b)
+  free-most w h (suc k) b =
+      rw (← add-one)
+      (omega (arith, free-next k, free-most w h k (omega arith), stop-most l i w h k (omega arith), run-most l i w h (k + 1) (omega arith)))
+
+-- ---- weighted delay
+
+pub sum-next : (f : ℕ → ℕ) (i : ℕ) {s x : ℕ} → s ≡ sum f i → x ≡ f i → s + x ≡ sum f (i + 1)
+sum-next f i e h = rw (sum-more f i) (omega (arith, e, h))
+
+module _ (l : Line) (m : List ℕ) where
+  -- the term of train i
+  abbrev pub cost : ℕ → ℕ
+  cost i = train l i .weight * delay l m i
+
+  pub cost-start : 0 ≡ sum cost 0
+  unfolding sum
+  cost-start = refl
+
+  -- a is its last arrival and f its free arrival
+  module _ (i : ℕ) {a f k : ℕ} (legs-is : k ≡ legs l i) (last : a ≡ arrival l m i (k - 1)) (free : f ≡ freeArrival l i) where
+    pub cost-late : {w : ℕ} → w ≡ train l i .weight → w * (a - f) ≡ cost i
+    cost-late e = rw (e, last, free, legs-is) refl
+
+    pub cost-none : a ≤ f → 0 ≡ cost i
+    cost-none h =
+        let none : a - f ≡ 0 = omega arith in
+        sym (ap (λ (d : ℕ). train l i .weight * d) none ∙ mul-zero _) ∙ cost-late refl
+
+  pub cost-end : {s n : ℕ} → s ≡ sum cost n → n ≡ l .traffic .«train_count» → s ≡ weightedDelay l m
+  unfolding weightedDelay
+  cost-end e h = e ∙ ap (sum cost) h
+
+  -- a train costs at most 99 times 2,879
+  pub cost-most : Within l → EachTrain l (InDays l m) → weightedDelay l m ≤ l .traffic .«train_count» * 285021
+  unfolding weightedDelay
+  cost-most w days = sum-most cost 285021 (l .traffic .«train_count») (λ i h.
+      ⊎-elim
+      (λ t.
+      let some = legs-few (train l i) (routed-within _ _ t (w .stations .1)) .0 in
+      let last = days i h (legsOf (train l i) - 1) (omega arith) .1 in
+      mul-le-mul {n₂ = 99} {m₂ = 2879} (t .weight .1) (omega arith))
+      (λ e.
+      let none : train l i .weight ≡ 0 = ap (λ (t : Train). t .weight) e in
+      rw none (omega arith))
+      (train-or-past l i w h))
+
+  -- it is the sum of the trains' terms
+  pub cost-sum : weightedDelay l m ≡ sum cost (l .traffic .«train_count»)
+  unfolding weightedDelay
+  cost-sum = refl
+
+-- it does not fall as last arrivals rise
+pub delay-grows : (l : Line) (m m′ : List ℕ) → EachTrain l (λ i. lastArrival l m i ≤ lastArrival l m′ i) → weightedDelay l m ≤ weightedDelay l m′
+unfolding weightedDelay
+delay-grows l m m′ h =
+    sum-grows (cost l m) (cost l m′) (l .traffic .«train_count») (λ i n. mul-le-mul-left (train l i .weight) (omega (arith, h i n)))
+
+-- ---- each test decides its rule
+
+-- a train on this path runs right over leg k, and stops long enough after it
+abbrev pub RunAt : Train → List ℕ → ℕ → ℕ → Type 0
+RunAt t m i k = arrivalOf t m i k ≡ departureOf t m i k + getD (t .runs) k 0
+
+abbrev pub StopAt : Train → List ℕ → ℕ → ℕ → Type 0
+StopAt t m i k = arrivalOf t m i k + getD (t .stops) k 0 ≤ departureOf t m i (k + 1)
+
+module _ (l : Line) (m : List ℕ) (i : ℕ) where
+  pub decides-starts : Decides (NotEarly l m i) (startsRight l m i)
+  unfolding startsRight
+  decides-starts = decides-le _ _
+
+  pub decides-runs : Decides (Runs l m i) (runsRight l m i)
+  unfolding runsRight
+  decides-runs = decides-all (RunAt (train l i) m i) _ (legs l i) (λ k _. decides-eq _ _)
+
+  pub decides-stops : Decides (Stops l m i) (stopsRight l m i)
+  unfolding stopsRight
+  decides-stops = decides-all (StopAt (train l i) m i) _ (legs l i - 1) (λ k _. decides-le _ _)
+
+  pub decides-ends : Decides (NotLate l m i) (endsRight l m i)
+  unfolding endsRight
+  decides-ends = decides-le _ _
+
+  -- as the code tells them
+  pub starts-is : {d : ℕ} → d ≡ departure l m i 0 → leb (train l i .earliest) d ≡ startsRight l m i
+  unfolding startsRight
+  starts-is e = rw e refl
+
+  pub ends-is : {a k : ℕ} → k ≡ legs l i → a ≡ arrival l m i (k - 1) → leb a (train l i .latest) ≡ endsRight l m i
+  unfolding endsRight
+  ends-is e h = rw (h, e) refl
+
+  -- by its number
+  pub decides-10 : Decides (NotEarly l m i) (keepsRule 10 l m i)
+  unfolding keepsRule
+  decides-10 = decides-starts
+
+  pub decides-11 : Decides (Runs l m i) (keepsRule 11 l m i)
+  unfolding keepsRule
+  decides-11 = decides-runs
+
+  pub decides-12 : Decides (Stops l m i) (keepsRule 12 l m i)
+  unfolding keepsRule
+  decides-12 = decides-stops
+
+  pub decides-13 : Decides (NotLate l m i) (keepsRule 13 l m i)
+  unfolding keepsRule
+  decides-13 = decides-ends
+
+  -- rule n, as the code tells one number from the other
+  module _ (n : ℕ) {r : Bool} where
+    pub keeps-start : n ≡ 10 → r ≡ startsRight l m i → r ≡ keepsRule n l m i
+    unfolding keepsRule
+    keeps-start e h = rw e h
+
+    pub keeps-runs : n ≡ 11 → r ≡ runsRight l m i → r ≡ keepsRule n l m i
+    unfolding keepsRule
+    keeps-runs e h = rw e h
+
+    pub keeps-stops : n ≡ 12 → r ≡ stopsRight l m i → r ≡ keepsRule n l m i
+    unfolding keepsRule
+    keeps-stops e h = rw e h
+
+    pub keeps-end : n ≡ 13 → r ≡ endsRight l m i → r ≡ keepsRule n l m i
+    unfolding keepsRule
+    keeps-end e h = rw e h
+
+  pub keeps-other : (n : ℕ) → (n ≡ 10 → ⊥) → (n ≡ 11 → ⊥) → (n ≡ 12 → ⊥) → (n ≡ 13 → ⊥) → true ≡ keepsRule n l m i
+  unfolding keepsRule
+  keeps-other n a b c d = rw (ne-eqb n 10 a, ne-eqb n 11 b, ne-eqb n 12 c, ne-eqb n 13 d) refl
+
+-- ---- rule 15
+
+pub decides-stands : (l : Line) (m : List ℕ) (s t i : ℕ) → Decides (Stands l m s t i) (stands l m s t i)
+unfolding stands
+decides-stands l m s t i = decides-and (decides-middle (train l i) s) (decides-and (decides-le _ _) (decides-le _ _))
+
+-- trains that all stand at a station at one minute are no more than its tracks
+pub room-most : (l : Line) (m : List ℕ) (s : ℕ) → Room l m s → (t : ℕ) → t < 2880 → (f : ℕ → Bool) →
+    EachBelow (l .traffic .«train_count») (λ i. f i ≡ true → Stands l m s t i) → count f (l .traffic .«train_count») ≤ tracksAt l s
+unfolding standing
+room-most l m s room t day f all =
+    omega (arith, room t day, count-grows f (stands l m s t) (l .traffic .«train_count») (λ i n e. is-true (decides-stands l m s t i) (all i n e)))

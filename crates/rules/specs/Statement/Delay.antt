@@ -1,0 +1,54 @@
+-- Weighted delay, and when one timetable is to be preferred to another; the best timetable (demand 3).
+use Prim.Native.Nat.{ℕ, zero, suc, _+_, _*_, _-_, _<_}
+use mathlib.Core.Path.{_≡_}
+use mathlib.Core.Logic.{_⊎_}
+use mathlib.Core.List.{List}
+use Rattle.finite.specs.Below.{EachBelow, sum}
+use Rattle.line.specs.declared.Line.{Line}
+use Rattle.rules.specs.Statement.Paths.{train, runOf, stopOf, legs, EachTrain, EachLeg}
+use Rattle.rules.specs.Statement.Minutes.{departure, arrival, lastArrival}
+use Rattle.rules.specs.Statement.Rules.{Lawful}
+
+-- "Free arrival is earliest plus all runs and stops": when train i, alone on the line, arrives after its leg k
+unfoldable pub freeAfter : Line → ℕ → ℕ → ℕ
+freeAfter l i zero = train l i .earliest + runOf l i 0
+freeAfter l i (suc k) = freeAfter l i k + stopOf l i k + runOf l i (suc k)
+
+abbrev pub freeArrival : Line → ℕ → ℕ
+freeArrival l i = freeAfter l i (legs l i - 1)
+
+-- "A train's delay is its last arrival less its free arrival"; of lawful minutes the difference is never cut off at 0
+abbrev pub delay : Line → List ℕ → ℕ → ℕ
+delay l m i = lastArrival l m i - freeArrival l i
+
+-- "weighted delay is the sum of weight times delay"
+unfoldable pub weightedDelay : Line → List ℕ → ℕ
+weightedDelay l m = sum (λ i. train l i .weight * delay l m i) (l .traffic .«train_count»)
+
+-- "Two timetables of one line are the same when all their minutes agree"
+abbrev pub Same : Line → List ℕ → List ℕ → Type 0
+Same l m m′ = EachTrain l (λ i. EachLeg l i (λ k. (departure l m i k ≡ departure l m′ i k) × (arrival l m i k ≡ arrival l m′ i k)))
+
+-- what is compared at equal delay, of each train one after the other: "departures", "each train's in travel order"
+abbrev pub comparedCount : Line → ℕ → ℕ
+comparedCount l i = legs l i
+
+abbrev pub compared : Line → List ℕ → ℕ → ℕ → ℕ
+compared l m i k = departure l m i k
+
+-- "departures are compared from train 1 up": m has the earlier minute at the first that differs, number `place` of train `who`
+pub record Earlier (l : Line) (m m′ : List ℕ) : Type 0 where
+  pub who : ℕ
+  pub place : ℕ
+  pub real : (who < l .traffic .«train_count») × (place < comparedCount l who)
+  pub alike : EachTrain l (λ i. EachBelow (comparedCount l i) (λ k. (i < who) ⊎ ((i ≡ who) × (k < place)) → compared l m i k ≡ compared l m′ i k))
+  pub less : compared l m who place < compared l m′ who place
+
+-- m is to be preferred: it has the smaller weighted delay, or the same and the earlier departures
+abbrev pub Preferred : Line → List ℕ → List ℕ → Type 0
+Preferred l m m′ = (weightedDelay l m < weightedDelay l m′) ⊎ ((weightedDelay l m ≡ weightedDelay l m′) × Earlier l m m′)
+
+-- m keeps every rule, and is to be preferred to every other timetable that does
+pub record Best (l : Line) (m : List ℕ) : Type 0 where
+  pub lawful : Lawful l m
+  pub preferred : (m′ : List ℕ) → Lawful l m′ → (Same l m m′ → ⊥) → Preferred l m m′
