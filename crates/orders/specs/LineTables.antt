@@ -1,6 +1,5 @@
--- The tables of a line that raising reads: their layout and entries (`Tables`), entries one at a time as the code makes them (`TableEntries`), and their laws.
+-- The tables of a line that raising reads: their layout and entries (`Tables`), how loops fill them (`FillLaws`), and what their entries are.
 pub mod Tables
-pub mod TableEntries
 pub mod FillLaws
 pub mod TablesLaws
 pub mod TableLegsLaws

@@ -2,8 +2,10 @@
 ghost use mathlib.Core.Path.{_≡_};
 ghost use Prim.Native.Nat.{_≤_, _<_};
 ghost use lib.ListN.{length};
+ghost use Rattle.orders.specs.LineTables.Tables.{tableSize};
 ghost use Rattle.orders.specs.Graph.LegGraph.{stationOf, leaving, comesOn};
 ghost use Rattle.orders.specs.Raise.LegTimes.{CanGoBehind, GoesBehind, sourceOf};
+use crate::tables::Tables;
 use crate::tables::following_at;
 use crate::tables::opposing_at;
 use crate::tables::shared_at;
@@ -14,7 +16,7 @@ pub struct Behind {
     pub arrival: u16,
 }
 
-pub fn times_behind(m: &[u16; 352], t: &[u16; 1456], ds: &[u16; 176], e: usize, j: usize) -> Behind
+pub fn times_behind(m: &[u16; 352], t: &Tables, ds: &[u16; 176], e: usize, j: usize) -> Behind
     requires { ⌜ CanGoBehind (now m) (now t) (now ds) e j ⌝ }
     ensures { λ r. ⌜ GoesBehind (now (m .entry)) (now (t .entry)) (now (ds .entry)) e j (r .departure) (r .arrival) × (r .departure ≤ 2939) × (r .arrival ≤ 2939) ⌝ }
 {
@@ -38,8 +40,8 @@ pub fn times_behind(m: &[u16; 352], t: &[u16; 1456], ds: &[u16; 176], e: usize, 
 }
 
 // The event that this choice starts from.
-pub fn source_of(t: &[u16; 1456], ds: &[u16; 176], e: usize, j: usize) -> usize
-    requires { ⌜ (length (now t) ≡ 1456) × (length (now ds) ≡ 176) × (e < 176) × (j < 12) ⌝ }
+pub fn source_of(t: &Tables, ds: &[u16; 176], e: usize, j: usize) -> usize
+    requires { ⌜ (length (now t) ≡ tableSize) × (length (now ds) ≡ 176) × (e < 176) × (j < 12) ⌝ }
     ensures { λ r. ⌜ r ≡ sourceOf (now (t .entry)) (now (ds .entry)) e j ⌝ }
 {
     if ds[e] == ds[16 * (e / 16) + j] {

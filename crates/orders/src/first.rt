@@ -2,16 +2,13 @@
 ghost use mathlib.Core.Path.{_≡_};
 ghost use Prim.Native.Nat.{_/_, _%_, _<_};
 ghost use Rattle.finite.specs.Decide.{Decides};
-ghost use Rattle.line.specs.Within.{TrainWithin, Within};
-ghost use Rattle.rules.specs.Statement.Paths.{Uses};
-ghost use Rattle.rules.specs.Statement.Delay.{freeArrival};
-ghost use Rattle.orders.specs.LineTables.Tables.{legOn};
-ghost use Rattle.orders.specs.LeastMinutes.FirstPlan.{legMinute, freeMinutes, FreeInTime, IsFirstPlan};
-use crate::tables::free_after;
+ghost use Rattle.line.specs.Within.{Within};
+ghost use Rattle.orders.specs.Graph.LegsLaws.{Leg};
+ghost use Rattle.orders.specs.LeastMinutes.FirstPlan.{freeEntry, freeMinutes, FreeInTime, IsFirstPlan};
 use crate::tables::leg_on;
 use line::Line;
-use line::Train;
-use line::legs_between;
+use rules::delay::free_after;
+use rules::delay::free_arrival;
 use rules::delay::weighted_delay;
 use rules::directions::directions_of;
 
@@ -22,15 +19,20 @@ pub struct FirstPlan {
     pub cost: u32,
 }
 
-// The minute at entry x, of the leg that the train has there.
-fn leg_minute(train: Train, x: usize) -> u16
-    requires { ⌜ TrainWithin 12 train × (x < 352) × Uses train (x % 176 / 16) ⌝ }
-    ensures { λ r. ⌜ r ≡ legMinute x train (legOn train (x % 176 / 16)) ⌝ }
+// The minute at entry x, where a train has a leg.
+fn leg_minute(line: Line, x: usize) -> u16
+    requires { ⌜ Within line × (x < 352) × Leg line (x % 176) ⌝ }
+    ensures { λ r. ⌜ r ≡ freeEntry line x ⌝ }
 {
-    let k = leg_on(train, x % 176 / 16);
-    let arrival = free_after(train, k);
+    let e = x % 176;
+    let i = e % 16;
+    let traffic = line.traffic;
+    let train = traffic.trains[i];
+    let k = leg_on(train, e / 16);
+    let arrival = free_after(line, i, k);
     if x < 176 {
-        return arrival - train.runs[k];
+        let runs = train.runs;
+        return arrival - runs[k];
     }
     arrival
 }
@@ -47,22 +49,12 @@ fn free_minutes(line: Line) -> [u16; 352]
         let e = x % 176;
         let mut minute: u16 = 0;
         if ds[e] != 0 {
-            let traffic = line.traffic;
-            let train = traffic.trains[e % 16];
-            minute = leg_minute(train, x);
+            minute = leg_minute(line, x);
         }
         minutes[x] = minute;
         x = x + 1;
     }
     minutes
-}
-
-// When the train, alone on the line, comes to its destination.
-fn free_end(train: Train) -> u16
-    requires { ⌜ TrainWithin 12 train ⌝ }
-    ensures { λ r. ⌜ r ≡ freeArrival train ⌝ }
-{
-    free_after(train, legs_between(train.origin, train.destination) - 1)
 }
 
 // Whether each train, alone on the line, arrives in time.
@@ -75,7 +67,7 @@ fn free_in_time(line: Line) -> bool
     while i < n {
         let traffic = line.traffic;
         let train = traffic.trains[i];
-        if train.latest < free_end(train) {
+        if train.latest < free_arrival(line, i) {
             return false;
         }
         i = i + 1;

@@ -5,12 +5,14 @@ ghost use mathlib.Core.Bool.{true};
 ghost use Prim.Native.Nat.{_≤_, _<_};
 ghost use lib.ListN.{length, getD};
 ghost use Rattle.orders.specs.Plan.Bits.{inMask};
+ghost use Rattle.orders.specs.LineTables.Tables.{tableSize};
 ghost use Rattle.orders.specs.Graph.LegGraph.{leaving};
 ghost use Rattle.orders.specs.Lift.Lifting.{Ready, Choosing, Follows, Comes, NoneChosen};
 ghost use Rattle.orders.specs.Look.Prospects.{NoneFrom, GoesBefore};
 use crate::arcs::coming_leg;
 use crate::arcs::times_behind;
 use crate::bits::has_bit;
+use crate::tables::Tables;
 use crate::tables::last_at;
 use crate::tables::limit_at;
 use crate::tables::next_at;
@@ -23,7 +25,7 @@ use crate::times::more_cost;
 fn end_fails(
     m: &[u16; 352],
     marks: &[u16; 368],
-    t: &[u16; 1456],
+    t: &Tables,
     ds: &[u16; 176],
     e: usize,
     arrival: u16,
@@ -48,7 +50,7 @@ fn end_fails(
 fn train_fails(
     m: &[u16; 352],
     marks: &[u16; 368],
-    t: &[u16; 1456],
+    t: &Tables,
     ds: &[u16; 176],
     e: usize,
     v: u16,
@@ -77,7 +79,7 @@ fn train_fails(
 pub fn follow_fails(
     m: &[u16; 352],
     marks: &[u16; 368],
-    t: &[u16; 1456],
+    t: &Tables,
     ds: &[u16; 176],
     e: usize,
     j: usize,
@@ -105,13 +107,13 @@ pub fn follow_fails(
 // the station of leg e's departure after that train has left.
 fn goes_before(
     marks: &[u16; 368],
-    t: &[u16; 1456],
+    t: &Tables,
     ds: &[u16; 176],
     e: usize,
     f: usize,
     j: usize,
 ) -> bool
-    requires { ⌜ (length (now marks) ≡ 368) × (length (now t) ≡ 1456) × (length (now ds) ≡ 176) × (e < 176) × (f < 176) × (j < 12) ⌝ }
+    requires { ⌜ (length (now marks) ≡ 368) × (length (now t) ≡ tableSize) × (length (now ds) ≡ 176) × (e < 176) × (f < 176) × (j < 12) ⌝ }
     ensures { λ r. ⌜ (r ≡ true → GoesBefore (now (marks .entry)) (now (t .entry)) (now (ds .entry)) e f j) ⌝ }
 {
     let x = 16 * (e / 16) + j;
@@ -132,7 +134,7 @@ fn goes_before(
 pub fn come_after_fails(
     m: &[u16; 352],
     marks: &[u16; 368],
-    t: &[u16; 1456],
+    t: &Tables,
     ds: &[u16; 176],
     e: usize,
     j: usize,

@@ -14,6 +14,7 @@ use crate::arcs::leaving_row;
 use crate::arcs::source_of;
 use crate::arcs::times_behind;
 use crate::bits::next_bit;
+use crate::tables::Tables;
 use crate::tables::limit_at;
 use crate::tables::next_at;
 use crate::tables::run_at;
@@ -31,7 +32,7 @@ pub const DEAD: u32 = 4294967295;
 fn raise_leg(
     m: &mut [u16; 352],
     marks: &[u16; 368],
-    t: &[u16; 1456],
+    t: &Tables,
     ds: &[u16; 176],
     e: usize,
     v: u16,
@@ -73,7 +74,7 @@ pub struct Path {
 fn raise_path(
     m: &mut [u16; 352],
     marks: &[u16; 368],
-    t: &[u16; 1456],
+    t: &Tables,
     ds: &[u16; 176],
     e: usize,
     v: u16,
@@ -109,7 +110,7 @@ fn raise_path(
 fn lift(
     m: &mut [u16; 352],
     marks: &[u16; 368],
-    t: &[u16; 1456],
+    t: &Tables,
     ds: &[u16; 176],
     e: usize,
     v: u16,
@@ -147,7 +148,7 @@ fn lift(
 fn followers(
     m: &mut [u16; 352],
     marks: &[u16; 368],
-    t: &[u16; 1456],
+    t: &Tables,
     ds: &[u16; 176],
     e: usize,
     src: usize,
@@ -183,7 +184,7 @@ fn followers(
 fn comers(
     m: &mut [u16; 352],
     marks: &[u16; 368],
-    t: &[u16; 1456],
+    t: &Tables,
     ds: &[u16; 176],
     e: usize,
     src: usize,
@@ -219,7 +220,7 @@ fn comers(
 pub fn follow(
     m: &mut [u16; 352],
     marks: &[u16; 368],
-    t: &[u16; 1456],
+    t: &Tables,
     ds: &[u16; 176],
     e: usize,
     j: usize,
@@ -251,7 +252,7 @@ pub fn follow(
 pub fn come_after(
     m: &mut [u16; 352],
     marks: &[u16; 368],
-    t: &[u16; 1456],
+    t: &Tables,
     ds: &[u16; 176],
     e: usize,
     j: usize,

@@ -4,8 +4,9 @@ ghost use mathlib.Core.Logic.{_⊎_};
 ghost use mathlib.Core.Bool.{true, false};
 ghost use Prim.Native.Nat.{_≤_, _<_};
 ghost use lib.ListN.{length};
-ghost use Rattle.orders.specs.LineTables.Tables.{weightIn};
+ghost use Rattle.orders.specs.LineTables.Tables.{tableSize, weightIn};
 ghost use Rattle.orders.specs.Raise.LegTimes.{Departs, Arrives, SourceRises, moreCost};
+use crate::tables::Tables;
 use crate::tables::free_at;
 use crate::tables::weight_at;
 
@@ -72,8 +73,8 @@ fn wide(x: u16) -> u32
 }
 
 // What it costs more that leg e arrives at `to` and not at `from`.
-pub fn more_cost(t: &[u16; 1456], e: usize, from: u16, to: u16) -> u32
-    requires { ⌜ (length (now t) ≡ 1456) × (e < 176) × (weightIn (now t) e ≤ 99) × (from ≤ to) × (to ≤ 2879) ⌝ }
+pub fn more_cost(t: &Tables, e: usize, from: u16, to: u16) -> u32
+    requires { ⌜ (length (now t) ≡ tableSize) × (e < 176) × (weightIn (now t) e ≤ 99) × (from ≤ to) × (to ≤ 2879) ⌝ }
     ensures { λ r. ⌜ (r ≡ moreCost (now (t .entry)) e from to) × (r ≤ 285021) ⌝ }
 {
     let weight = weight_at(t, e);

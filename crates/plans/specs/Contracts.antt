@@ -11,3 +11,5 @@ pub mod TryingLaws
 pub mod NextPlansLaws
 pub mod GivenLaws
 pub mod FirstLaws
+pub mod FoundBest
+pub mod FoundBestLaws

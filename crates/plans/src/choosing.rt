@@ -9,6 +9,7 @@ use orders::prospects::follow_fails;
 use orders::raising::DEAD;
 use orders::raising::come_after;
 use orders::raising::follow;
+use orders::tables::Tables;
 
 pub fn copy_minutes(m: &[u16; 352], q: &mut [u16; 352])
     requires { ⌜ (length (now m) ≡ 352) × (length (now q) ≡ 352) ⌝ }
@@ -25,7 +26,7 @@ pub fn copy_minutes(m: &[u16; 352], q: &mut [u16; 352])
 pub fn raised(
     q: &mut [u16; 352],
     marks: &[u16; 368],
-    t: &[u16; 1456],
+    t: &Tables,
     ds: &[u16; 176],
     way: Way,
     cost: u32,
@@ -49,7 +50,7 @@ pub fn raised(
 pub fn fails(
     m: &[u16; 352],
     marks: &[u16; 368],
-    t: &[u16; 1456],
+    t: &Tables,
     ds: &[u16; 176],
     way: Way,
     cost: u32,

@@ -1,5 +1,7 @@
-// What every search over plans uses: the ways out of a conflict, raising for a choice, and the comparison with the best so far.
+// What every search over plans uses: the ways out of a conflict, raising for a choice, the comparison with the best so far, and what is
+// found in the end.
 pub mod choosing;
+pub mod found;
 pub mod ranking;
 pub mod tally;
 pub mod ways;

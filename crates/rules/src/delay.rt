@@ -3,29 +3,39 @@ ghost use mathlib.Core.Path.{_≡_};
 ghost use Prim.Native.Nat.{_+_, _*_, _<_};
 ghost use lib.ListN.{length};
 ghost use Rattle.line.specs.Within.{Within};
-ghost use Rattle.rules.specs.Statement.Paths.{Routed};
-ghost use Rattle.rules.specs.Statement.Delay.{freeArrival, weightedDelay};
+ghost use Rattle.rules.specs.Statement.Paths.{legs};
+ghost use Rattle.rules.specs.Statement.Delay.{freeAfter, freeArrival, weightedDelay};
 use crate::passages::wide;
 use crate::rules::arrival_of;
 use line::Line;
-use line::Train;
 use line::legs_between;
 
-// When the train, alone on the line, comes to its destination.
-pub fn free_arrival(train: Train) -> u32
-    requires { ⌜ Routed train ⌝ }
-    ensures { λ r. ⌜ r ≡ freeArrival train ⌝ }
+// When train i, alone on the line, arrives after its leg k.
+pub fn free_after(line: Line, i: usize, k: usize) -> u16
+    requires { ⌜ Within line × (i < line .traffic .«train_count») × (k < legs line i) ⌝ }
+    ensures { λ r. ⌜ r ≡ freeAfter line i k ⌝ }
 {
-    let legs = legs_between(train.origin, train.destination);
+    let traffic = line.traffic;
+    let train = traffic.trains[i];
     let runs = train.runs;
     let stops = train.stops;
-    let mut arrival = wide(train.earliest) + wide(runs[0]);
-    let mut k: usize = 1;
-    while k < legs {
-        arrival = arrival + wide(stops[k - 1]) + wide(runs[k]);
-        k = k + 1;
+    let mut arrival = train.earliest + runs[0];
+    let mut j: usize = 0;
+    while j < k {
+        arrival = arrival + stops[j] + runs[j + 1];
+        j = j + 1;
     }
     arrival
+}
+
+// When train i, alone on the line, comes to its destination.
+pub fn free_arrival(line: Line, i: usize) -> u16
+    requires { ⌜ Within line × (i < line .traffic .«train_count») ⌝ }
+    ensures { λ r. ⌜ r ≡ freeArrival line i ⌝ }
+{
+    let traffic = line.traffic;
+    let train = traffic.trains[i];
+    free_after(line, i, legs_between(train.origin, train.destination) - 1)
 }
 
 // The sum of weight times delay.
@@ -41,7 +51,7 @@ pub fn weighted_delay(line: Line, m: &[u16]) -> u32
         let train = traffic.trains[i];
         let last = legs_between(train.origin, train.destination) - 1;
         let arrival = wide(arrival_of(train, m, i, last));
-        let free = free_arrival(train);
+        let free = wide(free_arrival(line, i));
         if free < arrival {
             total = total + wide(train.weight) * (arrival - free);
         }

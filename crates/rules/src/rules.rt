@@ -5,7 +5,7 @@ ghost use lib.ListN.{length};
 ghost use Rattle.line.specs.Record.{legsBetween, legsOf};
 ghost use Rattle.line.specs.Within.{Within};
 ghost use Rattle.rules.specs.Statement.Paths.{Routed, segmentBetween};
-ghost use Rattle.rules.specs.Check.Tests.{departureOf, arrivalOf, runsRight, stopsRight, keepsRule};
+ghost use Rattle.rules.specs.Check.Tests.{departureOf, arrivalOf, startsRight, runsRight, stopsRight, endsRight, keepsRule};
 ghost use Rattle.rules.specs.Check.Breaches.{trainBreach, placeOf, conflictBreach, breachOf};
 use crate::conflicts::Conflict;
 use crate::conflicts::layout_of;
@@ -52,11 +52,23 @@ pub fn arrival_of(train: Train, m: &[u16], i: usize, k: usize) -> u16
     arrives_on(m, segment_between(train.origin, train.destination, k), i)
 }
 
-// Rule 11 of every leg.
-fn runs_right(train: Train, m: &[u16], i: usize) -> bool
-    requires { ⌜ Routed train × (length (now m) ≡ 352) × (i < 12) ⌝ }
-    ensures { λ r. ⌜ r ≡ runsRight train (now (m .entry)) i ⌝ }
+// Rule 10 of train i.
+fn starts_right(line: Line, m: &[u16], i: usize) -> bool
+    requires { ⌜ Within line × (length (now m) ≡ 352) × (i < line .traffic .«train_count») ⌝ }
+    ensures { λ r. ⌜ r ≡ startsRight line (now (m .entry)) i ⌝ }
 {
+    let traffic = line.traffic;
+    let train = traffic.trains[i];
+    train.earliest <= departure_of(train, m, i, 0)
+}
+
+// Rule 11 of every leg of train i.
+fn runs_right(line: Line, m: &[u16], i: usize) -> bool
+    requires { ⌜ Within line × (length (now m) ≡ 352) × (i < line .traffic .«train_count») ⌝ }
+    ensures { λ r. ⌜ r ≡ runsRight line (now (m .entry)) i ⌝ }
+{
+    let traffic = line.traffic;
+    let train = traffic.trains[i];
     let legs = legs_between(train.origin, train.destination);
     let runs = train.runs;
     let mut k: usize = 0;
@@ -71,11 +83,13 @@ fn runs_right(train: Train, m: &[u16], i: usize) -> bool
     true
 }
 
-// Rule 12 at every middle station.
-fn stops_right(train: Train, m: &[u16], i: usize) -> bool
-    requires { ⌜ Routed train × (length (now m) ≡ 352) × (i < 12) ⌝ }
-    ensures { λ r. ⌜ r ≡ stopsRight train (now (m .entry)) i ⌝ }
+// Rule 12 of train i at every middle station.
+fn stops_right(line: Line, m: &[u16], i: usize) -> bool
+    requires { ⌜ Within line × (length (now m) ≡ 352) × (i < line .traffic .«train_count») ⌝ }
+    ensures { λ r. ⌜ r ≡ stopsRight line (now (m .entry)) i ⌝ }
 {
+    let traffic = line.traffic;
+    let train = traffic.trains[i];
     let legs = legs_between(train.origin, train.destination);
     let stops = train.stops;
     let mut k: usize = 0;
@@ -90,22 +104,35 @@ fn stops_right(train: Train, m: &[u16], i: usize) -> bool
     true
 }
 
-// Rules 10 to 13 by their number.
-fn keeps_rule(rule: u8, train: Train, m: &[u16], i: usize) -> bool
-    requires { ⌜ Routed train × (length (now m) ≡ 352) × (i < 12) ⌝ }
-    ensures { λ r. ⌜ r ≡ keepsRule rule train (now (m .entry)) i ⌝ }
+// Rule 13 of train i.
+fn ends_right(line: Line, m: &[u16], i: usize) -> bool
+    requires { ⌜ Within line × (length (now m) ≡ 352) × (i < line .traffic .«train_count») ⌝ }
+    ensures { λ r. ⌜ r ≡ endsRight line (now (m .entry)) i ⌝ }
 {
-    if rule == 10 {
-        return train.earliest <= departure_of(train, m, i, 0);
-    }
-    if rule == 11 {
-        return runs_right(train, m, i);
-    }
-    if rule == 12 {
-        return stops_right(train, m, i);
-    }
+    let traffic = line.traffic;
+    let train = traffic.trains[i];
     let last = legs_between(train.origin, train.destination) - 1;
     arrival_of(train, m, i, last) <= train.latest
+}
+
+// The rule of this number, of train i by itself.
+fn keeps_rule(rule: u8, line: Line, m: &[u16], i: usize) -> bool
+    requires { ⌜ Within line × (length (now m) ≡ 352) × (i < line .traffic .«train_count») ⌝ }
+    ensures { λ r. ⌜ r ≡ keepsRule rule line (now (m .entry)) i ⌝ }
+{
+    if rule == 10 {
+        return starts_right(line, m, i);
+    }
+    if rule == 11 {
+        return runs_right(line, m, i);
+    }
+    if rule == 12 {
+        return stops_right(line, m, i);
+    }
+    if rule == 13 {
+        return ends_right(line, m, i);
+    }
+    true
 }
 
 // The lowest train that breaks the rule.
@@ -116,9 +143,7 @@ fn train_breach(rule: u8, line: Line, m: &[u16]) -> Breach
     let n = line.traffic.train_count as usize;
     let mut i: usize = 0;
     while i < n {
-        let traffic = line.traffic;
-        let train = traffic.trains[i];
-        if !keeps_rule(rule, train, m, i) {
+        if !keeps_rule(rule, line, m, i) {
             return Breach::Rule(rule, i + 1);
         }
         i = i + 1;

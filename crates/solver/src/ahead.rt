@@ -17,6 +17,7 @@ use crate::selecting::Scored;
 use crate::selecting::Selected;
 use crate::selecting::select_conflict;
 use crate::selecting::with_place;
+use orders::tables::Tables;
 use plans::tally::Tally;
 use plans::tally::cut_of;
 use plans::ways::way_count;
@@ -73,7 +74,7 @@ fn worth_looking(hint: Hint, score: u32, cost: u32, tally: Tally) -> bool {
 fn place_scores(
     m: &[u16; 352],
     marks: &mut [u16; 368],
-    t: &[u16; 1456],
+    t: &Tables,
     ds: &[u16; 176],
     layout: Layout,
     cost: u32,
@@ -119,7 +120,7 @@ fn look_at(
     m: &[u16; 352],
     marks: &mut [u16; 368],
     best: &[u16; 352],
-    t: &[u16; 1456],
+    t: &Tables,
     ds: &[u16; 176],
     key: &[u16; 132],
     layout: Layout,
@@ -191,7 +192,7 @@ fn look_ahead(
     m: &[u16; 352],
     marks: &mut [u16; 368],
     best: &[u16; 352],
-    t: &[u16; 1456],
+    t: &Tables,
     ds: &[u16; 176],
     key: &[u16; 132],
     layout: Layout,
@@ -226,7 +227,7 @@ pub fn choose_conflict(
     former: &[u16; 352],
     marks: &mut [u16; 368],
     best: &[u16; 352],
-    t: &[u16; 1456],
+    t: &Tables,
     ds: &[u16; 176],
     key: &[u16; 132],
     layout: Layout,
@@ -255,7 +256,7 @@ pub fn chosen_prices(
     m: &[u16; 352],
     marks: &mut [u16; 368],
     best: &[u16; 352],
-    t: &[u16; 1456],
+    t: &Tables,
     ds: &[u16; 176],
     key: &[u16; 132],
     layout: Layout,

@@ -3,7 +3,8 @@
 // one.
 ghost use mathlib.Core.Path.{_≡_};
 ghost use Rattle.line.specs.Within.{Within, Arrays};
-ghost use Rattle.solver.specs.Search.Finding.{CanFind, MayImprove, Searches, Finds};
+ghost use Rattle.plans.specs.Contracts.FoundBest.{Finds};
+ghost use Rattle.solver.specs.Search.Finding.{CanFind, MayImprove, Searches};
 use crate::drawing::drawn;
 use crate::neighbourhood::keep_orders;
 use crate::search::NO_LIMIT;
@@ -13,8 +14,11 @@ use crate::selecting::first_hint;
 use line::Line;
 use orders::first::first_minutes;
 use orders::raising::DEAD;
+use orders::tables::Tables;
 use orders::tables::tables_of;
 use plans::choosing::copy_minutes;
+use plans::found::Found;
+use plans::found::found_of;
 use plans::ranking::key_of;
 use plans::tally::Tally;
 use plans::tally::cut_of;
@@ -44,12 +48,6 @@ const SECOND_NEAR: usize = 80;
 
 const LAST_NEAR: usize = 400;
 
-// The best timetable of a line, if there is one.
-pub struct Found {
-    pub found: bool,
-    pub minutes: [u16; 352],
-}
-
 // The same best so far, and no plan counted yet.
 fn afresh(tally: Tally) -> Tally
     ensures { λ r. ⌜ (r .found ≡ tally .found) × (r .delay ≡ tally .delay) × (r .steps ≡ 0) ⌝ }
@@ -65,7 +63,7 @@ fn afresh(tally: Tally) -> Tally
 fn search_within(
     m: &[u16; 352],
     best: &mut [u16; 352],
-    t: &[u16; 1456],
+    t: &Tables,
     ds: &[u16; 176],
     key: &[u16; 132],
     layout: Layout,
@@ -100,7 +98,7 @@ fn search_within(
 fn search_around(
     m: &[u16; 352],
     best: &mut [u16; 352],
-    t: &[u16; 1456],
+    t: &Tables,
     ds: &[u16; 176],
     key: &[u16; 132],
     layout: Layout,
@@ -163,7 +161,7 @@ fn free_trains(number: usize) -> u16 {
 fn search_near(
     m: &[u16; 352],
     best: &mut [u16; 352],
-    t: &[u16; 1456],
+    t: &Tables,
     ds: &[u16; 176],
     key: &[u16; 132],
     layout: Layout,
@@ -192,7 +190,7 @@ fn search_near(
 fn search_anew(
     m: &[u16; 352],
     best: &mut [u16; 352],
-    t: &[u16; 1456],
+    t: &Tables,
     ds: &[u16; 176],
     key: &[u16; 132],
     layout: Layout,
@@ -228,7 +226,7 @@ fn again_limit(tally: Tally) -> u32 {
 fn search_whole(
     m: &[u16; 352],
     best: &mut [u16; 352],
-    t: &[u16; 1456],
+    t: &Tables,
     ds: &[u16; 176],
     key: &[u16; 132],
     layout: Layout,
@@ -287,32 +285,26 @@ fn search_whole(
     search_within(m, best, t, ds, key, layout, cost, long, NO_LIMIT, last)
 }
 
-// Finds the best timetable of a line within the limits.
+// Finds the best timetable of a line within the limits; how many plans that took is not told.
 pub fn best_timetable(line: Line) -> Found
     requires { ⌜ Within line × Arrays line ⌝ }
-    ensures { λ r. ⌜ Finds line r ⌝ }
+    ensures { λ r. ⌜ Finds line r × (r .steps ≡ 0) ⌝ }
 {
     let first = first_minutes(line);
+    let none = Tally {
+        found: false,
+        delay: 0,
+        steps: 0,
+    };
     let mut best = [0u16; 352];
     if !first.in_time {
-        return Found {
-            found: false,
-            minutes: best,
-        };
+        return found_of(none, best);
     }
     let minutes = first.minutes;
     let t = tables_of(line);
     let ds = directions_of(line);
     let key = key_of(line);
     let layout = layout_of(line);
-    let none = Tally {
-        found: false,
-        delay: 0,
-        steps: 0,
-    };
     let whole = search_whole(&minutes, &mut best, &t, &ds, &key, layout, first.cost, none);
-    Found {
-        found: whole.found,
-        minutes: best,
-    }
+    found_of(afresh(whole), best)
 }

@@ -12,6 +12,7 @@ use crate::scoring::AT_ONCE;
 use crate::selecting::Hint;
 use crate::selecting::select_conflict;
 use orders::raising::DEAD;
+use orders::tables::Tables;
 use plans::choosing::copy_minutes;
 use plans::choosing::raised;
 use plans::ranking::improves;
@@ -50,7 +51,7 @@ fn copy_marks(marks: &[u16; 368], own: &mut [u16; 368])
 fn settle(
     m: &mut [u16; 352],
     marks: &mut [u16; 368],
-    t: &[u16; 1456],
+    t: &Tables,
     ds: &[u16; 176],
     way: Way,
     cost: u32,
@@ -81,7 +82,7 @@ fn forced_way(
     m: &[u16; 352],
     former: &[u16; 352],
     marks: &mut [u16; 368],
-    t: &[u16; 1456],
+    t: &Tables,
     ds: &[u16; 176],
     layout: Layout,
     cost: u32,
@@ -126,7 +127,7 @@ fn forced_price(
     m: &[u16; 352],
     marks: &[u16; 368],
     best: &[u16; 352],
-    t: &[u16; 1456],
+    t: &Tables,
     ds: &[u16; 176],
     key: &[u16; 132],
     layout: Layout,
@@ -177,7 +178,7 @@ pub fn forced_prices(
     m: &[u16; 352],
     marks: &[u16; 368],
     best: &[u16; 352],
-    t: &[u16; 1456],
+    t: &Tables,
     ds: &[u16; 176],
     key: &[u16; 132],
     layout: Layout,

@@ -10,6 +10,7 @@ use line::Kind;
 use line::Segment;
 use orders::bits::has_bit;
 use orders::raising::DEAD;
+use orders::tables::Tables;
 use plans::choosing::raised;
 use plans::ways::Way;
 use plans::ways::with_bit;
@@ -19,7 +20,7 @@ use rules::conflicts::Layout;
 fn keep_first(
     m: &mut [u16; 352],
     marks: &mut [u16; 368],
-    t: &[u16; 1456],
+    t: &Tables,
     ds: &[u16; 176],
     p: usize,
     i: usize,
@@ -80,7 +81,7 @@ fn keep_pair(
     m: &mut [u16; 352],
     marks: &mut [u16; 368],
     kept: &[u16; 352],
-    t: &[u16; 1456],
+    t: &Tables,
     ds: &[u16; 176],
     g: Segment,
     p: usize,
@@ -108,7 +109,7 @@ fn keep_train(
     m: &mut [u16; 352],
     marks: &mut [u16; 368],
     kept: &[u16; 352],
-    t: &[u16; 1456],
+    t: &Tables,
     ds: &[u16; 176],
     g: Segment,
     n: usize,
@@ -139,7 +140,7 @@ fn keep_segment(
     m: &mut [u16; 352],
     marks: &mut [u16; 368],
     kept: &[u16; 352],
-    t: &[u16; 1456],
+    t: &Tables,
     ds: &[u16; 176],
     g: Segment,
     n: usize,
@@ -170,7 +171,7 @@ pub fn keep_orders(
     m: &mut [u16; 352],
     marks: &mut [u16; 368],
     kept: &[u16; 352],
-    t: &[u16; 1456],
+    t: &Tables,
     ds: &[u16; 176],
     layout: Layout,
     free: u16,

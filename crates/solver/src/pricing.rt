@@ -5,6 +5,7 @@ ghost use lib.ListN.{length};
 ghost use Rattle.solver.specs.Selection.Pricing.{CanPrice, Prices, CanPriceWays, PricesWays, Cheapest};
 use crate::drawing::varied;
 use orders::raising::DEAD;
+use orders::tables::Tables;
 use plans::choosing::copy_minutes;
 use plans::choosing::raised;
 use plans::ways::Way;
@@ -16,7 +17,7 @@ use rules::conflicts::Conflict;
 pub fn way_price(
     m: &[u16; 352],
     marks: &mut [u16; 368],
-    t: &[u16; 1456],
+    t: &Tables,
     ds: &[u16; 176],
     way: Way,
     cost: u32,
@@ -39,7 +40,7 @@ pub fn way_price(
 pub fn way_prices(
     m: &[u16; 352],
     marks: &mut [u16; 368],
-    t: &[u16; 1456],
+    t: &Tables,
     ds: &[u16; 176],
     cost: u32,
     cut: u32,

@@ -6,6 +6,7 @@ ghost use Rattle.solver.specs.Selection.Pricing.{CanPriceWays, Scores};
 use crate::pricing::price;
 use crate::pricing::way_price;
 use orders::raising::DEAD;
+use orders::tables::Tables;
 use plans::ways::way_of;
 use rules::conflicts::Conflict;
 
@@ -110,7 +111,7 @@ pub fn score_of(prices: &[u32; 144], n: usize, cost: u32) -> u32
 pub fn way_score(
     m: &[u16; 352],
     marks: &mut [u16; 368],
-    t: &[u16; 1456],
+    t: &Tables,
     ds: &[u16; 176],
     cost: u32,
     cut: u32,

@@ -9,6 +9,7 @@ use crate::ahead::chosen_prices;
 use crate::pricing::cheapest;
 use crate::selecting::Hint;
 use orders::raising::DEAD;
+use orders::tables::Tables;
 use plans::choosing::copy_minutes;
 use plans::choosing::raised;
 use plans::ranking::improves;
@@ -42,7 +43,7 @@ pub fn take_up(
     former: &[u16; 352],
     marks: &mut [u16; 368],
     best: &mut [u16; 352],
-    t: &[u16; 1456],
+    t: &Tables,
     ds: &[u16; 176],
     key: &[u16; 132],
     layout: Layout,
@@ -107,7 +108,7 @@ fn try_ways(
     m: &[u16; 352],
     marks: &mut [u16; 368],
     best: &mut [u16; 352],
-    t: &[u16; 1456],
+    t: &Tables,
     ds: &[u16; 176],
     key: &[u16; 132],
     layout: Layout,
@@ -167,7 +168,7 @@ fn try_way(
     m: &[u16; 352],
     marks: &mut [u16; 368],
     best: &mut [u16; 352],
-    t: &[u16; 1456],
+    t: &Tables,
     ds: &[u16; 176],
     key: &[u16; 132],
     layout: Layout,

@@ -12,6 +12,7 @@ use crate::scoring::AT_ONCE;
 use crate::scoring::way_score;
 use line::Segment;
 use orders::bits::next_bit;
+use orders::tables::Tables;
 use plans::ways::way_count;
 use plans::ways::with_bit;
 use rules::conflicts::Conflict;
@@ -83,7 +84,7 @@ fn next_row(row: usize) -> usize {
 fn higher_scored(
     m: &[u16; 352],
     marks: &mut [u16; 368],
-    t: &[u16; 1456],
+    t: &Tables,
     ds: &[u16; 176],
     cost: u32,
     cut: u32,
@@ -124,7 +125,7 @@ fn in_conflict(g: Segment, ds: &[u16; 176], m: &[u16; 352], p: usize, i: usize, 
 fn with_pair(
     m: &[u16; 352],
     marks: &mut [u16; 368],
-    t: &[u16; 1456],
+    t: &Tables,
     ds: &[u16; 176],
     cost: u32,
     cut: u32,
@@ -205,7 +206,7 @@ fn near(m: &[u16; 352], p: usize, i: usize, gap: u16) -> u16
 fn with_train(
     m: &[u16; 352],
     marks: &mut [u16; 368],
-    t: &[u16; 1456],
+    t: &Tables,
     ds: &[u16; 176],
     cost: u32,
     cut: u32,
@@ -235,7 +236,7 @@ fn with_train(
 fn with_segment(
     m: &[u16; 352],
     marks: &mut [u16; 368],
-    t: &[u16; 1456],
+    t: &Tables,
     ds: &[u16; 176],
     cost: u32,
     cut: u32,
@@ -263,7 +264,7 @@ fn with_segment(
 fn with_station(
     m: &[u16; 352],
     marks: &mut [u16; 368],
-    t: &[u16; 1456],
+    t: &Tables,
     ds: &[u16; 176],
     layout: Layout,
     cost: u32,
@@ -288,7 +289,7 @@ fn with_station(
 pub fn with_place(
     m: &[u16; 352],
     marks: &mut [u16; 368],
-    t: &[u16; 1456],
+    t: &Tables,
     ds: &[u16; 176],
     layout: Layout,
     cost: u32,
@@ -369,7 +370,7 @@ fn found_score(score: u32, row: usize, place: usize) -> u32 {
 fn select_at(
     m: &[u16; 352],
     marks: &mut [u16; 368],
-    t: &[u16; 1456],
+    t: &Tables,
     ds: &[u16; 176],
     layout: Layout,
     cost: u32,
@@ -414,7 +415,7 @@ fn select_at(
 fn highest_scored(
     m: &[u16; 352],
     marks: &mut [u16; 368],
-    t: &[u16; 1456],
+    t: &Tables,
     ds: &[u16; 176],
     layout: Layout,
     cost: u32,
@@ -449,7 +450,7 @@ pub fn select_conflict(
     m: &[u16; 352],
     former: &[u16; 352],
     marks: &mut [u16; 368],
-    t: &[u16; 1456],
+    t: &Tables,
     ds: &[u16; 176],
     layout: Layout,
     cost: u32,

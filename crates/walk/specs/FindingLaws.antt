@@ -1,7 +1,7 @@
 -- What the walk from the plan without choices gives: it is the whole walk of the line, so what it finds is the best timetable, or there is none.
 use Prim.Native.Nat.{ℕ, suc, _+_, _*_, _-_, _<_}
 use mathlib.Core.Path.{_≡_, refl, sym, ap, _∙_}
-use mathlib.Core.Bool.{false}
+use mathlib.Core.Bool.{false, false≢true}
 use mathlib.Core.List.{List}
 use native.Mathlib.Omega.{arith}
 use lib.ListN.{replicate}
@@ -26,7 +26,9 @@ use Rattle.walk.specs.WalkBestLaws.{walk-best, walk-nothing}
 use Rattle.plans.specs.Contracts.Tallies.{bestOf, cutOff}
 use Rattle.walk.specs.Taking.{takenUp, planPart, Walks}
 use Rattle.walk.specs.TakingLaws.{taken-up, taken-none, taken-cut, taken-some}
-use Rattle.walk.specs.Finding.{Finds}
+use Rattle.plans.specs.Contracts.FoundBest.{foundOf}
+use Rattle.plans.specs.Contracts.FoundBestLaws.{finds-of}
+use Rattle.walk.specs.Finding.{FindsWalked}
 
 module _ (l : Line) (w : Within l) (a : Arrays l) where
   -- the fuel of the walk, once the first plan is taken up
@@ -52,7 +54,7 @@ module _ (l : Line) (w : Within l) (a : Arrays l) where
     -- what the walk from it ends with
     pub finds-walked : (best : List ℕ) {best′ marks′ : List ℕ} {y r : Tally} → y .found ≡ false → y .steps ≡ 1 →
         Walks l m free y (planPart l m free best y) marks′ best′ r →
-        Finds l (record { found = r .found; minutes = best′; steps = r .steps })
+        FindsWalked l (foundOf r best′)
     finds-walked best {best′} {marks′} {y} {r} none-yet one walks =
         let none-so-far : bestOf y best ≡ nothing = rw none-yet refl in
         let part = ap (λ (b : BestSoFar). takenUp (planning l) fuel free m b) none-so-far ∙ sym walk-is in
@@ -62,8 +64,9 @@ module _ (l : Line) (w : Within l) (a : Arrays l) where
         let all : y .steps + (takenUp (planning l) fuel free m (bestOf y best) .steps - 1) ≡ walk (planning l) .steps =
         omega (arith, one, some, ap (λ (x : Walked). x .steps) part) in
         record {
-          best = λ e. walk-best l w a best′ (sym best-is ∙ (rw e refl));
-          none = λ e. walk-nothing l w a (sym best-is ∙ (rw e refl));
+          finds =
+              finds-of l r best′ (λ e. walk-best l w a best′ (sym best-is ∙ (rw e refl))) (walks .tallied .delay-is)
+              (λ e. walk-nothing l w a (sym best-is ∙ (rw e refl)));
           steps = steps-are ∙ ap cutOff all;
         }
 
@@ -81,10 +84,11 @@ module _ (l : Line) (w : Within l) (a : Arrays l) where
             let cut : inTime l m ≡ false = is-false (decides-inTime l m) (late m (least .fit) (least .keeps)) in
             taken-up (planning l) fuel free start m nothing e ∙ taken-cut (planning l) fuel free m nothing (rw cut refl)
 
-    pub finds-nothing : (m : List ℕ) → Finds l (record { found = false; minutes = m; steps = 1 })
-    finds-nothing m =
+    pub finds-nothing : (y : Tally) (m : List ℕ) → y .found ≡ false → y .steps ≡ 1 → FindsWalked l (foundOf y m)
+    finds-nothing y m none-yet one =
         record {
-          best = λ e. let z : _≡_ {A = ℕ} 0 1 = cc in absurd (omega arith);
-          none = λ e. walk-nothing l w a (ap (λ (x : Walked). x .best) walk-one);
-          steps = ap cutOff (sym (ap (λ (x : Walked). x .steps) walk-one));
+          finds =
+              finds-of l y m (λ e. absurd (false≢true (sym none-yet ∙ e))) (λ e. absurd (false≢true (sym none-yet ∙ e)))
+              (λ e. walk-nothing l w a (ap (λ (x : Walked). x .best) walk-one));
+          steps = one ∙ ap cutOff (sym (ap (λ (x : Walked). x .steps) walk-one));
         }

@@ -1,35 +1,31 @@
 // The best timetable of a line: the walk from the plan without choices.
 ghost use Rattle.line.specs.Within.{Within, Arrays};
-ghost use Rattle.walk.specs.Finding.{Finds};
+ghost use Rattle.walk.specs.Finding.{FindsWalked};
 use crate::walk::take_up;
 use line::Line;
 use orders::first::first_minutes;
 use orders::tables::tables_of;
+use plans::found::Found;
+use plans::found::found_of;
 use plans::ranking::key_of;
 use plans::tally::Tally;
 use rules::conflicts::layout_of;
 use rules::directions::directions_of;
 
-// The best timetable of a line, if there is one, and how many plans were taken up to find it, cut off at 4,294,967,295.
-pub struct Found {
-    pub found: bool,
-    pub minutes: [u16; 352],
-    pub steps: u32,
-}
-
-// Finds the best timetable of a line within the limits.
+// Finds the best timetable of a line within the limits, and counts the plans of the walk.
 pub fn best_of(line: Line) -> Found
     requires { ⌜ Within line × Arrays line ⌝ }
-    ensures { λ r. ⌜ Finds line r ⌝ }
+    ensures { λ r. ⌜ FindsWalked line r ⌝ }
 {
     let first = first_minutes(line);
+    let none = Tally {
+        found: false,
+        delay: 0,
+        steps: 1,
+    };
     let mut best = [0u16; 352];
     if !first.in_time {
-        return Found {
-            found: false,
-            minutes: best,
-            steps: 1,
-        };
+        return found_of(none, best);
     }
     let minutes = first.minutes;
     let t = tables_of(line);
@@ -37,11 +33,6 @@ pub fn best_of(line: Line) -> Found
     let key = key_of(line);
     let layout = layout_of(line);
     let mut marks = [0u16; 368];
-    let none = Tally {
-        found: false,
-        delay: 0,
-        steps: 1,
-    };
     let tally = take_up(
         &minutes,
         &minutes,
@@ -55,9 +46,5 @@ pub fn best_of(line: Line) -> Found
         first.cost,
         none,
     );
-    Found {
-        found: tally.found,
-        minutes: best,
-        steps: tally.steps,
-    }
+    found_of(tally, best)
 }

@@ -4,6 +4,7 @@ ghost use Rattle.walk.specs.Taking.{CanTakeUp, TakesUp, CanTry, Tries, C
 use crate::scanning::clear_segments;
 use crate::scanning::lowest_conflict;
 use orders::raising::DEAD;
+use orders::tables::Tables;
 use plans::choosing::copy_minutes;
 use plans::choosing::fails;
 use plans::choosing::raised;
@@ -26,7 +27,7 @@ pub fn take_up(
     clear: usize,
     marks: &mut [u16; 368],
     best: &mut [u16; 352],
-    t: &[u16; 1456],
+    t: &Tables,
     ds: &[u16; 176],
     key: &[u16; 132],
     layout: Layout,
@@ -58,7 +59,7 @@ fn try_ways(
     m: &[u16; 352],
     marks: &mut [u16; 368],
     best: &mut [u16; 352],
-    t: &[u16; 1456],
+    t: &Tables,
     ds: &[u16; 176],
     key: &[u16; 132],
     layout: Layout,
@@ -89,7 +90,7 @@ fn try_way(
     m: &[u16; 352],
     marks: &mut [u16; 368],
     best: &mut [u16; 352],
-    t: &[u16; 1456],
+    t: &Tables,
     ds: &[u16; 176],
     key: &[u16; 132],
     layout: Layout,

@@ -7,7 +7,7 @@ use mathlib.Core.List.{List}
 use lib.ListN.{length, getD}
 use lib.Dec.{eqb}
 use Rattle.orders.specs.Plan.Bits.{inMask}
-use Rattle.orders.specs.LineTables.Tables.{runIn, stopIn, nextIn, limitIn, weightIn, restIn, lastIn, sharedIn, followingIn, opposingIn}
+use Rattle.orders.specs.LineTables.Tables.{tableSize, runIn, stopIn, nextIn, limitIn, weightIn, restIn, lastIn, sharedIn, followingIn, opposingIn}
 use Rattle.orders.specs.Raise.Raising.{Graph}
 
 -- a leg of a train takes its run, no less (`runs`) and no more (`slow`); the train's next leg; train j after the train of this leg on the segment, by
@@ -52,19 +52,18 @@ leaving ds e = 176 + (16 * stationOf ds e + e % 16)
 abbrev pub comesOn : List ℕ → ℕ → ℕ → ℕ
 comesOn ds s j = cond (eqb (wayIn ds (16 * s + j)) 1) (16 * (s - 1) + j) (16 * s + j)
 
--- a train has leg e
-abbrev pub UsedLeg : List ℕ → ℕ → Type 0
-UsedLeg ds e = (e < 176) × (wayIn ds e ≡ 0 → ⊥)
-
 module _ (marks t ds : List ℕ) where
+  abbrev pub UsedLeg : ℕ → Type 0
+  UsedLeg e = (e < 176) × (wayIn ds e ≡ 0 → ⊥)
+
   abbrev pub UsedArc : LegArc → Type 0
-  UsedArc (runs e) = UsedLeg ds e
-  UsedArc (slow e) = UsedLeg ds e
-  UsedArc (next e) = UsedLeg ds e × (nextIn t e ≡ e → ⊥)
-  UsedArc (depart e j) = UsedLeg ds e × (j < 12) × (inMask (getD marks e 0) j ≡ true) × (doubled t ds e j ≡ true)
-  UsedArc (arrive e j) = UsedLeg ds e × (j < 12) × (inMask (getD marks e 0) j ≡ true) × (doubled t ds e j ≡ true)
-  UsedArc (after e j) = UsedLeg ds e × (j < 12) × (inMask (getD marks e 0) j ≡ true) × (doubled t ds e j ≡ false)
-  UsedArc (gone e j) = UsedLeg ds e × (j < 12) × (inMask (getD marks (leaving ds e) 0) j ≡ true)
+  UsedArc (runs e) = UsedLeg e
+  UsedArc (slow e) = UsedLeg e
+  UsedArc (next e) = UsedLeg e × (nextIn t e ≡ e → ⊥)
+  UsedArc (depart e j) = UsedLeg e × (j < 12) × (inMask (getD marks e 0) j ≡ true) × (doubled t ds e j ≡ true)
+  UsedArc (arrive e j) = UsedLeg e × (j < 12) × (inMask (getD marks e 0) j ≡ true) × (doubled t ds e j ≡ true)
+  UsedArc (after e j) = UsedLeg e × (j < 12) × (inMask (getD marks e 0) j ≡ true) × (doubled t ds e j ≡ false)
+  UsedArc (gone e j) = UsedLeg e × (j < 12) × (inMask (getD marks (leaving ds e) 0) j ≡ true)
 
   abbrev pub fromLeg : LegArc → ℕ
   fromLeg (runs e) = e
@@ -140,7 +139,7 @@ GoesOn t e f = (1 ≤ runIn t f) × (restIn t e ≡ stopIn t e + runIn t f + res
 -- train gets less from leg to leg. A stop may take 480 minutes, twice what a file may say, and so ten stops and runs 7,200.
 pub record Shaped (marks t ds : List ℕ) : Type 0 where
   pub marks-size : length marks ≡ 368
-  pub tables-size : length t ≡ 1456
+  pub tables-size : length t ≡ tableSize
   pub directions-size : length ds ≡ 176
   pub run-most : (e : ℕ) → e < 176 → runIn t e ≤ 240
   pub stop-most : (e : ℕ) → e < 176 → stopIn t e ≤ 480

@@ -10,9 +10,9 @@ use Rattle.finite.specs.Decide.{Decides}
 use Rattle.finite.specs.DecideLaws.{is-true, is-false, decides-and, decides-not, decides-lt, decides-eq}
 use Rattle.line.specs.declared.Line.{Line}
 use Rattle.line.specs.Within.{Within, Arrays}
-use Rattle.rules.specs.Statement.Paths.{train, legs, segmentOf, outbound, Uses, Middle, into, outOf}
+use Rattle.rules.specs.Statement.Paths.{train, legs, segmentOf, outbound, Uses, Middle, into, outOf, Routed}
 use Rattle.rules.specs.Statement.Minutes.{departs}
-use Rattle.rules.specs.StatementLaws.PathsLaws.{routed, uses-few, leg-uses, uses-leg, middle-legs}
+use Rattle.rules.specs.StatementLaws.PathsLaws.{routed, routed-leg, uses-few, leg-uses, uses-leg, middle-legs}
 use Rattle.rules.specs.Conflict.Directions.{usesBetween, directionsOf}
 use Rattle.rules.specs.Conflict.DirectionsLaws.{way-past, decides-between, decides-on, outbound-way}
 use Rattle.orders.specs.Graph.LegGraph.{wayIn}
@@ -24,6 +24,9 @@ Leg l e = (e % 16 < l .traffic .«train_count») × Uses (train l (e % 16)) (e /
 module _ (l : Line) (e : ℕ) where
   pub leg-test : Decides (Leg l e) (ltb (e % 16) (l .traffic .«train_count») && usesBetween (train l (e % 16) .origin) (train l (e % 16) .destination) (e / 16))
   leg-test = decides-and (decides-lt _ _) (decides-between _ _ _)
+
+  pub leg-path : Within l → Leg l e → Routed (train l (e % 16))
+  leg-path w g = routed-leg l (e % 16) w (g .0) (omega (arith, uses-leg (train l (e % 16)) (e / 16) (g .1) .1))
 
   -- the table of directions tells whether it is one
   module _ (ds : List ℕ) (few : l .traffic .«train_count» ≤ 12) (b : e < 176) (made : ds ≡ directionsOf l) where

@@ -10,7 +10,7 @@ use Rattle.line.specs.declared.Line.{Line}
 use Rattle.line.specs.Within.{Within, Arrays}
 use Rattle.rules.specs.Statement.Paths.{train, legs, segmentOf}
 use Rattle.rules.specs.Statement.Minutes.{departs}
-use Rattle.rules.specs.StatementLaws.PathsLaws.{train-within, legs-few}
+use Rattle.rules.specs.StatementLaws.PathsLaws.{legs-most}
 use Rattle.rules.specs.Conflict.Directions.{directionsOf}
 use Rattle.rules.specs.Scan.StationLaws.{directions-size}
 use Rattle.orders.specs.Plan.Bits.{inMask}
@@ -18,7 +18,7 @@ use Rattle.orders.specs.Plan.Marks.{Plan}
 use Rattle.orders.specs.Plan.TidyPlans.{Fitting, Tidy}
 use Rattle.orders.specs.LineTables.Tables.{nextIn, restIn, lastIn, restOf, tablesOf}
 use Rattle.orders.specs.LineTables.TableLegsLaws.{tables-size, run-in, run-at, stop-at, next-last, next-at, rest-at, last-at, run-most, stop-most, limit-most, weight-most, gap-most}
-use Rattle.orders.specs.LineTables.TablesLaws.{within-any, on-path, rest-start, rest-on}
+use Rattle.orders.specs.LineTables.TablesLaws.{rest-start, rest-on}
 use Rattle.orders.specs.LineTables.TablesLaws as tables
 use Rattle.orders.specs.Graph.LegGraph.{stationOf, leaving, Ends, GoesOn, Shaped}
 use Rattle.orders.specs.Graph.LegsLaws.{LegOf, train-leg, by-leg}
@@ -44,15 +44,14 @@ module _ (l : Line) (w : Within l) (r : Arrays l) where
   rest-few =
       by-leg l w r (λ e. restIn (tablesOf l) e ≤ 4800)
       (λ i k n h.
-      let t = within-any _ _ (train-within l i w (r .trains) n) (w .stations .1) in
-      omega (arith, rest-at l w r i k n h, tables.rest-most (train l i) t (legs l i - 1 - k) (omega arith), legs-few (train l i) (on-path _ t) .1))
+      omega (arith, rest-at l w r i k n h, tables.rest-most l i w n (legs l i - 1 - k) (omega arith), legs-most l i w n))
 
   rest-ends : (i k : ℕ) (n : i < l .traffic .«train_count») (h : k < legs l i) → k + 1 ≡ legs l i → Ends (tablesOf l) (departs (segmentOf (train l i) k) i)
   rest-ends i k n h m =
       let none : legs l i - 1 - k ≡ 0 = omega arith in
       let last : legs l i - 1 ≡ k = omega arith in (
         next-last l w r i k n h m,
-        rest-at l w r i k n h ∙ ap (restOf (train l i)) none ∙ sym (rest-start (train l i)),
+        rest-at l w r i k n h ∙ ap (restOf l i) none ∙ sym (rest-start l i),
         last-at l w r i k n h ∙ ap (λ (x : ℕ). departs (segmentOf (train l i) x) i) last,
       )
 
@@ -60,7 +59,7 @@ module _ (l : Line) (w : Within l) (r : Arrays l) where
       GoesOn (tablesOf l) (departs (segmentOf (train l i) k) i) (departs (segmentOf (train l i) (k + 1)) i)
   rest-goes i k n h m = (
     omega (arith, run-at l w r i (k + 1) n m, run-in l w r i (k + 1) n m .0),
-    summed (rest-at l w r i k n h) (stop-at l w r i k n h m) (run-at l w r i (k + 1) n m) (rest-at l w r i (k + 1) n m) (rest-on (train l i) k m),
+    summed (rest-at l w r i k n h) (stop-at l w r i k n h m) (run-at l w r i (k + 1) n m) (rest-at l w r i (k + 1) n m) (rest-on l i k m),
     last-at l w r i k n h ∙ sym (last-at l w r i (k + 1) n m),
   )
     where

@@ -1,5 +1,5 @@
 -- No minutes that keep rules 10 to 12 are before those of the trains alone on the line, and these keep them; so they are the least.
-use Prim.Native.Nat.{ℕ, zero, suc, _+_, _*_, _-_, _/_, _%_, _≤_, _<_}
+use Prim.Native.Nat.{ℕ, zero, suc, _+_, _-_, _/_, _%_, _≤_, _<_}
 use mathlib.Core.Path.{_≡_, refl, sym, _∙_, ap}
 use mathlib.Core.Bool.{true, false, true≢false, false≢true}
 use mathlib.Core.List.{List}
@@ -13,14 +13,12 @@ use Rattle.finite.specs.DecideLaws.{by-test, is-true}
 use Rattle.finite.specs.Below.{EachBelow}
 use Rattle.finite.specs.LoopLaws.{each-more}
 use Rattle.finite.specs.BelowLaws.{table-at, table-past, table-size}
-use Rattle.line.specs.declared.Train.{Train}
 use Rattle.line.specs.declared.Line.{Line}
-use Rattle.line.specs.Record.{legsOf}
-use Rattle.line.specs.Within.{TrainWithin, Within}
-use Rattle.rules.specs.Statement.Paths.{train, legs, runOf, segmentOf}
+use Rattle.line.specs.Within.{Within}
+use Rattle.rules.specs.Statement.Paths.{train, legs, runOf, segmentOf, Routed}
 use Rattle.rules.specs.Statement.Minutes.{departs, arrives, departure, arrival}
 use Rattle.rules.specs.Statement.Rules.{TrainRules}
-use Rattle.rules.specs.StatementLaws.PathsLaws.{train-within, legs-few, uses-leg, segment-below}
+use Rattle.rules.specs.StatementLaws.PathsLaws.{train-within, routed, legs-few, uses-leg, segment-below}
 use Rattle.rules.specs.Check.RulesLaws.{free-start, free-next}
 use Rattle.rules.specs.Statement.Delay.{freeAfter, freeArrival, weightedDelay}
 use Rattle.orders.specs.declared.first.FirstPlan.{FirstPlan}
@@ -32,38 +30,37 @@ use Rattle.orders.specs.LineTables.Tables.{legOn, onLeg}
 use Rattle.orders.specs.LineTables.FillLaws.{Begun, begun-all}
 use Rattle.orders.specs.Graph.LegsLaws.{Leg, leg-test}
 use Rattle.orders.specs.LineTables.TableLegsLaws.{on-leg, on-leg-off}
-use Rattle.orders.specs.LineTables.TablesLaws.{within-any, on-path}
 use Rattle.orders.specs.LeastMinutes.FirstPlan.{legMinute, freeEntry, freeMinutes, FreeInTime, IsFirstPlan}
 
 -- ---- free arrivals of a train
 
-module _ (t : Train) where
-  pub run-free : (k : ℕ) → getD (t .runs) k 0 ≤ freeAfter t k
-  run-free zero = omega (arith, free-start t refl refl)
-  run-free (suc k) = rw (← add-one) (omega (arith, free-next t k))
+module _ (l : Line) (i : ℕ) where
+  pub run-free : (k : ℕ) → runOf l i k ≤ freeAfter l i k
+  run-free zero = omega (arith, free-start l i)
+  run-free (suc k) = rw (← add-one) (omega (arith, free-next l i k))
 
-  free-grows : (k n : ℕ) → k ≤ n → freeAfter t k ≤ freeAfter t n
+  free-grows : (k n : ℕ) → k ≤ n → freeAfter l i k ≤ freeAfter l i n
   free-grows k zero h =
       let e : k ≡ 0 = omega arith in
       rw e (omega arith)
   free-grows k (suc n) h = elim (decLt k (suc n)) [
-    | yes b ↦ rw (← add-one) (omega (arith, free-grows k n (omega arith), free-next t n))
+    | yes b ↦ rw (← add-one) (omega (arith, free-grows k n (omega arith), free-next l i n))
     | no b ↦
         let e : k ≡ suc n = omega arith in
         rw e (omega arith)
   ]
 
-  free-last : (k : ℕ) → k < legsOf t → freeAfter t k ≤ freeArrival t
-  free-last k h = free-grows k (legsOf t - 1) (omega arith)
+  free-last : (k : ℕ) → k < legs l i → freeAfter l i k ≤ freeArrival l i
+  free-last k h = free-grows k (legs l i - 1) (omega arith)
 
 -- ---- no minutes are before them
 
 module _ (l : Line) (m : List ℕ) (i : ℕ) (h : TrainRules l m i) where
-  no-earlier : (k : ℕ) → k < legs l i → freeAfter (train l i) k ≤ arrival l m i k
-  no-earlier zero b = omega (arith, h .rule10, h .rule11 0 b, free-start (train l i) refl refl)
+  no-earlier : (k : ℕ) → k < legs l i → freeAfter l i k ≤ arrival l m i k
+  no-earlier zero b = omega (arith, h .rule10, h .rule11 0 b, free-start l i)
   no-earlier (suc k) b =
       rw (← add-one)
-      (omega (arith, no-earlier k (omega arith), h .rule12 k (omega arith), h .rule11 (k + 1) (omega arith), free-next (train l i) k))
+      (omega (arith, no-earlier k (omega arith), h .rule12 k (omega arith), h .rule11 (k + 1) (omega arith), free-next l i k))
 
 -- ---- the minutes of a line
 
@@ -72,26 +69,26 @@ unfolding freeMinutes
 minutes-size l = table-size (freeEntry l) 352
 
 module _ (l : Line) (w : Within l) (size : length (l .traffic .trains) ≡ 12) where
-  within : (i : ℕ) → i < l .traffic .«train_count» → TrainWithin 12 (train l i)
-  within i h = within-any _ _ (train-within l i w size h) (w .stations .1)
+  path : (i : ℕ) → i < l .traffic .«train_count» → Routed (train l i)
+  path i h = routed l i w size h
 
   module _ (i k : ℕ) (h : i < l .traffic .«train_count») (b : k < legs l i) where
     below : segmentOf (train l i) k < 11
-    below = segment-below (train l i) (on-path _ (within i h)) k b
+    below = segment-below (train l i) (path i h) k b
 
-    leg-at : (x : ℕ) → x < 352 → x % 176 ≡ departs (segmentOf (train l i) k) i → getD (freeMinutes l) x 0 ≡ legMinute x (train l i) k
+    leg-at : (x : ℕ) → x < 352 → x % 176 ≡ departs (segmentOf (train l i) k) i → getD (freeMinutes l) x 0 ≡ legMinute l x i k
     unfolding freeMinutes freeEntry
     leg-at x c e =
-        table-at (freeEntry l) 352 x c ∙ ap (onLeg l (legMinute x) 0) e ∙
-        on-leg l (legMinute x) 0 i k h (omega (arith, w .trains .1)) (on-path _ (within i h)) b
+        table-at (freeEntry l) 352 x c ∙ ap (onLeg l (legMinute l x) 0) e ∙
+        on-leg l (legMinute l x) 0 i k h (omega (arith, w .trains .1)) (path i h) b
 
-    departs-free : departure l (freeMinutes l) i k ≡ freeAfter (train l i) k - runOf l i k
+    departs-free : departure l (freeMinutes l) i k ≡ freeAfter l i k - runOf l i k
     departs-free =
         let x = departs (segmentOf (train l i) k) i in
         let c : x < 176 = omega (arith, below, w .trains .1) in
         leg-at x (omega arith) (omega arith) ∙ rw (lt-ltb x 176 c) refl
 
-    arrives-free : arrival l (freeMinutes l) i k ≡ freeAfter (train l i) k
+    arrives-free : arrival l (freeMinutes l) i k ≡ freeAfter l i k
     arrives-free =
         let x = departs (segmentOf (train l i) k) i in
         let c : x < 176 = omega (arith, below, w .trains .1) in
@@ -99,8 +96,8 @@ module _ (l : Line) (w : Within l) (size : length (l .traffic .trains) ≡ 12) w
 
   -- what bounds the minutes of every leg bounds all
   module _ (b : ℕ → ℕ)
-      (low : (i k : ℕ) → i < l .traffic .«train_count» → k < legs l i → freeAfter (train l i) k - runOf l i k ≤ b (departs (segmentOf (train l i) k) i))
-      (high : (i k : ℕ) → i < l .traffic .«train_count» → k < legs l i → freeAfter (train l i) k ≤ b (arrives (segmentOf (train l i) k) i)) where
+      (low : (i k : ℕ) → i < l .traffic .«train_count» → k < legs l i → freeAfter l i k - runOf l i k ≤ b (departs (segmentOf (train l i) k) i))
+      (high : (i k : ℕ) → i < l .traffic .«train_count» → k < legs l i → freeAfter l i k ≤ b (arrives (segmentOf (train l i) k) i)) where
     bounded-leg : (x i k : ℕ) → x < 352 → (h : i < l .traffic .«train_count») → k < legs l i → x % 176 ≡ departs (segmentOf (train l i) k) i →
         getD (freeMinutes l) x 0 ≤ b x
     bounded-leg x i k c h n e = elim (decLt x 176) [
@@ -121,7 +118,7 @@ module _ (l : Line) (w : Within l) (size : length (l .traffic .trains) ≡ 12) w
         (λ g.
         let u = uses-leg (train l (x % 176 % 16)) (x % 176 / 16) (g .1) in
         bounded-leg x (x % 176 % 16) (u .0) c (g .0) (u .1) (omega (arith, u .2)))
-        (λ g. rw (table-at (freeEntry l) 352 x c ∙ on-leg-off l (legMinute x) 0 (x % 176) g) (omega arith))
+        (λ g. rw (table-at (freeEntry l) 352 x c ∙ on-leg-off l (legMinute l x) 0 (x % 176) g) (omega arith))
 
     bounded : (x : ℕ) → getD (freeMinutes l) x 0 ≤ b x
     unfolding freeMinutes
@@ -135,23 +132,23 @@ module _ (l : Line) (w : Within l) (size : length (l .traffic .trains) ≡ 12) w
       record {
         trains = λ i h. record {
           rule10 =
-              (let k = legs-few (train l i) (on-path _ (within i h)) .0 in
-              omega (arith, departs-free i 0 h k, free-start (train l i) refl refl));
-          rule11 = λ k b. omega (arith, departs-free i k h b, arrives-free i k h b, run-free (train l i) k);
-          rule12 = λ k b. omega (arith, arrives-free i k h (omega arith), departs-free i (k + 1) h (omega arith), free-next (train l i) k);
+              (let k = legs-few (train l i) (path i h) .0 in
+              omega (arith, departs-free i 0 h k, free-start l i));
+          rule11 = λ k b. omega (arith, departs-free i k h b, arrives-free i k h b, run-free l i k);
+          rule12 = λ k b. omega (arith, arrives-free i k h (omega arith), departs-free i (k + 1) h (omega arith), free-next l i k);
         };
         choices = λ c o s t. absurd (free-marked c t);
       }
 
-  last-free : (i : ℕ) (h : i < l .traffic .«train_count») → arrival l (freeMinutes l) i (legs l i - 1) ≡ freeArrival (train l i)
-  last-free i h = arrives-free i (legs l i - 1) h (omega (arith, legs-few (train l i) (on-path _ (within i h)) .0))
+  last-free : (i : ℕ) (h : i < l .traffic .«train_count») → arrival l (freeMinutes l) i (legs l i - 1) ≡ freeArrival l i
+  last-free i h = arrives-free i (legs l i - 1) h (omega (arith, legs-few (train l i) (path i h) .0))
 
   module _ (ends : FreeInTime l) where
     free-fit : Fit 352 (freeMinutes l)
     free-fit = record { size = minutes-size l; within = bounded (λ _. 2879) (λ i k h b. omega (arith, days i k h b)) days }
       where
-        days : (i k : ℕ) → i < l .traffic .«train_count» → k < legs l i → freeAfter (train l i) k ≤ 2879
-        days i k h b = omega (arith, free-last (train l i) k b, ends i h, within i h .latest .1)
+        days : (i k : ℕ) → i < l .traffic .«train_count» → k < legs l i → freeAfter l i k ≤ 2879
+        days i k h b = omega (arith, free-last l i k b, ends i h, train-within l i w size h .latest .1)
 
     free-least : IsLeast 352 (Keeps l free) (replicate 352 0) (freeMinutes l)
     free-least =
@@ -160,7 +157,7 @@ module _ (l : Line) (w : Within l) (size : length (l .traffic .trains) ≡ 12) w
           keeps = free-keeps;
           above = λ e. rw (zeros 352 e) (omega arith);
           first = λ m′ f k s.
-              let at : (i j : ℕ) → i < l .traffic .«train_count» → j < legs l i → freeAfter (train l i) j ≤ arrival l m′ i j =
+              let at : (i j : ℕ) → i < l .traffic .«train_count» → j < legs l i → freeAfter l i j ≤ arrival l m′ i j =
               λ i j h b. no-earlier l m′ i (k .trains i h) j b in
               bounded (λ x. getD m′ x 0) (λ i j h b. omega (arith, at i j h b, k .trains i h .rule11 j b)) at;
         }
@@ -176,27 +173,26 @@ module _ (l : Line) (w : Within l) (size : length (l .traffic .trains) ≡ 12) w
               arith,
               n i h,
               no-earlier l m′ i (k .trains i h) (legs l i - 1)
-                  (omega (arith, legs-few (train l i) (on-path _ (within i h)) .0)),
+                  (omega (arith, legs-few (train l i) (path i h) .0)),
             ));
       }
 
 -- ---- for the code
 
-module _ (t : Train) (x : ℕ) {a k j : ℕ} (e : k ≡ j) (h : a ≡ freeAfter t k) where
-  pub minute-departs : x < 176 → a - getD (t .runs) k 0 ≡ legMinute x t j
-  minute-departs c = rw (lt-ltb x 176 c, ← e, h) refl
-
-  pub minute-arrives : 176 ≤ x → a ≡ legMinute x t j
-  minute-arrives c = rw (le-ltb x 176 c, ← e, h) refl
-
 module _ (l : Line) (x : ℕ) where
-  pub minute-leg : Leg l (x % 176) → legMinute x (train l (x % 176 % 16)) (legOn (train l (x % 176 % 16)) (x % 176 / 16)) ≡ freeEntry l x
-  unfolding freeEntry
-  minute-leg g = rw (is-true (leg-test l (x % 176)) g) refl
+  -- a is the free arrival after leg k, which the train has at the entry
+  module _ (g : Leg l (x % 176)) {a k : ℕ} (here : k ≡ legOn (train l (x % 176 % 16)) (x % 176 / 16)) (h : a ≡ freeAfter l (x % 176 % 16) k) where
+    pub minute-departs : x < 176 → a - runOf l (x % 176 % 16) k ≡ freeEntry l x
+    unfolding freeEntry
+    minute-departs c = rw (is-true (leg-test l (x % 176)) g, lt-ltb x 176 c, ← here, h) refl
+
+    pub minute-arrives : 176 ≤ x → a ≡ freeEntry l x
+    unfolding freeEntry
+    minute-arrives c = rw (is-true (leg-test l (x % 176)) g, le-ltb x 176 c, ← here, h) refl
 
   pub minute-none : (Leg l (x % 176) → ⊥) → 0 ≡ freeEntry l x
   unfolding freeEntry
-  minute-none g = sym (on-leg-off l (legMinute x) 0 (x % 176) g)
+  minute-none g = sym (on-leg-off l (legMinute l x) 0 (x % 176) g)
 
   pub minutes-made : (t : List ℕ) → Begun (freeEntry l) 352 x t → x ≡ 352 → t ≡ freeMinutes l
   unfolding freeMinutes
@@ -205,11 +201,11 @@ module _ (l : Line) (x : ℕ) where
 module _ (l : Line) (i : ℕ) where
   -- the trains before i, alone on the line, arrive in time
   abbrev pub EndsBelow : Type 0
-  EndsBelow = EachBelow i (λ j. freeArrival (train l j) ≤ train l j .latest)
+  EndsBelow = EachBelow i (λ j. freeArrival l j ≤ train l j .latest)
 
-  module _ {a : ℕ} (e : a ≡ freeArrival (train l i)) where
-    pub ends-more : EndsBelow → a ≤ train l i .latest → EachBelow (i + 1) (λ j. freeArrival (train l j) ≤ train l j .latest)
-    ends-more h b = rw add-one (each-more (λ j. freeArrival (train l j) ≤ train l j .latest) i h (omega arith))
+  module _ {a : ℕ} (e : a ≡ freeArrival l i) where
+    pub ends-more : EndsBelow → a ≤ train l i .latest → EachBelow (i + 1) (λ j. freeArrival l j ≤ train l j .latest)
+    ends-more h b = rw add-one (each-more (λ j. freeArrival l j ≤ train l j .latest) i h (omega arith))
 
     pub ends-late : i < l .traffic .«train_count» → train l i .latest < a → Decides (FreeInTime l) false
     ends-late h b = record { yea = λ z. absurd (false≢true z); nay = λ z f. omega (arith, f i h) }

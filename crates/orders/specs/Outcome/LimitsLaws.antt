@@ -18,7 +18,7 @@ use Rattle.orders.specs.Graph.LegsLaws.{train-leg, by-leg}
 
 -- from the arrival after leg k the train needs the runs and stops of the j legs after it
 rest-fits : (l : Line) (m : List ℕ) (i : ℕ) → Runs l m i → Stops l m i → (j k : ℕ) → k + j + 1 ≡ legs l i →
-    arrival l m i k + restOf (train l i) j ≤ lastArrival l m i
+    arrival l m i k + restOf l i j ≤ lastArrival l m i
 unfolding restOf
 rest-fits l m i runs stops zero k e =
     let last : k ≡ legs l i - 1 = omega arith in

@@ -6,7 +6,7 @@ use mathlib.Core.Bool.{Bool, true, false, cond}
 use mathlib.Core.List.{List}
 use lib.ListN.{length, getD}
 use Rattle.orders.specs.LeastMinutes.NoLater.{WithinDays}
-use Rattle.orders.specs.LineTables.Tables.{weightIn, freeIn, followingIn, opposingIn}
+use Rattle.orders.specs.LineTables.Tables.{tableSize, weightIn, freeIn, followingIn, opposingIn}
 use Rattle.orders.specs.Graph.LegGraph.{doubled, gapIn}
 
 -- r is the least departure, no earlier than d and v, from which the run arrives at w or later
@@ -37,7 +37,7 @@ moreCost t e a b = weightIn t e * ((b - freeIn t e) - (a - freeIn t e))
 -- the tables are of a shape by which a train behind another can be told its minutes
 pub record CanGoBehind (m t ds : List ℕ) (e j : ℕ) : Type 0 where
   pub size : length m ≡ 352
-  pub tables-size : length t ≡ 1456
+  pub tables-size : length t ≡ tableSize
   pub directions-size : length ds ≡ 176
   pub within : WithinDays m
   pub gap-most : (p : ℕ) → p < 11 → (followingIn t p ≤ 60) × (opposingIn t p ≤ 60)

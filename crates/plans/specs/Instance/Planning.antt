@@ -6,7 +6,6 @@ use lib.ListN.{replicate}
 use lib.Dec.{ltb}
 use Rattle.finite.specs.Below.{all, table}
 use Rattle.line.specs.declared.Line.{Line}
-use Rattle.rules.specs.Statement.Paths.{train}
 use Rattle.rules.specs.Statement.Rules.{Lawful}
 use Rattle.rules.specs.Statement.Delay.{weightedDelay, comparedCount, compared}
 use Rattle.rules.specs.Check.Tests.{keepsRule}
@@ -32,7 +31,7 @@ departures l m = table (λ e. cond (isLeg l (e / 11) (e % 11)) (compared l m (e 
 
 -- rule 13 of every train
 unfoldable pub inTime : Line → List ℕ → Bool
-inTime l m = all (λ i. keepsRule 13 (train l i) m i) (l .traffic .«train_count»)
+inTime l m = all (λ i. keepsRule 13 l m i) (l .traffic .«train_count»)
 
 abbrev pub planning : Line → Problem
 planning l = record {

@@ -7,7 +7,6 @@ use Rattle.finite.specs.Below.{first}
 use Rattle.line.specs.declared.Line.{Line}
 use Rattle.rules.specs.declared.conflicts.Conflict.{Conflict}
 use Rattle.rules.specs.declared.rules.Breach.{Breach}
-use Rattle.rules.specs.Statement.Paths.{train}
 use Rattle.rules.specs.Check.Tests.{keepsRule}
 use Rattle.rules.specs.Conflict.Conflicts.{conflictOf}
 
@@ -22,7 +21,7 @@ atTrain n none = Breach.None
 atTrain n (some i) = Breach.Rule n (i + 1)
 
 unfoldable pub trainBreach : ℕ → Line → List ℕ → Breach
-trainBreach n l m = atTrain n (first (λ i. not (keepsRule n (train l i) m i)) (l .traffic .«train_count»))
+trainBreach n l m = atTrain n (first (λ i. not (keepsRule n l m i)) (l .traffic .«train_count»))
 
 -- the segment or station of a conflict
 abbrev pub placeOf : Conflict → ℕ

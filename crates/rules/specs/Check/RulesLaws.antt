@@ -1,5 +1,5 @@
 -- Laws of free arrival and weighted delay, of the tests of rules 10 to 13 (each test decides its rule), and of who stands by rule 15.
-use Prim.Native.Nat.{ℕ, suc, _+_, _*_, _-_, _≤_, _<_}
+use Prim.Native.Nat.{ℕ, zero, suc, _+_, _*_, _-_, _≤_, _<_}
 use mathlib.Core.Path.{_≡_, refl, sym, _∙_, ap}
 use mathlib.Core.Logic.{⊎-elim}
 use mathlib.Core.Bool.{Bool, true}
@@ -7,7 +7,7 @@ use mathlib.Core.List.{List}
 use native.Mathlib.Nat.{mul-zero, mul-le-mul, mul-le-mul-left}
 use native.Mathlib.Numerals.{add-one}
 use native.Mathlib.Omega.{arith}
-use borrow.Author.Tests.{eq-eqb, ne-eqb}
+use borrow.Author.Tests.{ne-eqb}
 use lib.ListN.{getD}
 use lib.Dec.{leb}
 use Rattle.finite.specs.Decide.{Decides}
@@ -19,34 +19,38 @@ use Rattle.line.specs.declared.Train.{Train}
 use Rattle.line.specs.declared.Line.{Line}
 use Rattle.line.specs.Record.{legsOf}
 use Rattle.line.specs.Within.{Within}
-use Rattle.rules.specs.Statement.Paths.{train, legs, tracksAt, EachTrain}
-use Rattle.rules.specs.Statement.Minutes.{lastArrival}
-use Rattle.rules.specs.StatementLaws.PathsLaws.{routed-within, legs-few, train-or-past, decides-middle}
+use Rattle.rules.specs.Statement.Paths.{train, runOf, stopOf, legs, tracksAt, EachTrain}
+use Rattle.rules.specs.Statement.Minutes.{departure, arrival, lastArrival}
+use Rattle.rules.specs.StatementLaws.PathsLaws.{routed-within, legs-few, train-or-past, run-most, stop-most, decides-middle}
 use Rattle.rules.specs.Statement.Delay.{freeAfter, freeArrival, delay, weightedDelay}
 use Rattle.rules.specs.Statement.Rules.{InDays, NotEarly, Runs, Stops, NotLate, stands, Stands, standing, Room}
 use Rattle.rules.specs.Check.Tests.{departureOf, arrivalOf, startsRight, runsRight, stopsRight, endsRight, keepsRule}
 
 -- ---- free arrival
 
-pub free-start : (t : Train) {x y : ℕ} → x ≡ t .earliest → y ≡ getD (t .runs) 0 0 → x + y ≡ freeAfter t 0
-unfolding freeAfter
-free-start t e r = omega (arith, e, r)
+module _ (l : Line) (i : ℕ) where
+  pub free-start : freeAfter l i 0 ≡ train l i .earliest + runOf l i 0
+  unfolding freeAfter
+  free-start = refl
 
--- the stop after leg k and the run over the next
-pub free-next : (t : Train) (k : ℕ) → freeAfter t (k + 1) ≡ freeAfter t k + getD (t .stops) k 0 + getD (t .runs) (k + 1) 0
-unfolding freeAfter
-free-next t k = rw add-one refl
+  -- the stop after leg k and the run over the next
+  pub free-next : (k : ℕ) → freeAfter l i (k + 1) ≡ freeAfter l i k + stopOf l i k + runOf l i (k + 1)
+  unfolding freeAfter
+  free-next k = rw add-one refl
 
--- the stop after leg k - 1 and the run over leg k
-pub free-step : (t : Train) (k : ℕ) {a x y : ℕ} {runs stops : List ℕ} → 1 ≤ k → runs ≡ t .runs → stops ≡ t .stops → a ≡ freeAfter t (k - 1) →
-    x ≡ getD stops (k - 1) 0 → y ≡ getD runs k 0 → a + x + y ≡ freeAfter t (k + 1 - 1)
-unfolding freeAfter
-free-step t k l r s ea ex ey =
-    let next : k + 1 - 1 ≡ suc (k - 1) = omega arith in
-    let here : k ≡ suc (k - 1) = omega arith in
-    let stop = ex ∙ ap (λ (xs : List ℕ). getD xs (k - 1) 0) s in
-    let run = ey ∙ ap (λ (xs : List ℕ). getD xs k 0) r ∙ ap (λ (j : ℕ). getD (t .runs) j 0) here in
-    rw next (omega (arith, ea, stop, run))
+  -- the same with the runs and stops of the train
+  pub free-step : (k : ℕ) {a : ℕ} {runs stops : List ℕ} → runs ≡ train l i .runs → stops ≡ train l i .stops → a ≡ freeAfter l i k →
+      a + getD stops k 0 + getD runs (k + 1) 0 ≡ freeAfter l i (k + 1)
+  free-step k r s e = rw (r, s, e, free-next k) refl
+
+  -- it fits 16 bits
+  pub free-most : Within l → i < l .traffic .«train_count» → (k : ℕ) → k < legs l i → freeAfter l i k ≤ 3119 + 480 * k
+  free-most w h zero b =
+      let first : train l i .earliest ≤ 2879 = ⊎-elim (λ t. t .earliest .1) (λ e. omega (arith, ap (λ (t : Train). t .earliest) e)) (train-or-past l i w h) in
+      omega (arith, free-start, first, run-most l i w h 0 b)
+  free-most w h (suc k) b =
+      rw (← add-one)
+      (omega (arith, free-next k, free-most w h k (omega arith), stop-most l i w h k (omega arith), run-most l i w h (k + 1) (omega arith)))
 
 -- ---- weighted delay
 
@@ -63,9 +67,9 @@ module _ (l : Line) (m : List ℕ) where
   cost-start = refl
 
   -- a is its last arrival and f its free arrival
-  module _ (i : ℕ) {a f k : ℕ} (legs : k ≡ legsOf (train l i)) (last : a ≡ arrivalOf (train l i) m i (k - 1)) (free : f ≡ freeArrival (train l i)) where
+  module _ (i : ℕ) {a f k : ℕ} (legs-is : k ≡ legs l i) (last : a ≡ arrival l m i (k - 1)) (free : f ≡ freeArrival l i) where
     pub cost-late : {w : ℕ} → w ≡ train l i .weight → w * (a - f) ≡ cost i
-    cost-late e = rw (e, last, free, legs) refl
+    cost-late e = rw (e, last, free, legs-is) refl
 
     pub cost-none : a ≤ f → 0 ≡ cost i
     cost-none h =
@@ -103,56 +107,77 @@ delay-grows l m m′ h =
 
 -- ---- each test decides its rule
 
-module _ (t : Train) (m : List ℕ) (i : ℕ) where
-  -- the train runs right over leg k, and stops long enough after it
-  abbrev pub RunAt : ℕ → Type 0
-  RunAt k = arrivalOf t m i k ≡ departureOf t m i k + getD (t .runs) k 0
+-- a train on this path runs right over leg k, and stops long enough after it
+abbrev pub RunAt : Train → List ℕ → ℕ → ℕ → Type 0
+RunAt t m i k = arrivalOf t m i k ≡ departureOf t m i k + getD (t .runs) k 0
 
-  abbrev pub StopAt : ℕ → Type 0
-  StopAt k = arrivalOf t m i k + getD (t .stops) k 0 ≤ departureOf t m i (k + 1)
-
-  pub decides-runs : Decides (EachBelow (legsOf t) RunAt) (runsRight t m i)
-  unfolding runsRight
-  decides-runs = decides-all RunAt _ (legsOf t) (λ k _. decides-eq _ _)
-
-  pub decides-stops : Decides (EachBelow (legsOf t - 1) StopAt) (stopsRight t m i)
-  unfolding stopsRight
-  decides-stops = decides-all StopAt _ (legsOf t - 1) (λ k _. decides-le _ _)
-
-  -- rule n, as the code tells one number from the other
-  module _ (n : ℕ) where
-    pub keeps-start : {d : ℕ} → n ≡ 10 → d ≡ departureOf t m i 0 → leb (t .earliest) d ≡ keepsRule n t m i
-    unfolding keepsRule startsRight
-    keeps-start e h = rw (eq-eqb n 10 e, h) refl
-
-    pub keeps-runs : {r : Bool} → n ≡ 11 → r ≡ runsRight t m i → r ≡ keepsRule n t m i
-    unfolding keepsRule
-    keeps-runs e h = rw (ne-eqb n 10 (omega arith), eq-eqb n 11 e) h
-
-    pub keeps-stops : {r : Bool} → n ≡ 12 → r ≡ stopsRight t m i → r ≡ keepsRule n t m i
-    unfolding keepsRule
-    keeps-stops e h = rw (ne-eqb n 10 (omega arith), ne-eqb n 11 (omega arith), eq-eqb n 12 e) h
-
-    pub keeps-end : {a k : ℕ} → (n ≡ 10 → ⊥) → (n ≡ 11 → ⊥) → (n ≡ 12 → ⊥) → k ≡ legsOf t → a ≡ arrivalOf t m i (k - 1) → leb a (t .latest) ≡ keepsRule n t m i
-    unfolding keepsRule endsRight
-    keeps-end x y z e h = rw (ne-eqb n 10 x, ne-eqb n 11 y, ne-eqb n 12 z, h, e) refl
+abbrev pub StopAt : Train → List ℕ → ℕ → ℕ → Type 0
+StopAt t m i k = arrivalOf t m i k + getD (t .stops) k 0 ≤ departureOf t m i (k + 1)
 
 module _ (l : Line) (m : List ℕ) (i : ℕ) where
-  pub decides-10 : Decides (NotEarly l m i) (keepsRule 10 (train l i) m i)
-  unfolding keepsRule startsRight
-  decides-10 = decides-le _ _
+  pub decides-starts : Decides (NotEarly l m i) (startsRight l m i)
+  unfolding startsRight
+  decides-starts = decides-le _ _
 
-  pub decides-11 : Decides (Runs l m i) (keepsRule 11 (train l i) m i)
+  pub decides-runs : Decides (Runs l m i) (runsRight l m i)
+  unfolding runsRight
+  decides-runs = decides-all (RunAt (train l i) m i) _ (legs l i) (λ k _. decides-eq _ _)
+
+  pub decides-stops : Decides (Stops l m i) (stopsRight l m i)
+  unfolding stopsRight
+  decides-stops = decides-all (StopAt (train l i) m i) _ (legs l i - 1) (λ k _. decides-le _ _)
+
+  pub decides-ends : Decides (NotLate l m i) (endsRight l m i)
+  unfolding endsRight
+  decides-ends = decides-le _ _
+
+  -- as the code tells them
+  pub starts-is : {d : ℕ} → d ≡ departure l m i 0 → leb (train l i .earliest) d ≡ startsRight l m i
+  unfolding startsRight
+  starts-is e = rw e refl
+
+  pub ends-is : {a k : ℕ} → k ≡ legs l i → a ≡ arrival l m i (k - 1) → leb a (train l i .latest) ≡ endsRight l m i
+  unfolding endsRight
+  ends-is e h = rw (h, e) refl
+
+  -- by its number
+  pub decides-10 : Decides (NotEarly l m i) (keepsRule 10 l m i)
   unfolding keepsRule
-  decides-11 = decides-runs (train l i) m i
+  decides-10 = decides-starts
 
-  pub decides-12 : Decides (Stops l m i) (keepsRule 12 (train l i) m i)
+  pub decides-11 : Decides (Runs l m i) (keepsRule 11 l m i)
   unfolding keepsRule
-  decides-12 = decides-stops (train l i) m i
+  decides-11 = decides-runs
 
-  pub decides-13 : Decides (NotLate l m i) (keepsRule 13 (train l i) m i)
-  unfolding keepsRule endsRight
-  decides-13 = decides-le _ _
+  pub decides-12 : Decides (Stops l m i) (keepsRule 12 l m i)
+  unfolding keepsRule
+  decides-12 = decides-stops
+
+  pub decides-13 : Decides (NotLate l m i) (keepsRule 13 l m i)
+  unfolding keepsRule
+  decides-13 = decides-ends
+
+  -- rule n, as the code tells one number from the other
+  module _ (n : ℕ) {r : Bool} where
+    pub keeps-start : n ≡ 10 → r ≡ startsRight l m i → r ≡ keepsRule n l m i
+    unfolding keepsRule
+    keeps-start e h = rw e h
+
+    pub keeps-runs : n ≡ 11 → r ≡ runsRight l m i → r ≡ keepsRule n l m i
+    unfolding keepsRule
+    keeps-runs e h = rw e h
+
+    pub keeps-stops : n ≡ 12 → r ≡ stopsRight l m i → r ≡ keepsRule n l m i
+    unfolding keepsRule
+    keeps-stops e h = rw e h
+
+    pub keeps-end : n ≡ 13 → r ≡ endsRight l m i → r ≡ keepsRule n l m i
+    unfolding keepsRule
+    keeps-end e h = rw e h
+
+  pub keeps-other : (n : ℕ) → (n ≡ 10 → ⊥) → (n ≡ 11 → ⊥) → (n ≡ 12 → ⊥) → (n ≡ 13 → ⊥) → true ≡ keepsRule n l m i
+  unfolding keepsRule
+  keeps-other n a b c d = rw (ne-eqb n 10 a, ne-eqb n 11 b, ne-eqb n 12 c, ne-eqb n 13 d) refl
 
 -- ---- rule 15
 

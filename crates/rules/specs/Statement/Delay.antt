@@ -3,26 +3,23 @@ use Prim.Native.Nat.{ℕ, zero, suc, _+_, _*_, _-_, _<_}
 use mathlib.Core.Path.{_≡_}
 use mathlib.Core.Logic.{_⊎_}
 use mathlib.Core.List.{List}
-use lib.ListN.{getD}
 use Rattle.finite.specs.Below.{EachBelow, sum}
-use Rattle.line.specs.declared.Train.{Train}
 use Rattle.line.specs.declared.Line.{Line}
-use Rattle.line.specs.Record.{legsOf}
-use Rattle.rules.specs.Statement.Paths.{train, legs, EachTrain, EachLeg}
+use Rattle.rules.specs.Statement.Paths.{train, runOf, stopOf, legs, EachTrain, EachLeg}
 use Rattle.rules.specs.Statement.Minutes.{departure, arrival, lastArrival}
 use Rattle.rules.specs.Statement.Rules.{Lawful}
 
--- "Free arrival is earliest plus all runs and stops": when a train, alone on the line, arrives after its leg k
-unfoldable pub freeAfter : Train → ℕ → ℕ
-freeAfter t zero = t .earliest + getD (t .runs) 0 0
-freeAfter t (suc k) = freeAfter t k + getD (t .stops) k 0 + getD (t .runs) (suc k) 0
+-- "Free arrival is earliest plus all runs and stops": when train i, alone on the line, arrives after its leg k
+unfoldable pub freeAfter : Line → ℕ → ℕ → ℕ
+freeAfter l i zero = train l i .earliest + runOf l i 0
+freeAfter l i (suc k) = freeAfter l i k + stopOf l i k + runOf l i (suc k)
 
-abbrev pub freeArrival : Train → ℕ
-freeArrival t = freeAfter t (legsOf t - 1)
+abbrev pub freeArrival : Line → ℕ → ℕ
+freeArrival l i = freeAfter l i (legs l i - 1)
 
 -- "A train's delay is its last arrival less its free arrival"; of lawful minutes the difference is never cut off at 0
 abbrev pub delay : Line → List ℕ → ℕ → ℕ
-delay l m i = lastArrival l m i - freeArrival (train l i)
+delay l m i = lastArrival l m i - freeArrival l i
 
 -- "weighted delay is the sum of weight times delay"
 unfoldable pub weightedDelay : Line → List ℕ → ℕ

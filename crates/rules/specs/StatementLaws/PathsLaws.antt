@@ -1,5 +1,5 @@
--- Laws of paths: each train of a line within the limits has one, its legs are the segments that it uses, and a middle station lies between two legs in a
--- row.
+-- Laws of paths: each train of a line within the limits has one, with bounds of its runs and stops; its legs are the segments that it uses, and a middle
+-- station lies between two legs in a row.
 use Prim.Native.Nat.{ℕ, _+_, _-_, _≤_, _<_, min, max}
 use mathlib.Core.Path.{_≡_, refl, sym, _∙_, ap}
 use mathlib.Core.Logic.{_⊎_, ⊎-elim}
@@ -14,9 +14,10 @@ use Rattle.finite.specs.DecideLaws.{decides-and, decides-lt}
 use Rattle.finite.specs.EachLaws.{each-at, each-or}
 use Rattle.line.specs.declared.Train.{Train}
 use Rattle.line.specs.declared.Line.{Line}
+use Rattle.line.specs.Ranges.{In, run, stop}
 use Rattle.line.specs.Record.{legsBetween, legsOf}
 use Rattle.line.specs.Within.{TrainWithin, Within}
-use Rattle.rules.specs.Statement.Paths.{pastTrain, train, legs, Uses, segmentBetween, segmentOf, Middle, into, outOf, Routed}
+use Rattle.rules.specs.Statement.Paths.{pastTrain, train, runOf, stopOf, legs, Uses, segmentBetween, segmentOf, Middle, into, outOf, Routed}
 use Rattle.rules.specs.Statement.Rules.{middle}
 
 -- ---- the train of an index
@@ -50,6 +51,16 @@ module _ (l : Line) (i : ℕ) (w : Within l) (h : i < l .traffic .«train_count�
 
   pub legs-most : legs l i ≤ 11
   legs-most = ⊎-elim (λ t. legs-few (train l i) (routed-within _ _ t (w .stations .1)) .1) (λ e. omega (arith, ap legsOf e)) train-or-past
+
+  pub run-most : (k : ℕ) → k < legs l i → runOf l i k ≤ 240
+  run-most k b =
+      ⊎-elim (λ t. ⊎-elim (λ p. p .1) (λ e. omega (arith, e)) (each-or (In run) (legs l i) (train l i .runs) k 0 b (t .runs)))
+      (λ e. absurd (omega (arith, ap legsOf e))) train-or-past
+
+  pub stop-most : (k : ℕ) → k < legs l i - 1 → stopOf l i k ≤ 240
+  stop-most k b =
+      ⊎-elim (λ t. ⊎-elim (λ p. p .1) (λ e. omega (arith, e)) (each-or (In stop) (legs l i - 1) (train l i .stops) k 0 b (t .stops)))
+      (λ e. absurd (omega (arith, ap legsOf e))) train-or-past
 
 -- ---- legs and segments
 

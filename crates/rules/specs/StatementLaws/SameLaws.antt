@@ -66,7 +66,7 @@ module _ (l : Line) (m m′ : List ℕ) (s : Same l m m′) where
 
     pub delay-same : weightedDelay l m ≡ weightedDelay l m′
     unfolding weightedDelay
-    delay-same = sum-same _ _ (l .traffic .«train_count») (λ i n. ap (λ (x : ℕ). train l i .weight * (x - freeArrival (train l i))) (last-same i n))
+    delay-same = sum-same _ _ (l .traffic .«train_count») (λ i n. ap (λ (x : ℕ). train l i .weight * (x - freeArrival l i)) (last-same i n))
 
     list-same : (p : ℕ) → p < 11 → (lane : Lane) → orderList l m p lane ≡ orderList l m′ p lane
     unfolding orderList

@@ -1,19 +1,14 @@
 -- The contracts of finding the best timetable of a line: what improves the best so far, and what searches the plan without choices.
 use Prim.Native.Nat.{ℕ}
-use mathlib.Core.Path.{_≡_}
-use mathlib.Core.Bool.{true, false}
 use mathlib.Core.List.{List}
 use Rattle.line.specs.declared.Line.{Line}
 use Rattle.rules.specs.declared.conflicts.Layout.{Layout}
-use Rattle.rules.specs.Statement.Rules.{Lawful}
-use Rattle.rules.specs.Statement.Delay.{Best}
 use Rattle.orders.specs.Plan.Marks.{free}
 use Rattle.plans.specs.Instance.Planning.{planning}
 use Rattle.plans.specs.Theory.Search.{Onward, NoneBetter}
 use Rattle.plans.specs.Contracts.Tallies.{bestOf, Tallied}
 use Rattle.plans.specs.declared.tally.Tally.{Tally}
 use Rattle.solver.specs.Search.Searching.{Held, Whole}
-use Rattle.solver.specs.declared.finding.Found.{Found}
 
 -- m has the least minutes of the plan without choices, and this is what they cost
 abbrev pub FirstHeld : Line → List ℕ → List ℕ → List ℕ → List ℕ → List ℕ → Layout → ℕ → Tally → Type 0
@@ -38,8 +33,3 @@ pub record SearchedTo (l : Line) (best : List ℕ) (limit : ℕ) (y : Tally) (be
 
 abbrev pub Searches : List ℕ → List ℕ → List ℕ → List ℕ → List ℕ → Layout → ℕ → ℕ → Tally → List ℕ → Tally → Type 0
 Searches m best t ds key layout cost limit y best′ r = (l : Line) → FirstHeld l m best t ds key layout cost y → SearchedTo l best limit y best′ r
-
--- the best timetable of the line; or no timetable keeps every rule
-pub record Finds (l : Line) (r : Found) : Type 0 where
-  pub best : r .found ≡ true → Best l (r .minutes)
-  pub none : r .found ≡ false → (m : List ℕ) → Lawful l m → ⊥

@@ -1,6 +1,6 @@
 -- The laws of finding the best timetable in the terms of its contracts: each is what one way out of a function, or one call in it, asks for.
 use Prim.Native.Nat.{ℕ, _<_}
-use mathlib.Core.Path.{_≡_, refl, sym, subst}
+use mathlib.Core.Path.{_≡_, refl, sym, _∙_, subst}
 use mathlib.Core.Logic.{inl, inr}
 use mathlib.Core.Bool.{Bool, true, false, cond, false≢true}
 use mathlib.Core.List.{List}
@@ -18,6 +18,8 @@ use Rattle.plans.specs.Theory.Search.{Onward, Searched}
 use Rattle.plans.specs.Theory.SearchLaws.{onward-then, searched-dead}
 use Rattle.plans.specs.Instance.Planning.{planning}
 use Rattle.plans.specs.Instance.LineSearchedLaws.{searched-best, searched-nothing}
+use Rattle.plans.specs.Contracts.FoundBest.{foundOf, Finds}
+use Rattle.plans.specs.Contracts.FoundBestLaws.{finds-of}
 use Rattle.plans.specs.Contracts.FirstLaws.{first-late}
 use Rattle.plans.specs.Contracts.NextPlansLaws.{cut-low, recounted, recounted-best}
 use Rattle.plans.specs.Contracts.Tallies.{bestOf, cutOf, Tallied}
@@ -25,7 +27,7 @@ use Rattle.plans.specs.declared.tally.Tally.{Tally}
 use Rattle.solver.specs.Search.Searching.{Held, Sought}
 use Rattle.solver.specs.Search.SearchingLaws.{held-after}
 use Rattle.solver.specs.Search.Neighbourhood.{Searchable}
-use Rattle.solver.specs.Search.Finding.{FirstHeld, CanFind, Improved, MayImprove, SearchedTo, Searches, Finds}
+use Rattle.solver.specs.Search.Finding.{FirstHeld, CanFind, Improved, MayImprove, SearchedTo, Searches}
 
 -- ---- a tally with no plan counted
 
@@ -121,13 +123,13 @@ module _ (m best t ds key : List ℕ) (layout : Layout) (cost : ℕ) (y : Tally)
 -- ---- the line
 
 module _ (l : Line) (w : Within l) (a : Arrays l) where
-  -- what a search of everything ends with
-  pub finds-searched : (best : List ℕ) (y : Tally) (best′ : List ℕ) (r : Tally) → y .found ≡ false → SearchedTo l best 4294967295 y best′ r →
-      Finds l (record { found = r .found; minutes = best′ })
-  finds-searched best y best′ r none-yet s = record {
-    best = λ e. searched-best l w a best′ (is true e);
-    none = λ e. searched-nothing l w a (is false e);
-  }
+  -- what a search of everything ends with, with no plan counted
+  pub finds-searched : (best : List ℕ) (y : Tally) (best′ : List ℕ) (r b : Tally) → y .found ≡ false → SearchedTo l best 4294967295 y best′ r → AfreshOf r b →
+      Finds l (foundOf b best′)
+  finds-searched best y best′ r b none-yet s afresh =
+      finds-of l b best′ (λ e. searched-best l w a best′ (is true (sym (afresh .0) ∙ e)))
+      (afresh-tallied l best′ r b afresh (s .improved .tallied) .delay-is)
+      (λ e. searched-nothing l w a (is false (sym (afresh .0) ∙ e)))
     where
       is : (c : Bool) → r .found ≡ c → Searched (planning l) free nothing (cond c (found best′) nothing)
       is c e =
@@ -138,9 +140,8 @@ module _ (l : Line) (w : Within l) (a : Arrays l) where
           (record { onward = s .improved .onward; none-better = s .none-better (inl refl) }))
 
   -- no minutes of the first plan are in time
-  pub finds-nothing : ((m : List ℕ) → Fit 352 m → Keeps l free m → EachTrain l (NotLate l m) → ⊥) → (m : List ℕ) →
-      Finds l (record { found = false; minutes = m })
-  finds-nothing late m = record {
-    best = λ e. absurd (false≢true e);
-    none = λ e. searched-nothing l w a (searched-dead (planning l) free nothing (first-late l w a late));
-  }
+  pub finds-nothing : ((m : List ℕ) → Fit 352 m → Keeps l free m → EachTrain l (NotLate l m) → ⊥) → (y : Tally) (m : List ℕ) → y .found ≡ false →
+      Finds l (foundOf y m)
+  finds-nothing late y m none-yet =
+      finds-of l y m (λ e. absurd (false≢true (sym none-yet ∙ e))) (λ e. absurd (false≢true (sym none-yet ∙ e)))
+      (λ e. searched-nothing l w a (searched-dead (planning l) free nothing (first-late l w a late)))

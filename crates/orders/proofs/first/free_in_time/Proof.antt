@@ -1,10 +1,6 @@
 -- `orders::first::free_in_time` meets its contract. The invariant: the trains before i arrive in time. Assumes nothing.
 use Prim.Native.Nat.{_-_, _≤_}
-use mathlib.Core.Path.{_≡_, sym, _∙_}
 use native.Mathlib.Omega.{arith}
-use lib.ListN.{length, length-map}
-use Rattle.rules.specs.StatementLaws.PathsLaws.{train-within}
-use Rattle.orders.specs.LineTables.TablesLaws.{within-any}
 use Rattle.orders.specs.LeastMinutes.FirstPlanLaws.{EndsBelow, ends-more, ends-late, ends-all}
 use borrow.Author.Needs.{needs}
 use Rattle.orders.proofs.first.free_in_time.Statement.{statement}
@@ -28,16 +24,13 @@ mul-train c = search needs
 element-copy-out-train : tie.Need-element-copy-out-train Inv-loop μ-loop
 element-copy-out-train c = search needs
 
-free-end-requires : tie.Need-free-end-requires Inv-loop μ-loop
-free-end-requires c κs =
-    let a = c .before .before .before .before .before in
-    let size : length (a .args .line .traffic .trains) ≡ 12 = sym (length-map (a .args .line .traffic .trains) _) ∙ a .good .0 .1 .1 .1 .0 .1 .1 .1 .0 .1 .0 .1 in
-    within-any _ _ (train-within (a .args .line) _ (a .pre) size (c .before .before .loop-test .taken)) (a .pre .stations .1)
+free-arrival-requires : tie.Need-free-arrival-requires Inv-loop μ-loop
+free-arrival-requires c κs = search needs
 
 returns : tie.Need-returns Inv-loop μ-loop
 returns c =
     let t = c .before .before .before .before .before in
-    ends-late (t .before .before .before .args .line) _ (c .before .before .free-end .ensures) (t .loop-test .taken) (c .if1 .taken)
+    ends-late (t .before .before .before .args .line) _ (c .before .before .free-arrival .ensures) (t .loop-test .taken) (c .if1 .taken)
 
 add-i : tie.Need-add-i Inv-loop μ-loop
 add-i c = search needs
@@ -49,7 +42,7 @@ loop-again : tie.Need-loop-again Inv-loop μ-loop
 loop-again c =
     let t = c .before .before .before .before .before in
     let w = t .before .loop in
-    (omega (arith, t .loop-test .taken), ends-more (t .before .before .before .args .line) (w .i) (c .before .before .free-end .ensures) (w .inv .1) (c .if1 .left))
+    (omega (arith, t .loop-test .taken), ends-more (t .before .before .before .args .line) (w .i) (c .before .before .free-arrival .ensures) (w .inv .1) (c .if1 .left))
 
 returns-2 : tie.Need-returns-2 Inv-loop μ-loop
 returns-2 c = ends-all (c .before .before .before .args .line) _ (c .before .loop .inv .1) (omega (arith, c .before .loop .inv .0, c .loop-test .left))
@@ -64,7 +57,7 @@ free-in-time-spec =
     loop-holds
     mul-train
     element-copy-out-train
-    free-end-requires
+    free-arrival-requires
     returns
     add-i
     loop-less

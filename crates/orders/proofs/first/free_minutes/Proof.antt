@@ -1,16 +1,13 @@
 -- `orders::first::free_minutes` meets its contract. The invariant: the first x entries are there. The table of directions tells which are legs of a train.
 -- Assumes nothing.
 use Prim.Native.Nat.{_-_, _%_, _≤_}
-use mathlib.Core.Path.{_≡_, sym, _∙_}
+use mathlib.Core.Path.{_∙_}
 use mathlib.Core.Logic.{⊎-elim}
 use native.Mathlib.Omega.{arith}
-use lib.ListN.{length, length-map}
-use Rattle.rules.specs.StatementLaws.PathsLaws.{train-within}
 use Rattle.orders.specs.LineTables.FillLaws.{Begun, begun-none, begun-more}
 use Rattle.orders.specs.Graph.LegsLaws.{leg-is, leg-not}
-use Rattle.orders.specs.LineTables.TablesLaws.{within-any}
 use Rattle.orders.specs.LeastMinutes.FirstPlan.{freeEntry}
-use Rattle.orders.specs.LeastMinutes.FirstPlanLaws.{minute-leg, minute-none, minutes-made}
+use Rattle.orders.specs.LeastMinutes.FirstPlanLaws.{minute-none, minutes-made}
 use borrow.Author.Needs.{needs}
 use Rattle.orders.proofs.first.free_minutes.Statement.{statement}
 use Rattle.orders.proofs.first.free_minutes.Tie as tie
@@ -33,24 +30,12 @@ mul-if1 c = search needs
 array-read-if1 : tie.Need-array-read-if1 Inv-loop μ-loop
 array-read-if1 c = search needs
 
-mul-train : tie.Need-mul-train Inv-loop μ-loop
-mul-train c = search needs
-
-element-copy-out-train : tie.Need-element-copy-out-train Inv-loop μ-loop
-element-copy-out-train c =
-    let a = c .before .before .before .before .before in
-    let x = c .before .before .before .loop .x in
-    let leg = leg-is (a .args .line) (x % 176) _ (a .pre .trains .1) (omega arith) (c .before .before .before .before .directions-of .ensures) (c .before .if1 .taken) in
-    omega (arith, leg .0, a .pre .trains .1)
-
 leg-minute-requires : tie.Need-leg-minute-requires Inv-loop μ-loop
 leg-minute-requires c κs =
-    let a = c .before .before .before .before .before .before in
-    let x = c .before .before .before .before .loop .x in
-    let ds = c .before .before .before .before .before .directions-of .ensures in
-    let leg = leg-is (a .args .line) (x % 176) _ (a .pre .trains .1) (omega arith) ds (c .before .before .if1 .taken) in
-    let size : length (a .args .line .traffic .trains) ≡ 12 = sym (length-map (a .args .line .traffic .trains) _) ∙ a .good .0 .1 .1 .1 .0 .1 .1 .1 .0 .1 .0 .1 in
-    (within-any _ _ (train-within (a .args .line) _ (a .pre) size (leg .0)) (a .pre .stations .1), c .before .before .before .loop-test .taken, leg .1)
+    let a = c .before .before .before .before in
+    let x = c .before .before .loop .x in
+    let ds = c .before .before .before .directions-of .ensures in
+    (a .pre, c .before .loop-test .taken, leg-is (a .args .line) (x % 176) _ (a .pre .trains .1) (omega arith) ds (c .if1 .taken))
 
 mul-minutes : tie.Need-mul-minutes Inv-loop μ-loop
 mul-minutes c = search needs
@@ -71,8 +56,7 @@ loop-again c =
     let x = w .x in
     let b = c .before .loop-test .taken in
     let minute = ⊎-elim
-    (λ h. h .4 ∙ h .3 .ensures ∙ minute-leg (a .args .line) x
-    (leg-is (a .args .line) (x % 176) _ (a .pre .trains .1) (omega arith) (c .before .before .before .directions-of .ensures) (h .0 .taken)))
+    (λ h. h .2 ∙ h .1 .ensures)
     (λ h. h .1 ∙ minute-none (a .args .line) x
     (leg-not (a .args .line) (x % 176) _ (a .pre .trains .1) (omega arith) (c .before .before .before .directions-of .ensures) (h .0 .left)))
     (c .if1 .came) in
@@ -91,8 +75,6 @@ free-minutes-spec =
     loop-holds
     mul-if1
     array-read-if1
-    mul-train
-    element-copy-out-train
     leg-minute-requires
     mul-minutes
     array-write-minutes

@@ -36,11 +36,10 @@ path : (c : tie.After-train Inv-loop μ-loop) → Routed
 path c = routed-within _ _ (within c) (c .before .before .before .before .before .before .pre .0 .stations .1)
 
 -- a weight of at most 99 times a delay below 65,536
-most : (c : tie.After-wide2 Inv-loop μ-loop) →
-    c .wide2 .result * (c .before .before .before .wide .result - c .before .before .free-arrival .result) ≤ 99 * 65535
+most : (c : tie.After-wide3 Inv-loop μ-loop) → c .wide3 .result * (c .before .before .before .before .wide .result - c .before .before .wide2 .result) ≤ 99 * 65535
 most c =
-    mul-le-mul {n₂ = 99} {m₂ = 65535} (omega (arith, c .wide2 .ensures .0, within (c .before .before .before .before .before .before) .weight))
-    (omega (arith, c .before .before .before .wide .ensures .1))
+    mul-le-mul {n₂ = 99} {m₂ = 65535} (omega (arith, c .wide3 .ensures .0, within (c .before .before .before .before .before .before .before) .weight))
+    (omega (arith, c .before .before .before .before .wide .ensures .1))
 
 cast-n : tie.Need-cast-n Inv-loop μ-loop
 cast-n c = search needs
@@ -75,10 +74,13 @@ wide-requires : tie.Need-wide-requires Inv-loop μ-loop
 wide-requires c κs = search needs
 
 free-arrival-requires : tie.Need-free-arrival-requires Inv-loop μ-loop
-free-arrival-requires c κs = path (c .before .before .before)
+free-arrival-requires c κs = (c .before .before .before .before .before .before .before .before .before .pre .0, c .before .before .before .before .before .loop-test .taken)
 
 wide-requires-2 : tie.Need-wide-requires-2 Inv-loop μ-loop
 wide-requires-2 c κs = search needs
+
+wide-requires-3 : tie.Need-wide-requires-3 Inv-loop μ-loop
+wide-requires-3 c κs = search needs
 
 sub-total : tie.Need-sub-total Inv-loop μ-loop
 sub-total c = search needs
@@ -88,14 +90,8 @@ mul-total c = omega (arith, most c)
 
 add-total : tie.Need-add-total Inv-loop μ-loop
 add-total c =
-    let a = c .before .before .before .before .before .before .before .before .before .before .before .before in
-    omega (
-      arith,
-      most c,
-      c .before .before .before .before .before .before .before .before .before .loop .inv .2,
-      c .before .before .before .before .before .before .before .before .loop-test .taken,
-      a .pre .0 .trains,
-    )
+    let a = c .before .before .before .before .before .before .before .before .before .before .before .before .before in
+    omega (arith, most c, c .before .before .before .before .before .before .before .before .before .before .loop .inv .2, c .before .before .before .before .before .before .before .before .before .loop-test .taken, a .pre .0 .trains)
 
 add-i : tie.Need-add-i Inv-loop μ-loop
 add-i c = search needs
@@ -105,20 +101,21 @@ loop-less c = search needs
 
 loop-again : tie.Need-loop-again Inv-loop μ-loop
 loop-again c =
-    let a = c .before .before .before .before .before .before .before .before .before .before .before in
-    let i = c .before .before .before .before .before .before .before .before .loop in
-    let here = c .before .before .before .before .before .before .before .loop-test .taken in
-    let last = c .before .before .wide .ensures .0 ∙ c .before .before .before .arrival-of .ensures in
-    let legs = c .before .before .before .before .legs-between .ensures in
+    let a = c .before .before .before .before .before .before .before .before .before .before .before .before in
+    let i = c .before .before .before .before .before .before .before .before .before .loop in
+    let here = c .before .before .before .before .before .before .before .before .loop-test .taken in
+    let last = c .before .before .before .wide .ensures .0 ∙ c .before .before .before .before .arrival-of .ensures in
+    let legs = c .before .before .before .before .before .legs-between .ensures in
+    let free = c .before .wide2 .ensures .0 ∙ c .before .before .free-arrival .ensures in
     ⊎-elim
     (λ w.
-    let late = cost-late (a .args .line) (now (a .args .m)) (i .i) legs last (c .before .free-arrival .ensures) (w .1 .ensures .0) in (
+    let late = cost-late (a .args .line) (now (a .args .m)) (i .i) legs last free (w .1 .ensures .0) in (
       omega (arith, here),
       w .2 ∙ sum-next (cost (a .args .line) (now (a .args .m))) (i .i) (i .inv .1) late,
-      omega (arith, w .2, i .inv .2, most (record { before = record { before = c .before; if1 = w .0 }; wide2 = w .1 })),
+      omega (arith, w .2, i .inv .2, most (record { before = record { before = c .before; if1 = w .0 }; wide3 = w .1 })),
     ))
     (λ w.
-    let none = cost-none (a .args .line) (now (a .args .m)) (i .i) legs last (c .before .free-arrival .ensures) (w .0 .left) in
+    let none = cost-none (a .args .line) (now (a .args .m)) (i .i) legs last free (w .0 .left) in
     let next = sum-next (cost (a .args .line) (now (a .args .m))) (i .i) (i .inv .1) none in
     (omega (arith, here), omega (arith, w .1, next), omega (arith, w .1, i .inv .2)))
     (c .if1 .came)
@@ -144,6 +141,7 @@ weighted-delay-spec =
     wide-requires
     free-arrival-requires
     wide-requires-2
+    wide-requires-3
     sub-total
     mul-total
     add-total

@@ -1,14 +1,12 @@
 -- `rules::rules::train_breach` meets its contract. The invariant: every train before i keeps the rule. Assumes nothing.
 use Prim.Native.Nat.{_-_, _≤_}
-use mathlib.Core.Path.{_≡_, sym, _∙_}
+use mathlib.Core.Path.{sym, _∙_}
 use native.Mathlib.Omega.{arith}
 use denote.Ref.{now}
 use borrow.Author.Needs.{needs}
 use borrow.Author.Count.{below-none, below-more}
 use borrow.Author.Tests.{not-true, not-false}
-use lib.ListN.{length, length-map}
 use Rattle.finite.specs.Below.{EachBelow}
-use Rattle.rules.specs.StatementLaws.PathsLaws.{routed}
 use Rattle.rules.specs.Check.BreachesLaws.{RuleKept, breach-at, breach-none}
 use Rattle.rules.proofs.rules.train_breach.Statement.{statement}
 use Rattle.rules.proofs.rules.train_breach.Tie as tie
@@ -27,29 +25,17 @@ loop-holds c =
     let a = c .before .before in
     (omega arith, below-none (RuleKept (a .args .rule) (a .args .line) (now (a .args .m))))
 
-mul-train : tie.Need-mul-train Inv-loop μ-loop
-mul-train c = search needs
-
-element-copy-out-train : tie.Need-element-copy-out-train Inv-loop μ-loop
-element-copy-out-train c = search needs
-
 keeps-rule-requires : tie.Need-keeps-rule-requires Inv-loop μ-loop
-keeps-rule-requires c κs =
-    let a = c .before .before .before .before .before .before in
-    let size : length (a .args .line .traffic .trains) ≡ 12 = sym (length-map (a .args .line .traffic .trains) _) ∙ a .good .1 .0 .1 .1 .1 .0 .1 .1 .1 .0 .1 .0 .1 in (
-      routed (a .args .line) (c .before .before .before .loop .i) (a .pre .0) size (c .before .before .loop-test .taken),
-      a .pre .1,
-      omega (arith, c .before .before .loop-test .taken, a .pre .0 .trains),
-    )
+keeps-rule-requires c κs = search needs
 
-add-t14 : tie.Need-add-t14 Inv-loop μ-loop
-add-t14 c = search needs
+add-t8 : tie.Need-add-t8 Inv-loop μ-loop
+add-t8 c = search needs
 
 returns : tie.Need-returns Inv-loop μ-loop
 returns c =
-    let a = c .before .before .before .before .before .before .before .before in
-    let i = c .before .before .before .before .before .loop in
-    breach-at (a .args .rule) (a .args .line) (now (a .args .m)) (i .i) (c .before .before .before .before .loop-test .taken)
+    let a = c .before .before .before .before .before .before in
+    let i = c .before .before .before .loop in
+    breach-at (a .args .rule) (a .args .line) (now (a .args .m)) (i .i) (c .before .before .loop-test .taken)
     (sym (c .before .keeps-rule .ensures) ∙ not-true _ (c .if1 .taken)) (i .inv .1)
 
 add-i : tie.Need-add-i Inv-loop μ-loop
@@ -60,8 +46,8 @@ loop-less c = search needs
 
 loop-again : tie.Need-loop-again Inv-loop μ-loop
 loop-again c =
-    let a = c .before .before .before .before .before .before .before .before in
-    let i = c .before .before .before .before .before .loop in (
+    let a = c .before .before .before .before .before .before in
+    let i = c .before .before .before .loop in (
       omega arith,
       below-more (RuleKept (a .args .rule) (a .args .line) (now (a .args .m))) (i .i) (i .inv .1)
           (sym (c .before .keeps-rule .ensures) ∙ not-false _ (c .if1 .left)),
@@ -80,10 +66,8 @@ train-breach-spec =
     μ-loop
     cast-n
     loop-holds
-    mul-train
-    element-copy-out-train
     keeps-rule-requires
-    add-t14
+    add-t8
     returns
     add-i
     loop-less

@@ -1,6 +1,6 @@
 -- `solver::finding::best_timetable` meets its contract: a search of the first plan to its end is one of everything, or no minutes of that plan are in time.
 -- Assumes nothing.
-use mathlib.Core.Path.{refl}
+use mathlib.Core.Path.{_≡_, refl, sym, subst}
 use mathlib.Core.Bool.{false}
 use native.Mathlib.Omega.{arith}
 use borrow.Author.Needs.{needs}
@@ -9,6 +9,8 @@ use lib.ListN.{replicate}
 use Rattle.orders.specs.LeastMinutes.Least.{IsLeast}
 use Rattle.orders.specs.Plan.Marks.{free}
 use Rattle.orders.specs.Plan.Plans.{Keeps}
+use Rattle.plans.specs.declared.found.Found.{Found}
+use Rattle.plans.specs.Contracts.FoundBest.{Finds}
 use Rattle.plans.specs.Contracts.FirstLaws.{first-given, first-under}
 use Rattle.solver.specs.Search.Finding.{FirstHeld}
 use Rattle.solver.specs.Search.FindingLaws.{finds-searched, finds-nothing}
@@ -18,10 +20,15 @@ use Rattle.solver.proofs.finding.best_timetable.Tie as tie
 first-minutes-requires : tie.Need-first-minutes-requires
 first-minutes-requires c κs = search needs
 
+found-of-requires : tie.Need-found-of-requires
+found-of-requires c κs = search needs
+
 returns : tie.Need-returns
 returns c =
-    let a = c .before .before .before in
-    finds-nothing (a .args .line) (a .pre .0) (a .pre .1) (c .before .before .first-minutes .ensures .none (not-true _ (c .if1 .taken))) _
+    let a = c .before .before .before .before in
+    let late = c .before .before .before .first-minutes .ensures .none (not-true _ (c .before .if1 .taken)) in
+    let nothing = finds-nothing (a .args .line) (a .pre .0) (a .pre .1) late (record { found = false; delay = 0; steps = 0 }) (replicate 352 0) refl in
+    subst (λ (r : Found). Finds (a .args .line) r × (r .steps ≡ 0)) (sym (c .found-of .ensures)) (nothing, refl)
 
 tables-of-requires : tie.Need-tables-of-requires
 tables-of-requires c κs = search needs
@@ -64,21 +71,34 @@ first c =
 search-whole-requires : tie.Need-search-whole-requires
 search-whole-requires c κs = record { line = firstly c .before .args .line; first = first c }
 
+afresh-requires : tie.Need-afresh-requires
+afresh-requires c κs = search needs
+
+found-of-requires-2 : tie.Need-found-of-requires-2
+found-of-requires-2 c κs = search needs
+
 returns-2 : tie.Need-returns-2
 returns-2 c =
-    let b = c .before in
+    let b = c .before .before .before in
     let a = firstly b .before in
-    finds-searched (a .args .line) (a .pre .0) (a .pre .1) _ _ _ _ refl (c .search-whole .ensures (a .args .line) (first b))
+    let whole = c .before .before .search-whole in
+    let afresh = c .before .afresh in
+    let best = finds-searched (a .args .line) (a .pre .0) (a .pre .1) _ _ _ (whole .result) (afresh .result) refl
+    (whole .ensures (a .args .line) (first b)) (afresh .ensures) in
+    subst (λ (r : Found). Finds (a .args .line) r × (r .steps ≡ 0)) (sym (c .found-of2 .ensures)) (best, afresh .ensures .2)
 
 pub best-timetable-spec : {M : Type 1} → statement M
 best-timetable-spec =
     tie.close
     (tie.spec
     first-minutes-requires
+    found-of-requires
     returns
     tables-of-requires
     directions-of-requires
     key-of-requires
     layout-of-requires
     search-whole-requires
+    afresh-requires
+    found-of-requires-2
     returns-2)

@@ -9,7 +9,7 @@ best-timetable-requires : tie.Need-best-timetable-requires
 best-timetable-requires c κs = search needs
 
 returns : tie.Need-returns
-returns c = line-none _ (c .before .before .best-timetable .ensures .none (not-true _ (c .if1 .taken)))
+returns c = line-none _ (c .before .before .best-timetable .ensures .0 .none (not-true _ (c .if1 .taken)))
 
 write-requires : tie.Need-write-requires
 write-requires c κs = search needs
@@ -21,7 +21,7 @@ returns-2 : tie.Need-returns-2
 returns-2 c =
     let s = c .before .before .before .before .before .before .before .before .before in
     let found = c .before .before .before .before .before .before .before .best-timetable in
-    line-written (s .args .line) (s .pre .0) (s .pre .1) (found .result .minutes) (found .ensures .best (not-false _ (c .before .before .before .before .before .if1 .left)))
+    line-written (s .args .line) (s .pre .0) (s .pre .1) (found .result .minutes) (found .ensures .0 .best (not-false _ (c .before .before .before .before .before .if1 .left)))
     (c .before .before .write .ensures)
 
 pub solve-line-spec : {M : Type 1} → statement M

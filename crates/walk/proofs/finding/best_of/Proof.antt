@@ -1,5 +1,5 @@
 -- `walk::finding::best_of` meets its contract: the walk from the first plan is the whole walk, or no minutes of that plan are in time.
-use mathlib.Core.Path.{refl}
+use mathlib.Core.Path.{refl, sym, subst}
 use mathlib.Core.Bool.{false}
 use native.Mathlib.Omega.{arith}
 use borrow.Author.Needs.{needs}
@@ -11,6 +11,7 @@ use Rattle.orders.specs.Plan.Plans.{Keeps}
 use Rattle.walk.specs.ScanningLaws.{clear-none}
 use Rattle.plans.specs.Contracts.Choosing.{Given}
 use Rattle.plans.specs.Contracts.FirstLaws.{first-given}
+use Rattle.walk.specs.Finding.{FindsWalked}
 use Rattle.walk.specs.FindingLaws.{finds-walked, finds-nothing}
 use Rattle.walk.proofs.finding.best_of.Statement.{statement}
 use Rattle.walk.proofs.finding.best_of.Tie as tie
@@ -18,10 +19,15 @@ use Rattle.walk.proofs.finding.best_of.Tie as tie
 first-minutes-requires : tie.Need-first-minutes-requires
 first-minutes-requires c κs = search needs
 
+found-of-requires : tie.Need-found-of-requires
+found-of-requires c κs = search needs
+
 returns : tie.Need-returns
 returns c =
-    let a = c .before .before .before in
-    finds-nothing (a .args .line) (a .pre .0) (a .pre .1) (c .before .before .first-minutes .ensures .none (not-true _ (c .if1 .taken))) _
+    let a = c .before .before .before .before in
+    subst (FindsWalked (a .args .line)) (sym (c .found-of .ensures))
+    (finds-nothing (a .args .line) (a .pre .0) (a .pre .1) (c .before .before .before .first-minutes .ensures .none (not-true _ (c .before .if1 .taken)))
+    (record { found = false; delay = 0; steps = 1 }) (replicate 352 0) refl refl)
 
 tables-of-requires : tie.Need-tables-of-requires
 tables-of-requires c κs = search needs
@@ -62,23 +68,29 @@ take-up-requires : tie.Need-take-up-requires
 take-up-requires c κs =
     record { line = first c .before .args .line; given = given c; former-size = given c .planned .fit .size; known = clear-none _ _ _ }
 
+found-of-requires-2 : tie.Need-found-of-requires-2
+found-of-requires-2 c κs = search needs
+
 returns-2 : tie.Need-returns-2
 unfolding free
 returns-2 c =
-    let b = c .before in
+    let b = c .before .before in
     let a = first b .before in
-    finds-walked (a .args .line) (a .pre .0) (a .pre .1) (first b .first-minutes .result .minutes) (least b) (replicate 352 0) refl refl
-    (c .take-up .ensures (a .args .line) (given b))
+    subst (FindsWalked (a .args .line)) (sym (c .found-of2 .ensures))
+    (finds-walked (a .args .line) (a .pre .0) (a .pre .1) (first b .first-minutes .result .minutes) (least b) (replicate 352 0) refl refl
+    (c .before .take-up .ensures (a .args .line) (given b)))
 
 pub best-of-spec : {M : Type 1} → statement M
 best-of-spec =
     tie.close
     (tie.spec
     first-minutes-requires
+    found-of-requires
     returns
     tables-of-requires
     directions-of-requires
     key-of-requires
     layout-of-requires
     take-up-requires
+    found-of-requires-2
     returns-2)
