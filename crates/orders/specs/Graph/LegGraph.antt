@@ -52,18 +52,19 @@ leaving ds e = 176 + (16 * stationOf ds e + e % 16)
 abbrev pub comesOn : List ℕ → ℕ → ℕ → ℕ
 comesOn ds s j = cond (eqb (wayIn ds (16 * s + j)) 1) (16 * (s - 1) + j) (16 * s + j)
 
-module _ (marks t ds : List ℕ) where
-  abbrev pub UsedLeg : ℕ → Type 0
-  UsedLeg e = (e < 176) × (wayIn ds e ≡ 0 → ⊥)
+-- a train has leg e
+abbrev pub UsedLeg : List ℕ → ℕ → Type 0
+UsedLeg ds e = (e < 176) × (wayIn ds e ≡ 0 → ⊥)
 
+module _ (marks t ds : List ℕ) where
   abbrev pub UsedArc : LegArc → Type 0
-  UsedArc (runs e) = UsedLeg e
-  UsedArc (slow e) = UsedLeg e
-  UsedArc (next e) = UsedLeg e × (nextIn t e ≡ e → ⊥)
-  UsedArc (depart e j) = UsedLeg e × (j < 12) × (inMask (getD marks e 0) j ≡ true) × (doubled t ds e j ≡ true)
-  UsedArc (arrive e j) = UsedLeg e × (j < 12) × (inMask (getD marks e 0) j ≡ true) × (doubled t ds e j ≡ true)
-  UsedArc (after e j) = UsedLeg e × (j < 12) × (inMask (getD marks e 0) j ≡ true) × (doubled t ds e j ≡ false)
-  UsedArc (gone e j) = UsedLeg e × (j < 12) × (inMask (getD marks (leaving ds e) 0) j ≡ true)
+  UsedArc (runs e) = UsedLeg ds e
+  UsedArc (slow e) = UsedLeg ds e
+  UsedArc (next e) = UsedLeg ds e × (nextIn t e ≡ e → ⊥)
+  UsedArc (depart e j) = UsedLeg ds e × (j < 12) × (inMask (getD marks e 0) j ≡ true) × (doubled t ds e j ≡ true)
+  UsedArc (arrive e j) = UsedLeg ds e × (j < 12) × (inMask (getD marks e 0) j ≡ true) × (doubled t ds e j ≡ true)
+  UsedArc (after e j) = UsedLeg ds e × (j < 12) × (inMask (getD marks e 0) j ≡ true) × (doubled t ds e j ≡ false)
+  UsedArc (gone e j) = UsedLeg ds e × (j < 12) × (inMask (getD marks (leaving ds e) 0) j ≡ true)
 
   abbrev pub fromLeg : LegArc → ℕ
   fromLeg (runs e) = e
