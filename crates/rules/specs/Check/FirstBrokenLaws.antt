@@ -192,15 +192,29 @@ module _ (l : Line) (w : Within l) (a : Arrays l) (m : List ℕ) where
       told s (Conflict.OnSegment x) o real = absurd o
       told s (Conflict.AtStation x) o real = ap (λ (k : ℕ). Breach.Rule 15 (k + 1)) o
 
+  abbrev on-segments : Conflict
+  on-segments = segmentConflict (l .track .segments) (directionsOf l) m (segmentCount l) n
+
+  abbrev at-stations : Conflict
+  at-stations = stationConflict (l .track .tracks) (directionsOf l) m (l .track .«station_count») n
+
+  conflicts-say : SaysAll l m (gap ∷ tracks ∷ []) (conflictBreach (conflictOf l m))
+  unfolding conflictOf
+  conflicts-say =
+      subst⁻¹ (SaysAll l m (gap ∷ tracks ∷ [])) (or-told l m on-segments at-stations)
+      (says-then l m gap (tracks ∷ []) (conflictBreach on-segments) (conflictBreach at-stations) segments-say
+      (says-last l m tracks (conflictBreach at-stations) stations-say))
+
   all-say : SaysAll l m checkedOrder (breachOf l m)
-  unfolding breachOf conflictOf
+  unfolding breachOf
   all-say =
-      says-then l m early _ (trainBreach 10 l m) _ (train-says l m early refl (decides-10 l m)) (
-      says-then l m run _ (trainBreach 11 l m) _ (train-says l m run refl (decides-11 l m)) (
-      says-then l m stop _ (trainBreach 12 l m) _ (train-says l m stop refl (decides-12 l m)) (
-      says-then l m late _ (trainBreach 13 l m) _ (train-says l m late refl (decides-13 l m)) (
-      subst⁻¹ (SaysAll l m (gap ∷ tracks ∷ [])) (or-told l m _ _) (
-      says-then l m gap _ _ _ segments-say (says-last l m tracks _ stations-say))))))
+      let b14 = conflictBreach (conflictOf l m) in
+      let b13 = orBreach (trainBreach 13 l m) b14 in
+      let b12 = orBreach (trainBreach 12 l m) b13 in
+      says-then l m early (run ∷ stop ∷ late ∷ gap ∷ tracks ∷ []) (trainBreach 10 l m) (orBreach (trainBreach 11 l m) b12) (train-says l m early refl (decides-10 l m)) (
+      says-then l m run (stop ∷ late ∷ gap ∷ tracks ∷ []) (trainBreach 11 l m) b12 (train-says l m run refl (decides-11 l m)) (
+      says-then l m stop (late ∷ gap ∷ tracks ∷ []) (trainBreach 12 l m) b13 (train-says l m stop refl (decides-12 l m)) (
+      says-then l m late (gap ∷ tracks ∷ []) (trainBreach 13 l m) b14 (train-says l m late refl (decides-13 l m)) conflicts-say)))
 
   -- the breach that is found is the first that the minutes have
   pub first-broken : (k p : ℕ) → breachOf l m ≡ Breach.Rule k p → FirstBroken l m checkedOrder k p
