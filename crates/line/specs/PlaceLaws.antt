@@ -19,13 +19,15 @@ use Rattle.text.specs.Reading.Told.{toldEnding}
 use Rattle.text.specs.Places.Lines.{LineAt, Counted, Stood, HoldsOn, AnyNumber, OnLine}
 use Rattle.text.specs.Places.LinesLaws.{KeepsPassing, keeps-line, keeps-counted, line-first, stood-line, line-most, stands-got, stands-bad, stands-then, stands-test, ahead-keeps, past-keeps, stands-ranged, stands-many}
 use Rattle.line.specs.declared.Kind.{Kind}
+use Rattle.line.specs.declared.Answer.{Answer}
 use Rattle.line.specs.declared.Line.{Line}
+use Rattle.line.specs.declared.ReadLine.{ReadLine}
 use Rattle.line.specs.declared.reading.Letter.{Letter}
 use Rattle.line.specs.declared.reading.KindField.{KindField}
 use Rattle.line.specs.Ranges.{stationCount, tracks, gap, trainCount, station, time, weight, run, stop}
 use Rattle.line.specs.Record.{noSegment, noTrain, legsBetween}
 use Rattle.line.specs.Spell.{letterByte}
-use Rattle.line.specs.File.{number, sectionAt, stationLine, stationSection, letterOf, onLetter, kindAt, toldKind, segmentLine, segmentSection, joins, pathAt, headAt, journeyAt, trainLine, trainSection, lineAt, lineFile}
+use Rattle.line.specs.File.{number, sectionAt, stationLine, stationSection, letterOf, onLetter, kindAt, toldKind, segmentLine, segmentSection, joins, pathAt, headAt, journeyAt, trainLine, trainSection, lineAt, lineFile, answered}
 use Rattle.line.specs.FileLaws.{letter-byte}
 use Rattle.line.specs.SectionLaws.{file-first, file-long, file-short}
 
@@ -166,6 +168,14 @@ file-refusal s n p e = elim (decLe (length s) 4096) [
       let zero : 0 ≡ p = cc in
       record { number = (omega arith, omega arith); place = omega arith })
 ]
+
+-- the same of what the code answers
+refused-is : (a : Parsed Line) (n p : ℕ) → answered a .answer ≡ Answer.Refused n p → a ≡ Parsed.bad n p
+refused-is (Parsed.got l c) n p e = let z : _≡_ {A = ℕ} 0 1 = cc in absurd (omega arith)
+refused-is (Parsed.bad m q) n p e = cc
+
+pub answer-refusal : (s : List ℕ) {x : ReadLine} {n p : ℕ} → x ≡ answered (lineFile s) → x .answer ≡ Answer.Refused n p → Refusal n p
+answer-refusal s {x} {n} {p} read is = file-refusal s n p (refused-is (lineFile s) n p (sym (ap (λ (y : ReadLine). y .answer) read) ∙ is))
 
 -- ---- for the reader's code
 

@@ -18,3 +18,4 @@ pub mod FitsLaws
 pub mod WritingLaws
 pub mod FaultPlaceLaws
 pub mod ExactCheckLaws
+pub mod RefusalLaws
