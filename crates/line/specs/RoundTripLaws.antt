@@ -98,7 +98,7 @@ pub record ReadFrom (s : List ℕ) (l : Line) : Type 0 where
   pub tidy : tidyLine l ≡ l
   pub text : textOf l ≡ s
 
-spelling-text : (l : Line) → Within l → spelling l ≡ Spelling.text (textOf l)
+pub spelling-text : (l : Line) → Within l → spelling l ≡ Spelling.text (textOf l)
 unfolding spelling
 spelling-text l w = rw (fault-none l w) refl
 

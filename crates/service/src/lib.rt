@@ -2,7 +2,7 @@
 // number and its place, or 0 and the length of what was written.
 ghost use mathlib.Core.Path.{_≡_};
 ghost use Rattle.line.specs.File.{lineFile, answered};
-ghost use Rattle.service.specs.Packing.{packed, packedAnswer, packedVerdict, packedWritten};
+ghost use Rattle.service.specs.Packing.{packed, Packs, PacksWritten, packedAnswer, packedVerdict, packedWritten};
 ghost use Rattle.service.specs.Rewriting.{Rewritten};
 ghost use Rattle.timetable.specs.Check.{checkOf};
 use line::Answer;
@@ -13,12 +13,14 @@ use timetable::checking::Verdict;
 use timetable::checking::check;
 
 pub fn pack(number: u8, value: usize) -> u64
+    requires { ⌜ Packs value ⌝ }
     ensures { λ r. ⌜ r ≡ packed number value ⌝ }
 {
-    (number as u64) * 4294967296 + (value % 4294967296) as u64
+    (number as u64) * 4294967296 + value as u64
 }
 
 pub fn pack_written(written: Written) -> u64
+    requires { ⌜ PacksWritten written ⌝ }
     ensures { λ r. ⌜ r ≡ packedWritten written ⌝ }
 {
     match written {

@@ -1,6 +1,8 @@
 -- `service::gaugeviolet_check` meets its contract: the verdict of the check, packed. Assumes nothing.
 use mathlib.Core.Path.{_∙_, sym, ap}
+use native.Mathlib.Omega.{arith}
 use borrow.Author.Needs.{needs}
+use Rattle.timetable.specs.RefusalLaws.{check-refusal}
 use Rattle.service.specs.Packing.{packedVerdict}
 use Rattle.service.proofs.gaugeviolet_check.Statement.{statement}
 use Rattle.service.proofs.gaugeviolet_check.Tie as tie
@@ -15,7 +17,9 @@ enum-known-verdict : tie.Need-enum-known-verdict
 enum-known-verdict c = search needs
 
 pack-requires : tie.Need-pack-requires
-pack-requires c κs = search needs
+pack-requires c κs =
+    let refusal = check-refusal _ _ _ _ (sym (c .before .before .before .check .ensures) ∙ c .before .verdict .given .1) in
+    omega (arith, refusal .place)
 
 returns : tie.Need-returns
 returns c = ap packedVerdict (sym (c .enum-told .given .1) ∙ c .before .before .check .ensures)

@@ -2,7 +2,9 @@
 use mathlib.Core.Path.{_∙_, sym, ap}
 use Rattle.service.specs.Packing.{packedAnswer}
 use Rattle.line.specs.declared.ReadLine.{ReadLine}
+use native.Mathlib.Omega.{arith}
 use borrow.Author.Needs.{needs}
+use Rattle.line.specs.PlaceLaws.{answer-refusal}
 use Rattle.service.proofs.gaugeviolet_read.Statement.{statement}
 use Rattle.service.proofs.gaugeviolet_read.Tie as tie
 
@@ -16,7 +18,7 @@ enum-known-answer : tie.Need-enum-known-answer
 enum-known-answer c = search needs
 
 pack-requires : tie.Need-pack-requires
-pack-requires c κs = search needs
+pack-requires c κs = omega (arith, answer-refusal _ (c .before .before .before .read .ensures) (c .before .answer .given .1) .place)
 
 returns : tie.Need-returns
 returns c = sym (ap packedAnswer (c .enum-told .given .1)) ∙ ap (λ (x : ReadLine). packedAnswer (x .answer)) (c .before .before .read .ensures)

@@ -1,5 +1,8 @@
 -- `service::gaugeviolet_rewrite` meets its contract: a refused file is its refusal, an accepted one what writing its line gives. Assumes nothing.
-use Rattle.service.specs.Rewriting.{rewritten-line, rewritten-refused}
+use native.Mathlib.Omega.{arith}
+use Rattle.line.specs.PlaceLaws.{answer-refusal}
+use Rattle.line.specs.RoundTripLaws.{accepted-read}
+use Rattle.service.specs.RewritingLaws.{rewritten-line, rewritten-refused, rewritten-packs}
 use borrow.Author.Needs.{needs}
 use Rattle.service.proofs.gaugeviolet_rewrite.Statement.{statement}
 use Rattle.service.proofs.gaugeviolet_rewrite.Tie as tie
@@ -14,13 +17,16 @@ write-requires : tie.Need-write-requires
 write-requires c κs = search needs
 
 pack-written-requires : tie.Need-pack-written-requires
-pack-written-requires c κs = search needs
+pack-written-requires c κs =
+    let within = accepted-read _ (c .before .before .before .before .before .before .before .read .ensures)
+    (c .before .before .before .before .before .enum-told .given .1) .limits in
+    rewritten-packs within (c .before .before .write .ensures)
 
 enum-known-answer : tie.Need-enum-known-answer
 enum-known-answer c = search needs
 
 pack-requires : tie.Need-pack-requires
-pack-requires c κs = search needs
+pack-requires c κs = omega (arith, answer-refusal _ (c .before .before .before .read .ensures) (c .before .answer .given .1) .place)
 
 same-length : tie.Need-same-length
 same-length c = search needs

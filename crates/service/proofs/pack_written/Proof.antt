@@ -9,13 +9,13 @@ enum-known-written : tie.Need-enum-known-written
 enum-known-written c = search needs
 
 pack-requires : tie.Need-pack-requires
-pack-requires c κs = search needs
+pack-requires c κs = rw (c .before .written .given .1) at (c .before .before .before .pre)
 
 enum-known-written-2 : tie.Need-enum-known-written-2
 enum-known-written-2 c = search needs
 
 pack-requires-2 : tie.Need-pack-requires-2
-pack-requires-2 c κs = search needs
+pack-requires-2 c κs = rw (c .before .written2 .given .1) at (c .before .before .before .pre)
 
 returns : tie.Need-returns
 returns c = c .pack .ensures ∙ sym (ap packedWritten (c .before .before .written .given .1))
