@@ -1,7 +1,9 @@
 -- `screen::gaugeviolet_walk_length` meets its contract: a refused file is its refusal, an accepted one has the length of its line's walk. Assumes nothing.
 use mathlib.Core.Path.{_∙_, ap}
 use Prim.Native.Nat.{ℕ}
+use native.Mathlib.Omega.{arith}
 use borrow.Author.Needs.{needs}
+use Rattle.line.specs.PlaceLaws.{answer-refusal}
 use Rattle.line.specs.RoundTripLaws.{accepted-read}
 use Rattle.service.specs.Packing.{packed}
 use Rattle.screen.specs.Walking.{length-told}
@@ -29,7 +31,7 @@ enum-known-answer : tie.Need-enum-known-answer
 enum-known-answer c = search needs
 
 pack-requires-2 : tie.Need-pack-requires-2
-pack-requires-2 c κs = search needs
+pack-requires-2 c κs = omega (arith, answer-refusal _ (c .before .before .before .read .ensures) (c .before .answer .given .1) .place)
 
 returns : tie.Need-returns
 returns c =
