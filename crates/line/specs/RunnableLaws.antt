@@ -9,8 +9,8 @@ use Rattle.line.specs.Record.{trainsOf, stopsOf}
 use Rattle.line.specs.Within.{TrainWithin, Within}
 use Rattle.line.specs.Runnable.{heldStop, TrainRunnable, Runnable}
 
-train-runnable : (n : ℕ) (t : Train) → TrainWithin n t → TrainRunnable n t
-train-runnable n t w =
+train-within-runnable : (n : ℕ) (t : Train) → TrainWithin n t → TrainRunnable n t
+train-within-runnable n t w =
     record {
       origin = w .origin;
       destination = w .destination;
@@ -29,5 +29,5 @@ within-runnable l w =
       stations = w .stations;
       segments = w .segments;
       trains = w .trains;
-      each-train = each-map (TrainWithin n) (TrainRunnable n) (train-runnable n) (trainsOf l) (w .each-train);
+      each-train = each-map (TrainWithin n) (TrainRunnable n) (train-within-runnable n) (trainsOf l) (w .each-train);
     }
