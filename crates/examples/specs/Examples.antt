@@ -4,7 +4,8 @@ use mathlib.Core.Path.{_≡_, refl}
 use mathlib.Core.Bool.{true}
 use mathlib.Core.List.{List, [], _∷_}
 use Rattle.finite.specs.Each.{Each}
-use Rattle.text.specs.Elements.Padded.{padded, padded-length, each-padded}
+use Rattle.text.specs.Elements.Padded.{padded}
+use Rattle.text.specs.Elements.PaddedLaws.{padded-length, each-padded}
 use Rattle.text.specs.Reading.Limits.{boundedOf}
 use Rattle.finite.specs.Below.{first, all, count, sum, gather, table}
 use Rattle.line.specs.declared.Kind.{Kind}

@@ -17,6 +17,6 @@ pub mod WithinLaws
 pub mod SpellLaws
 pub mod FaultPlaceLaws
 pub mod LengthLaws
-pub mod Accepted
-pub mod Readable
+pub mod AcceptedLaws
+pub mod ReadableLaws
 pub mod RoundTripLaws

@@ -7,7 +7,8 @@ use native.Mathlib.Omega.{arith}
 use lib.ListN.{length, take, length-replicate, length-map}
 use lib.Seq.{length-take-le}
 use Rattle.text.specs.declared.Cursor.{Cursor}
-use Rattle.text.specs.Elements.Padded.{padded, take-padded, padded-length, each-padded}
+use Rattle.text.specs.Elements.Padded.{padded}
+use Rattle.text.specs.Elements.PaddedLaws.{take-padded, padded-length, each-padded}
 use Rattle.text.specs.Elements.EachThen.{eachThen}
 use Rattle.finite.specs.Each.{Each}
 use Rattle.finite.specs.EachLaws.{each-map, each-take}
@@ -27,8 +28,8 @@ use Rattle.line.specs.Within.{SegmentWithin, TrainWithin, Within, TrainA
 use Rattle.line.specs.RecordLaws.{train-path}
 use Rattle.line.specs.WithinLaws.{fault-none}
 use Rattle.line.specs.LengthLaws.{text-fits}
-use Rattle.line.specs.Accepted.{TrainRead, LineRead, lineOf, file-spelt}
-use Rattle.line.specs.Readable.{text-reads}
+use Rattle.line.specs.AcceptedLaws.{TrainRead, LineRead, lineOf, file-spelt}
+use Rattle.line.specs.ReadableLaws.{text-reads}
 
 -- ---- a line that was read
 
@@ -167,6 +168,10 @@ pub accepts-read : (s : List ℕ) (l : Line) → Accepts s l → ReadFrom s l
 accepts-read s l e =
     let g = accepted-got l (lineFile s) e in
     line-read s l (file-spelt s l (g .end) (g .got))
+
+-- the same of what the code answers
+pub accepted-read : (s : List ℕ) {x : ReadLine} → x ≡ answered (lineFile s) → x .answer ≡ Answer.Accepted → ReadFrom s (x .line)
+accepted-read s {x} read is = accepts-read s (x .line) (sym read ∙ (λ i. record { answer = is i; line = x .line }))
 
 -- ---- the theorems
 

@@ -17,7 +17,7 @@ use Rattle.line.specs.declared.reading.Head.{Head}
 use Rattle.line.specs.Ranges.{run, stop}
 use Rattle.line.specs.Record.{noTrain, legsBetween}
 use Rattle.line.specs.RecordLaws.{path-legs}
-use Rattle.line.specs.Accepted.{head-spelt}
+use Rattle.line.specs.AcceptedLaws.{head-spelt}
 use Rattle.line.specs.File.{number, headAt, Journey, journeyAt, trainWith, trainLine}
 
 -- ---- the runs and stops of a line, laid into arrays

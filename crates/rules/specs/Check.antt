@@ -4,3 +4,4 @@ pub mod Breaches
 pub mod RulesLaws
 pub mod BreachesLaws
 pub mod ExactLaws
+pub mod FirstBrokenLaws

@@ -4,3 +4,4 @@ pub mod Paths
 pub mod Minutes
 pub mod Rules
 pub mod Delay
+pub mod FirstBroken

@@ -2,5 +2,6 @@
 -- values laid into an array line by line (`LayLaws`).
 pub mod EachThen
 pub mod Padded
+pub mod PaddedLaws
 pub mod LeftLaws
 pub mod LayLaws

@@ -20,7 +20,7 @@ use Rattle.line.specs.declared.Line.{Line}
 use Rattle.line.specs.declared.ReadLine.{ReadLine}
 use Rattle.line.specs.File.{lineFile, answered}
 use Rattle.line.specs.Within.{Within}
-use Rattle.line.specs.RoundTripLaws.{accepts-read}
+use Rattle.line.specs.RoundTripLaws.{accepted-read}
 use Rattle.rules.specs.declared.rules.Breach.{Breach}
 use Rattle.rules.specs.declared.orders.OrderList.{OrderList}
 use Rattle.rules.specs.Lists.Orders.{listCount, orderLists, listed}
@@ -127,7 +127,7 @@ module _ (l : Line) (t : Timetable) {b : Breach} (rules : b ≡ breachOf l (t .m
 
 -- the line of an accepted file
 pub file-within : (file : List ℕ) {r : ReadLine} → r ≡ answered (lineFile file) → r .answer ≡ Answer.Accepted → Within (r .line)
-file-within file {r} told is = accepts-read file (r .line) (sym told ∙ (λ i. record { answer = is i; line = r .line })) .limits
+file-within file told is = accepted-read file told is .limits
 
 -- what was read of a file, which the code answers with r
 module _ (file s : List ℕ) {r : ReadLine} (told : r ≡ answered (lineFile file)) where

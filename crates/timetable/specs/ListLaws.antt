@@ -15,7 +15,8 @@ use Rattle.text.specs.Reading.Choice.{onNumber, onStep, onBounded}
 use Rattle.text.specs.Reading.Bytes.{pastOf}
 use Rattle.text.specs.Reading.Numbers.{numberAt}
 use Rattle.text.specs.Reading.Limits.{boundedOf}
-use Rattle.text.specs.Elements.Padded.{padded, take-padded}
+use Rattle.text.specs.Elements.Padded.{padded}
+use Rattle.text.specs.Elements.PaddedLaws.{take-padded}
 use Rattle.text.specs.Reading.Parsed.{Parsed, mapParsed, many}
 use Rattle.text.specs.Reading.ParsedLaws.{many-length, bounded-within}
 use Rattle.text.specs.Elements.LayLaws.{layMany}

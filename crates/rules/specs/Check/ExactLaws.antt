@@ -142,15 +142,22 @@ module _ (l : Line) (w : Within l) (a : Arrays l) (m : List ℕ) where
 
   -- ---- rule 14 on every segment
 
+  -- on one of them
+  pub segment-clear : (p : ℕ) → p < segmentCount l → pairOn (segment l p) (directionsOf l) m (l .traffic .«train_count») p ≡ Conflict.Nothing → Apart l m p
+  segment-clear p b e = pair-clear l few-trains m p (omega (arith, w .stations .1)) e
+
+  pub clear-segment : (p : ℕ) → p < segmentCount l → Apart l m p → pairOn (segment l p) (directionsOf l) m (l .traffic .«train_count») p ≡ Conflict.Nothing
+  clear-segment p b h = clear-pair l few-trains m p (omega (arith, w .stations .1)) h
+
   segments-clear : segmentConflict (l .track .segments) (directionsOf l) m (segmentCount l) (l .traffic .«train_count») ≡ Conflict.Nothing →
       EachBelow (segmentCount l) (Apart l m)
   unfolding segmentConflict
-  segments-clear e p b = pair-clear l few-trains m p (omega (arith, w .stations .1)) (none-conflict _ (segmentCount l) e p b)
+  segments-clear e p b = segment-clear p b (none-conflict _ (segmentCount l) e p b)
 
   clear-segments : EachBelow (segmentCount l) (Apart l m) →
       segmentConflict (l .track .segments) (directionsOf l) m (segmentCount l) (l .traffic .«train_count») ≡ Conflict.Nothing
   unfolding segmentConflict
-  clear-segments h = conflict-none _ (segmentCount l) (λ p b. clear-pair l few-trains m p (omega (arith, w .stations .1)) (h p b))
+  clear-segments h = conflict-none _ (segmentCount l) (λ p b. clear-segment p b (h p b))
 
   -- ---- rule 15 at every station
 
@@ -185,18 +192,25 @@ module _ (l : Line) (w : Within l) (a : Arrays l) (m : List ℕ) where
     | no o ↦ f (omega arith)
   ]
 
+  pub station-clear : (s : ℕ) →
+      crowdOn (l .track .tracks) (directionsOf l) m (l .track .«station_count») (l .traffic .«train_count») s ≡ Conflict.Nothing → Room l m s
+  station-clear s e = by-place s (λ z. ends-free s (inl z)) (λ z. ends-free s (inr z)) (λ o k. crowd-clear s o k e)
+
+  pub clear-station : (s : ℕ) → Room l m s →
+      crowdOn (l .track .tracks) (directionsOf l) m (l .track .«station_count») (l .traffic .«train_count») s ≡ Conflict.Nothing
+  clear-station s h =
+      by-place s (crowd-first (l .track .tracks) (directionsOf l) m (l .track .«station_count») (l .traffic .«train_count») s)
+      (crowd-last (l .track .tracks) (directionsOf l) m (l .track .«station_count») (l .traffic .«train_count») s) (λ o k. clear-crowd s o k h)
+
   stations-clear : stationConflict (l .track .tracks) (directionsOf l) m (l .track .«station_count») (l .traffic .«train_count») ≡ Conflict.Nothing →
       EachBelow (l .track .«station_count») (Room l m)
   unfolding stationConflict
-  stations-clear e s b =
-      by-place s (λ z. ends-free s (inl z)) (λ z. ends-free s (inr z)) (λ o k. crowd-clear s o k (none-conflict _ (l .track .«station_count») e s b))
+  stations-clear e s b = station-clear s (none-conflict _ (l .track .«station_count») e s b)
 
   clear-stations : EachBelow (l .track .«station_count») (Room l m) →
       stationConflict (l .track .tracks) (directionsOf l) m (l .track .«station_count») (l .traffic .«train_count») ≡ Conflict.Nothing
   unfolding stationConflict
-  clear-stations h =
-      conflict-none _ (l .track .«station_count») (λ s b. by-place s (crowd-first (l .track .tracks) (directionsOf l) m (l .track .«station_count») (l .traffic .«train_count») s)
-      (crowd-last (l .track .tracks) (directionsOf l) m (l .track .«station_count») (l .traffic .«train_count») s) (λ o k. clear-crowd s o k (h s b)))
+  clear-stations h = conflict-none _ (l .track .«station_count») (λ s b. clear-station s (h s b))
 
   -- ---- the theorem
 

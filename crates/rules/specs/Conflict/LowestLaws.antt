@@ -1,25 +1,41 @@
 -- Below the lowest conflict there is none: it is on the lowest segment that has one, or at a station where no segment has.
-use Prim.Native.Nat.{ℕ, zero, suc, _-_, _<_}
+use Prim.Native.Nat.{ℕ, zero, suc, _+_, _-_, _<_}
 use mathlib.Core.Path.{_≡_, refl}
+use mathlib.Core.Bool.{Bool, true, false, cond, _&&_}
 use mathlib.Core.List.{List}
 use native.Mathlib.Omega.{arith}
+use lib.Dec.{ltb}
 use lib.ListN.{getD}
 use Rattle.line.specs.declared.Segment.{Segment}
 use Rattle.line.specs.Record.{noSegment}
 use Rattle.rules.specs.declared.conflicts.Conflict.{Conflict}
 use Rattle.rules.specs.declared.conflicts.Layout.{Layout}
-use Rattle.rules.specs.Conflict.Conflicts.{orConflict, firstConflict, pairOn, segmentConflict, stationConflict, conflictIn}
+use Rattle.rules.specs.Conflict.Conflicts.{orConflict, firstConflict, pairOn, segmentConflict, earliestCrowd, crowdAt, crowdOn, stationConflict, conflictIn}
 use Rattle.rules.specs.Conflict.ConflictsLaws.{NoSegment}
-use Rattle.rules.specs.Conflict.FoundLaws.{pair-holds, station-holds}
+use Rattle.rules.specs.Conflict.FoundLaws.{pair-holds, crowd-holds, station-holds}
 
 -- a conflict on segment p, or none
-abbrev OnlyOn : ℕ → Conflict → Type 0
+abbrev pub OnlyOn : ℕ → Conflict → Type 0
 OnlyOn p Conflict.Nothing = Unit {0}
 OnlyOn p (Conflict.OnSegment x) = x .segment ≡ p
 OnlyOn p (Conflict.AtStation x) = ⊥
 
-pair-only : (g : Segment) (ds m : List ℕ) (n p : ℕ) → OnlyOn p (pairOn g ds m n p)
+pub pair-only : (g : Segment) (ds m : List ℕ) (n p : ℕ) → OnlyOn p (pairOn g ds m n p)
 pair-only g ds m n p = pair-holds (OnlyOn p) tt g ds m n p (λ i j _ _ _. refl)
+
+-- a conflict at station s, or none
+abbrev pub OnlyAt : ℕ → Conflict → Type 0
+OnlyAt s Conflict.Nothing = Unit {0}
+OnlyAt s (Conflict.OnSegment x) = ⊥
+OnlyAt s (Conflict.AtStation x) = x .station ≡ s
+
+pub crowd-only : (tracks ds m : List ℕ) (stations n s : ℕ) → OnlyAt s (crowdOn tracks ds m stations n s)
+unfolding crowdOn
+crowd-only tracks ds m stations n s = go (ltb 0 s && ltb (s + 1) stations)
+  where
+    go : (b : Bool) → OnlyAt s (cond b (crowdAt ds m n (getD tracks s 0) s (earliestCrowd ds m n (getD tracks s 0) s)) Conflict.Nothing)
+    go true = crowd-holds (OnlyAt s) tt ds m n (getD tracks s 0) s (λ t _. refl)
+    go false = tt
 
 -- a conflict at a station, or none
 abbrev OnlyStation : Conflict → Type 0

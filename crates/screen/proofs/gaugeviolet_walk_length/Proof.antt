@@ -2,7 +2,7 @@
 use mathlib.Core.Path.{_∙_, ap}
 use Prim.Native.Nat.{ℕ}
 use borrow.Author.Needs.{needs}
-use Rattle.solver.specs.Promise.SolvingLaws.{solved-read}
+use Rattle.line.specs.RoundTripLaws.{accepted-read}
 use Rattle.service.specs.Packing.{packed}
 use Rattle.screen.specs.Walking.{length-told}
 use Rattle.screen.proofs.gaugeviolet_walk_length.Statement.{statement}
@@ -16,7 +16,7 @@ enum-told c = search needs
 
 best-of-requires : tie.Need-best-of-requires
 best-of-requires c κs =
-    let r = solved-read _ (c .before .before .before .read .ensures) (c .before .enum-told .given .1) in
+    let r = accepted-read _ (c .before .before .before .read .ensures) (c .before .enum-told .given .1) in
     (r .limits, r .arrays)
 
 cast-pack : tie.Need-cast-pack

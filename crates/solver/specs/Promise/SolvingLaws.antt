@@ -13,7 +13,6 @@ use Rattle.line.specs.declared.ReadLine.{ReadLine}
 use Rattle.line.specs.File.{lineFile, answered}
 use Rattle.line.specs.Within.{Within, Arrays}
 use Rattle.line.specs.WithinLaws.{fault-none}
-use Rattle.line.specs.RoundTripLaws.{ReadFrom, accepts-read}
 use Rattle.rules.specs.Statement.Rules.{Lawful}
 use Rattle.rules.specs.Statement.Delay.{Best}
 use Rattle.rules.specs.StatementLaws.BestLaws.{best-only}
@@ -60,11 +59,7 @@ module _ (file : List ℕ) {x : ReadLine} (read : x ≡ answered (lineFile file)
   solving-refused entry {n} {p} e =
       solved-refused (lineFile file) n p entry (sym (ap (λ (y : ReadLine). y .answer) read) ∙ e)
 
-  module _ (accepted : x .answer ≡ Answer.Accepted) where
-    pub accepted-read : ReadFrom file (x .line)
-    accepted-read = accepts-read file (x .line) (sym read ∙ (λ i. record { answer = accepted i; line = x .line }))
-
-    pub solving-line : {entry exit : List ℕ} {r : Written} → LineSolved (x .line) entry exit r → SolvedAs (lineFile file) entry exit r
-    solving-line {entry} {exit} {r} h =
-        solved-line (lineFile file) entry exit r (sym (ap (λ (y : ReadLine). y .answer) read) ∙ accepted)
-        (rw (ap (λ (y : ReadLine). y .line) read) at h)
+  pub solving-line : x .answer ≡ Answer.Accepted → {entry exit : List ℕ} {r : Written} → LineSolved (x .line) entry exit r →
+      SolvedAs (lineFile file) entry exit r
+  solving-line accepted {entry} {exit} {r} h =
+      solved-line (lineFile file) entry exit r (sym (ap (λ (y : ReadLine). y .answer) read) ∙ accepted) (rw (ap (λ (y : ReadLine). y .line) read) at h)

@@ -1,6 +1,7 @@
 -- `solver::solving::solve` meets its contract: a file that is refused, with no byte written; or an accepted one, whose line is solved.
 use borrow.Author.Needs.{needs}
-use Rattle.solver.specs.Promise.SolvingLaws.{solving-refused, accepted-read, solving-line}
+use Rattle.line.specs.RoundTripLaws.{accepted-read}
+use Rattle.solver.specs.Promise.SolvingLaws.{solving-refused, solving-line}
 use Rattle.solver.proofs.solving.solve.Statement.{statement}
 use Rattle.solver.proofs.solving.solve.Tie as tie
 

@@ -13,7 +13,8 @@ use Rattle.text.specs.declared.Step.{Step}
 use Rattle.text.specs.Reading.Choice.{pick, onStep}
 use Rattle.text.specs.Reading.Bytes.{byteAt, from, ahead, pastOf}
 use Rattle.text.specs.Reading.BytesLaws.{from-cons, past-spelt}
-use Rattle.text.specs.Elements.Padded.{padded, take-padded, padded-length}
+use Rattle.text.specs.Elements.Padded.{padded}
+use Rattle.text.specs.Elements.PaddedLaws.{take-padded, padded-length}
 use Rattle.text.specs.Elements.EachThen.{eachThen}
 use Rattle.finite.specs.Each.{Each}
 use Rattle.text.specs.Reading.Parsed.{Parsed, lines}
