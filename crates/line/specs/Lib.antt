@@ -5,6 +5,8 @@ pub mod File
 pub mod Spell
 pub mod Writing
 pub mod Within
+pub mod Runnable
+pub mod RunnableLaws
 pub mod RecordLaws
 pub mod FileLaws
 pub mod TrainLaws

@@ -2,7 +2,7 @@
 ghost use mathlib.Core.Path.{_≡_};
 ghost use Prim.Native.Nat.{_/_, _%_, _<_};
 ghost use Rattle.finite.specs.Decide.{Decides};
-ghost use Rattle.line.specs.Within.{Within};
+ghost use Rattle.line.specs.Runnable.{Runnable};
 ghost use Rattle.orders.specs.Graph.LegsLaws.{Leg};
 ghost use Rattle.orders.specs.LeastMinutes.FirstPlan.{freeEntry, freeMinutes, FreeInTime, IsFirstPlan};
 use crate::tables::leg_on;
@@ -21,7 +21,7 @@ pub struct FirstPlan {
 
 // The minute at entry x, where a train has a leg.
 fn leg_minute(line: Line, x: usize) -> u16
-    requires { ⌜ Within line × (x < 352) × Leg line (x % 176) ⌝ }
+    requires { ⌜ Runnable line × (x < 352) × Leg line (x % 176) ⌝ }
     ensures { λ r. ⌜ r ≡ freeEntry line x ⌝ }
 {
     let e = x % 176;
@@ -39,7 +39,7 @@ fn leg_minute(line: Line, x: usize) -> u16
 
 // The minutes of the trains alone on the line, entry after entry.
 fn free_minutes(line: Line) -> [u16; 352]
-    requires { ⌜ Within line ⌝ }
+    requires { ⌜ Runnable line ⌝ }
     ensures { λ r. ⌜ r ≡ freeMinutes line ⌝ }
 {
     let ds = directions_of(line);
@@ -59,7 +59,7 @@ fn free_minutes(line: Line) -> [u16; 352]
 
 // Whether each train, alone on the line, arrives in time.
 fn free_in_time(line: Line) -> bool
-    requires { ⌜ Within line ⌝ }
+    requires { ⌜ Runnable line ⌝ }
     ensures { λ r. ⌜ Decides (FreeInTime line) r ⌝ }
 {
     let n = line.traffic.train_count as usize;
@@ -76,7 +76,7 @@ fn free_in_time(line: Line) -> bool
 }
 
 pub fn first_minutes(line: Line) -> FirstPlan
-    requires { ⌜ Within line ⌝ }
+    requires { ⌜ Runnable line ⌝ }
     ensures { λ r. ⌜ IsFirstPlan line r ⌝ }
 {
     let in_time = free_in_time(line);

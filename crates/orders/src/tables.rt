@@ -4,7 +4,7 @@ ghost use Prim.Native.Nat.{_<_};
 ghost use lib.Dec.{eqb};
 ghost use lib.ListN.{length};
 ghost use Rattle.line.specs.Record.{legsOf};
-ghost use Rattle.line.specs.Within.{Within};
+ghost use Rattle.line.specs.Runnable.{Runnable};
 ghost use Rattle.rules.specs.Statement.Paths.{legs, Uses, Routed};
 ghost use Rattle.orders.specs.LineTables.Tables.{tableSize, sharedIn, followingIn, opposingIn, runIn, stopIn, nextIn, limitIn, weightIn, freeIn, restIn, lastIn, legOn, nextLeg, lastLeg, restOf, stopAfter, limitOf, noLegValue, shares, segmentValue, legEntry, tableEntry, tablesOf};
 ghost use Rattle.orders.specs.Graph.LegsLaws.{Leg};
@@ -145,7 +145,7 @@ fn last_leg(train: Train, e: usize) -> u16
 
 // Runs and stops of the last j legs of train i after the first.
 fn rest_of(line: Line, i: usize, j: usize) -> u16
-    requires { ⌜ Within line × (i < line .traffic .«train_count») × (j < legs line i) ⌝ }
+    requires { ⌜ Runnable line × (i < line .traffic .«train_count») × (j < legs line i) ⌝ }
     ensures { λ r. ⌜ r ≡ restOf line i j ⌝ }
 {
     let traffic = line.traffic;
@@ -164,7 +164,7 @@ fn rest_of(line: Line, i: usize, j: usize) -> u16
 
 // The stop after leg k of train i, none after its last.
 fn stop_after(line: Line, i: usize, k: usize) -> u16
-    requires { ⌜ Within line × (i < line .traffic .«train_count») × (k < legs line i) ⌝ }
+    requires { ⌜ Runnable line × (i < line .traffic .«train_count») × (k < legs line i) ⌝ }
     ensures { λ r. ⌜ r ≡ stopAfter line i k ⌝ }
 {
     let traffic = line.traffic;
@@ -178,7 +178,7 @@ fn stop_after(line: Line, i: usize, k: usize) -> u16
 
 // The latest arrival after leg k of train i from which it still ends in time.
 fn limit_of(line: Line, i: usize, k: usize) -> u16
-    requires { ⌜ Within line × (i < line .traffic .«train_count») × (k < legs line i) ⌝ }
+    requires { ⌜ Runnable line × (i < line .traffic .«train_count») × (k < legs line i) ⌝ }
     ensures { λ r. ⌜ r ≡ limitOf line i k ⌝ }
 {
     let traffic = line.traffic;
@@ -197,7 +197,7 @@ fn limit_of(line: Line, i: usize, k: usize) -> u16
 
 // Entry e of table n of legs, where it is a leg of a train.
 fn leg_entry(n: usize, line: Line, e: usize) -> u16
-    requires { ⌜ Within line × (n < 8) × (e < 176) × Leg line e ⌝ }
+    requires { ⌜ Runnable line × (n < 8) × (e < 176) × Leg line e ⌝ }
     ensures { λ r. ⌜ r ≡ legEntry line n e ⌝ }
 {
     let i = e % 16;
@@ -273,7 +273,7 @@ fn segment_entry(n: usize, segment: Segment) -> u16
 
 // The tables of segments, entry after entry, with the others yet to make.
 fn segment_tables(line: Line) -> Tables
-    requires { ⌜ Within line ⌝ }
+    requires { ⌜ Runnable line ⌝ }
     ensures { λ r. ⌜ Begun (tableEntry line) tableSize 48 r ⌝ }
 {
     let segments = line.track.station_count as usize - 1;
@@ -293,9 +293,9 @@ fn segment_tables(line: Line) -> Tables
     table
 }
 
-// The tables of a line within the limits: those of segments, then those of legs, entry after entry.
+// The tables of a line that can be run: those of segments, then those of legs, entry after entry.
 pub fn tables_of(line: Line) -> Tables
-    requires { ⌜ Within line ⌝ }
+    requires { ⌜ Runnable line ⌝ }
     ensures { λ r. ⌜ r ≡ tablesOf line ⌝ }
 {
     let ds = directions_of(line);

@@ -2,7 +2,7 @@
 ghost use mathlib.Core.Path.{_≡_};
 ghost use Prim.Native.Nat.{_+_, _*_, _<_};
 ghost use lib.ListN.{length};
-ghost use Rattle.line.specs.Within.{Within};
+ghost use Rattle.line.specs.Runnable.{Runnable};
 ghost use Rattle.rules.specs.Statement.Paths.{legs};
 ghost use Rattle.rules.specs.Statement.Delay.{freeAfter, freeArrival, weightedDelay};
 use crate::passages::wide;
@@ -12,7 +12,7 @@ use line::legs_between;
 
 // When train i, alone on the line, arrives after its leg k.
 pub fn free_after(line: Line, i: usize, k: usize) -> u16
-    requires { ⌜ Within line × (i < line .traffic .«train_count») × (k < legs line i) ⌝ }
+    requires { ⌜ Runnable line × (i < line .traffic .«train_count») × (k < legs line i) ⌝ }
     ensures { λ r. ⌜ r ≡ freeAfter line i k ⌝ }
 {
     let traffic = line.traffic;
@@ -30,7 +30,7 @@ pub fn free_after(line: Line, i: usize, k: usize) -> u16
 
 // When train i, alone on the line, comes to its destination.
 pub fn free_arrival(line: Line, i: usize) -> u16
-    requires { ⌜ Within line × (i < line .traffic .«train_count») ⌝ }
+    requires { ⌜ Runnable line × (i < line .traffic .«train_count») ⌝ }
     ensures { λ r. ⌜ r ≡ freeArrival line i ⌝ }
 {
     let traffic = line.traffic;
@@ -40,7 +40,7 @@ pub fn free_arrival(line: Line, i: usize) -> u16
 
 // The sum of weight times delay.
 pub fn weighted_delay(line: Line, m: &[u16]) -> u32
-    requires { ⌜ Within line × (length (now m) ≡ 352) ⌝ }
+    requires { ⌜ Runnable line × (length (now m) ≡ 352) ⌝ }
     ensures { λ r. ⌜ r ≡ weightedDelay line (now (m .entry)) ⌝ }
 {
     let n = line.traffic.train_count as usize;

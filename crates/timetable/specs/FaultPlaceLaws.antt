@@ -16,6 +16,7 @@ use Rattle.line.specs.declared.Train.{Train}
 use Rattle.line.specs.declared.Line.{Line}
 use Rattle.line.specs.declared.writing.Fault.{Fault}
 use Rattle.line.specs.Within.{Within}
+use Rattle.line.specs.RunnableLaws.{within-runnable}
 use Rattle.line.specs.Spell.{field}
 use Rattle.rules.specs.Statement.Paths.{train, legs}
 use Rattle.rules.specs.Check.Tests.{departureOf, arrivalOf}
@@ -74,7 +75,7 @@ module _ (l : Line) (m : List ℕ) where
         let same : 0 + i ≡ i = omega arith in
         let lines : Begins (fieldText n 10 ++ trainsText n l m 0 _) (trainLine i) (1 + feeds (fieldText n 10) + i) = rw same at
         (trains-begin n 0 i (fieldText n 10) (restText l (listNumbers l m) (weightedDelay l m)) h
-        (λ x g. legs-few (train l x) (routed l x w size (omega arith)) .0)) in
+        (λ x g. legs-few (train l x) (routed l x (within-runnable l w) size (omega arith)) .0)) in
         record {
           before = lines .before;
           after = lines .after;

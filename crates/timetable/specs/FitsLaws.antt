@@ -14,6 +14,7 @@ use Rattle.line.specs.declared.Train.{Train}
 use Rattle.line.specs.declared.Line.{Line}
 use Rattle.line.specs.Record.{legsOf}
 use Rattle.line.specs.Within.{Within}
+use Rattle.line.specs.RunnableLaws.{within-runnable}
 use Rattle.line.specs.Spell.{field}
 use Rattle.line.specs.LengthLaws.{field-length, each-length}
 use Rattle.rules.specs.Statement.Paths.{train, legs, EachTrain}
@@ -82,7 +83,7 @@ module _ (l : Line) (m : List ℕ) where
 
   module _ (w : Within l) (days : EachTrain l (InDays l m)) where
     pub total-small : weightedDelay l m < 10000000
-    total-small = omega (arith, w .trains, cost-most l m w days)
+    total-small = omega (arith, w .trains, cost-most l m (within-runnable l w) days)
 
     -- ---- the whole text
 
@@ -92,7 +93,7 @@ module _ (l : Line) (m : List ℕ) where
     trains-length (suc k) i n rest count h =
         let line : length (trainsText (suc k) l m i rest) ≤ n + k * 110 + legs l i * 10 =
         legs-length (train l i) m i (legs l i) 0 _ _ (days i (omega arith)) (omega arith) (trains-length k (i + 1) n rest (omega arith) h) in
-        omega (arith, legs-most l i w (omega arith))
+        omega (arith, legs-most l i (within-runnable l w) (omega arith))
 
     pub timetable-fits : length (timetableText l m) ≤ 4096
     unfolding timetableText minutesText restText

@@ -23,6 +23,7 @@ use Rattle.line.specs.declared.Train.{Train}
 use Rattle.line.specs.declared.Line.{Line}
 use Rattle.line.specs.Record.{legsOf}
 use Rattle.line.specs.Within.{Within}
+use Rattle.line.specs.RunnableLaws.{within-runnable}
 use Rattle.line.specs.Spell.{field}
 use Rattle.rules.specs.Statement.Paths.{train, legs, segmentOf, Routed, EachTrain, EachLeg}
 use Rattle.rules.specs.Statement.Minutes.{departs, arrives, departure, arrival}
@@ -96,7 +97,7 @@ module _ (l : Line) (w : Within l) (m : List ℕ) (days : EachTrain l (InDays l 
   trains-read (suc k) i m₀ c rest size count e =
       let t = train l i in
       let few : i + suc k ≤ 12 = omega (arith, w .trains) in
-      let path = routed-leg l i w (omega arith) in
+      let path = routed-leg l i (within-runnable l w) (omega arith) in
       let others = trainsText k l m (i + 1) rest in
       let one = legs-read t path i (omega arith) m s (legs l i) 0 m₀ c others size (omega arith) (days i (omega arith)) e in
       let first = one .reads in

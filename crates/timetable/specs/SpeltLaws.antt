@@ -29,6 +29,7 @@ use Rattle.line.specs.declared.Train.{Train}
 use Rattle.line.specs.declared.Line.{Line}
 use Rattle.line.specs.Record.{legsOf}
 use Rattle.line.specs.Within.{Within}
+use Rattle.line.specs.RunnableLaws.{within-runnable}
 use Rattle.line.specs.Spell.{field}
 use Rattle.rules.specs.Statement.Paths.{train, legs, segmentOf, Routed, EachTrain}
 use Rattle.rules.specs.Statement.Minutes.{departs, arrives}
@@ -106,7 +107,7 @@ module _ (l : Line) (w : Within l) (s : List ℕ) where
       let t = train l i in
       let few : i + suc k ≤ 12 = omega (arith, w .trains) in
       let a = then-got (legsAt (legs l i) t i 0 m s c) _ m′ next e in
-      let one = legs-spelt t (routed-leg l i w (omega arith)) i (omega arith) s (legs l i) 0 m c (a .value) (a .next) size (omega arith) (a .first) in
+      let one = legs-spelt t (routed-leg l i (within-runnable l w) (omega arith)) i (omega arith) s (legs l i) 0 m c (a .value) (a .next) size (omega arith) (a .first) in
       let long = legs-stored t i (legs l i) 0 m s c (a .value) (a .next) (a .first) .size ∙ size in
       let kept = trains-stored k l (i + 1) (a .value) s (a .next) m′ next (omega arith) (a .after) in
       let others = trains-spelt k (i + 1) (a .value) (a .next) m′ next long (omega arith) (a .after) in

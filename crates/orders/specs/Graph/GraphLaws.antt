@@ -8,7 +8,8 @@ use native.Mathlib.Decide.{decLt}
 use native.Mathlib.Omega.{arith}
 use lib.ListN.{getD}
 use Rattle.line.specs.declared.Line.{Line}
-use Rattle.line.specs.Within.{Within, Arrays}
+use Rattle.line.specs.Within.{Arrays}
+use Rattle.line.specs.Runnable.{Runnable}
 use Rattle.rules.specs.Statement.Paths.{train, legs, segmentOf, outOf, EachTrain}
 use Rattle.rules.specs.Statement.Minutes.{departs}
 use Rattle.rules.specs.Statement.Rules.{NotBefore, Runs, Stops, TrainRules}
@@ -32,7 +33,7 @@ use Rattle.orders.specs.Graph.LegChoicesLaws.{by-choice, segment-placed,
 pub floor-up : (l : Line) (m m′ : List ℕ) → m ⊑ m′ → (i k minute : ℕ) → NotBefore l m i k minute → NotBefore l m′ i k minute
 floor-up l m m′ up i k minute h = omega (arith, h, up (departs (segmentOf (train l i) k) i))
 
-module _ (l : Line) (w : Within l) (r : Arrays l) where
+module _ (l : Line) (w : Runnable l) (r : Arrays l) where
   abbrev ds : List ℕ
   ds = directionsOf l
 

@@ -10,7 +10,8 @@ use Rattle.line.specs.declared.Kind.{Kind}
 use Rattle.line.specs.declared.Segment.{Segment}
 use Rattle.line.specs.declared.Train.{Train}
 use Rattle.line.specs.declared.Line.{Line}
-use Rattle.line.specs.Within.{Within, Arrays}
+use Rattle.line.specs.Within.{Arrays}
+use Rattle.line.specs.Runnable.{Runnable}
 use Rattle.rules.specs.Statement.Paths.{train, segment, outbound, sameWay, Uses, Middle, into, outOf}
 use Rattle.rules.specs.Statement.Minutes.{departs}
 use Rattle.rules.specs.Statement.Rules.{GapBy, Before}
@@ -83,7 +84,7 @@ into-departs false s j = refl
 middle-uses : (t : Train) (s : ℕ) → Middle t s → Uses t s
 middle-uses t s h = (omega (arith, h .0), h .1)
 
-module _ (l : Line) (w : Within l) (r : Arrays l) where
+module _ (l : Line) (w : Runnable l) (r : Arrays l) where
   abbrev ds : List ℕ
   ds = directionsOf l
 

@@ -9,7 +9,8 @@ use lib.Dec.{ltb, eqb}
 use Rattle.finite.specs.Decide.{Decides}
 use Rattle.finite.specs.DecideLaws.{is-true, is-false, decides-and, decides-not, decides-lt, decides-eq}
 use Rattle.line.specs.declared.Line.{Line}
-use Rattle.line.specs.Within.{Within, Arrays}
+use Rattle.line.specs.Within.{Arrays}
+use Rattle.line.specs.Runnable.{Runnable}
 use Rattle.rules.specs.Statement.Paths.{train, legs, segmentOf, outbound, Uses, Middle, into, outOf, Routed}
 use Rattle.rules.specs.Statement.Minutes.{departs}
 use Rattle.rules.specs.StatementLaws.PathsLaws.{routed, routed-leg, uses-few, leg-uses, uses-leg, middle-legs}
@@ -25,7 +26,7 @@ module _ (l : Line) (e : ℕ) where
   pub leg-test : Decides (Leg l e) (ltb (e % 16) (l .traffic .«train_count») && usesBetween (train l (e % 16) .origin) (train l (e % 16) .destination) (e / 16))
   leg-test = decides-and (decides-lt _ _) (decides-between _ _ _)
 
-  pub leg-path : Within l → Leg l e → Routed (train l (e % 16))
+  pub leg-path : Runnable l → Leg l e → Routed (train l (e % 16))
   leg-path w g = routed-leg l (e % 16) w (g .0) (omega (arith, uses-leg (train l (e % 16)) (e / 16) (g .1) .1))
 
   -- the table of directions tells whether it is one
@@ -50,7 +51,7 @@ module _ (l : Line) (e : ℕ) where
 abbrev pub LegOf : Line → ℕ → Type 0
 LegOf l e = (e < 176) × (wayIn (directionsOf l) e ≡ 0 → ⊥)
 
-module _ (l : Line) (w : Within l) (r : Arrays l) where
+module _ (l : Line) (w : Runnable l) (r : Arrays l) where
   -- ---- from the train to the leg
 
   module _ (i : ℕ) (n : i < l .traffic .«train_count») where

@@ -1,4 +1,4 @@
--- The tables and directions of a line, and the marks of a tidy plan of it, have the shape that raising goes by.
+-- The tables and directions of a line that can be run, and the marks of a tidy plan of it, have the shape that raising goes by.
 use Prim.Native.Nat.{ℕ, _+_, _-_, _≤_, _<_}
 use mathlib.Core.Path.{_≡_, refl, sym, _∙_, ap, subst}
 use mathlib.Core.Bool.{true}
@@ -7,7 +7,8 @@ use native.Mathlib.Decide.{decLt}
 use native.Mathlib.Omega.{arith}
 use lib.ListN.{getD}
 use Rattle.line.specs.declared.Line.{Line}
-use Rattle.line.specs.Within.{Within, Arrays}
+use Rattle.line.specs.Within.{Arrays}
+use Rattle.line.specs.Runnable.{Runnable}
 use Rattle.rules.specs.Statement.Paths.{train, legs, segmentOf}
 use Rattle.rules.specs.Statement.Minutes.{departs}
 use Rattle.rules.specs.StatementLaws.PathsLaws.{legs-most}
@@ -25,7 +26,7 @@ use Rattle.orders.specs.Graph.LegsLaws.{LegOf, train-leg, by-leg}
 use Rattle.orders.specs.Graph.LegChoices.{segmentChoice, stationChoice}
 use Rattle.orders.specs.Graph.LegChoicesLaws.{segment-placed, station-placed, segment-marked, station-marked, behind-leg, comes-leg}
 
-module _ (l : Line) (w : Within l) (r : Arrays l) where
+module _ (l : Line) (w : Runnable l) (r : Arrays l) where
   next-leg : (e : ℕ) → LegOf l e → LegOf l (nextIn (tablesOf l) e)
   next-leg =
       by-leg l w r (λ e. LegOf l (nextIn (tablesOf l) e))
@@ -40,9 +41,9 @@ module _ (l : Line) (w : Within l) (r : Arrays l) where
       (λ i k n h. subst (LegOf l) (sym (last-at l w r i k n h)) (train-leg l w r i n (legs l i - 1) (omega arith)))
 
   -- what is left of a train after a leg: at most ten stops and runs, and from leg to leg a stop and a run less
-  rest-few : (e : ℕ) → LegOf l e → restIn (tablesOf l) e ≤ 4800
+  rest-few : (e : ℕ) → LegOf l e → restIn (tablesOf l) e ≤ 7200
   rest-few =
-      by-leg l w r (λ e. restIn (tablesOf l) e ≤ 4800)
+      by-leg l w r (λ e. restIn (tablesOf l) e ≤ 7200)
       (λ i k n h.
       omega (arith, rest-at l w r i k n h, tables.rest-most l i w n (legs l i - 1 - k) (omega arith), legs-most l i w n))
 
@@ -88,13 +89,13 @@ module _ (l : Line) (w : Within l) (r : Arrays l) where
       tables-size = tables-size l;
       directions-size = directions-size l (directionsOf l) refl;
       run-most = run-most l w r;
-      stop-most = λ e b. omega (arith, stop-most l w r e b);
+      stop-most = stop-most l w r;
       limit-most = limit-most l w r;
       weight-most = weight-most l w r;
       gap-most = gap-most l w r;
       next-used = next-leg;
       last-used = last-leg;
-      rest-most = λ e u. omega (arith, rest-few e u);
+      rest-most = rest-few;
       rest-falls = rest-falls;
       beside-used = λ e j u b m. behind-leg l w r e u j (segment-fits e j u m);
       comes-used = λ e j u b m. let f = station-fits e j u m in comes-leg l w r (stationOf (directionsOf l) e) _ j (f .0) (f .1);

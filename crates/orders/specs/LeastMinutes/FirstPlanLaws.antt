@@ -14,11 +14,11 @@ use Rattle.finite.specs.Below.{EachBelow}
 use Rattle.finite.specs.LoopLaws.{each-more}
 use Rattle.finite.specs.BelowLaws.{table-at, table-past, table-size}
 use Rattle.line.specs.declared.Line.{Line}
-use Rattle.line.specs.Within.{Within}
+use Rattle.line.specs.Runnable.{Runnable}
 use Rattle.rules.specs.Statement.Paths.{train, legs, runOf, segmentOf, Routed}
 use Rattle.rules.specs.Statement.Minutes.{departs, arrives, departure, arrival}
 use Rattle.rules.specs.Statement.Rules.{TrainRules}
-use Rattle.rules.specs.StatementLaws.PathsLaws.{train-within, routed, legs-few, uses-leg, segment-below}
+use Rattle.rules.specs.StatementLaws.PathsLaws.{train-runnable, routed, legs-few, uses-leg, segment-below}
 use Rattle.rules.specs.Check.RulesLaws.{free-start, free-next}
 use Rattle.rules.specs.Statement.Delay.{freeAfter, freeArrival, weightedDelay}
 use Rattle.orders.specs.declared.first.FirstPlan.{FirstPlan}
@@ -68,7 +68,7 @@ minutes-size : (l : Line) → length (freeMinutes l) ≡ 352
 unfolding freeMinutes
 minutes-size l = table-size (freeEntry l) 352
 
-module _ (l : Line) (w : Within l) (size : length (l .traffic .trains) ≡ 12) where
+module _ (l : Line) (w : Runnable l) (size : length (l .traffic .trains) ≡ 12) where
   path : (i : ℕ) → i < l .traffic .«train_count» → Routed (train l i)
   path i h = routed l i w size h
 
@@ -148,7 +148,7 @@ module _ (l : Line) (w : Within l) (size : length (l .traffic .trains) ≡ 12) w
     free-fit = record { size = minutes-size l; within = bounded (λ _. 2879) (λ i k h b. omega (arith, days i k h b)) days }
       where
         days : (i k : ℕ) → i < l .traffic .«train_count» → k < legs l i → freeAfter l i k ≤ 2879
-        days i k h b = omega (arith, free-last l i k b, ends i h, train-within l i w size h .latest .1)
+        days i k h b = omega (arith, free-last l i k b, ends i h, train-runnable l i w size h .latest .1)
 
     free-least : IsLeast 352 (Keeps l free) (replicate 352 0) (freeMinutes l)
     free-least =

@@ -15,7 +15,8 @@ use Rattle.line.specs.declared.Kind.{Kind}
 use Rattle.line.specs.declared.Segment.{Segment}
 use Rattle.line.specs.declared.Train.{Train}
 use Rattle.line.specs.declared.Line.{Line}
-use Rattle.line.specs.Within.{Within, Arrays}
+use Rattle.line.specs.Within.{Arrays}
+use Rattle.line.specs.Runnable.{Runnable}
 use Rattle.rules.specs.Statement.Paths.{train, segmentCount, segment, legs, segmentOf, sameWay, into, outbound, EachTrain}
 use Rattle.rules.specs.Statement.Minutes.{departs, arrives}
 use Rattle.rules.specs.Statement.Rules.{NotBefore, TrainRules, GapBy}
@@ -210,7 +211,7 @@ arrives-in p i h k = omega arith
 into-few : (t : Train) (s : ℕ) → 0 < s → s < 11 → into t s < 11
 into-few t s h k = elim (outbound t) as (λ b. cond b (s - 1) s < 11) [ true ↦ omega arith | false ↦ omega arith ]
 
-module _ (l : Line) (w : Within l) (r : Arrays l) (q : Plan) where
+module _ (l : Line) (w : Runnable l) (r : Arrays l) (q : Plan) where
   train-in : EachTrain l (λ i. AllIn (trainArcs l i) 352)
   train-in i n =
       let t = routed l i w (r .trains) n in

@@ -11,13 +11,14 @@ use Rattle.finite.specs.EachLaws.{each-at, each-take}
 use Rattle.finite.specs.BelowLaws.{table-at, table-size}
 use Rattle.line.specs.declared.Train.{Train}
 use Rattle.line.specs.declared.Line.{Line}
-use Rattle.line.specs.Ranges.{In, run, stop}
+use Rattle.line.specs.Ranges.{In, run}
 use Rattle.line.specs.Record.{noSegment, legsBetween, legsOf}
-use Rattle.line.specs.Within.{SegmentWithin, TrainArrays, Within, Arrays}
+use Rattle.line.specs.Within.{SegmentWithin, TrainArrays, Arrays}
+use Rattle.line.specs.Runnable.{heldStop, Runnable}
 use Rattle.rules.specs.Statement.Paths.{pastTrain, train, segmentCount, segment, legs, runOf, stopOf, segmentOf, Routed}
 use Rattle.rules.specs.Statement.Minutes.{departs}
 use Rattle.rules.specs.Statement.Delay.{freeArrival}
-use Rattle.rules.specs.StatementLaws.PathsLaws.{train-within, routed, legs-few, segment-out, segment-in, uses-leg, leg-uses}
+use Rattle.rules.specs.StatementLaws.PathsLaws.{train-runnable, routed, legs-few, segment-out, segment-in, uses-leg, leg-uses}
 use Rattle.orders.specs.Graph.LegsLaws.{Leg, leg-test, train-leg}
 use Rattle.orders.specs.LineTables.Tables.{legTable, tableSize, runIn, stopIn, nextIn, limitIn, weightIn, freeIn, restIn, lastIn, sharedIn, followingIn, opposingIn, legOn, isLast, restAfter, limitOf, legValue, noLegValue, shares, segmentValue, onLeg, legEntry, segmentEntry, tablesOf}
 use Rattle.orders.specs.LineTables.TablesLaws.{no-segment-is, segments-first, legs-later}
@@ -72,7 +73,7 @@ module _ (l : Line) (f : ℕ → ℕ → ℕ) (z : ℕ) where
   pub on-leg-off : (e : ℕ) → (Leg l e → ⊥) → onLeg l f z e ≡ z
   on-leg-off e h = rw (is-false (leg-test l e) h) refl
 
-module _ (l : Line) (w : Within l) (r : Arrays l) where
+module _ (l : Line) (w : Runnable l) (r : Arrays l) where
   -- entry e of table n is the value of leg k of train i
   leg-value : (n i k : ℕ) → n < 8 → i < l .traffic .«train_count» → k < legs l i →
       let e = departs (segmentOf (train l i) k) i in getD (tablesOf l) (legTable n + e) 0 ≡ legValue n l e i k
@@ -97,7 +98,7 @@ module _ (l : Line) (w : Within l) (r : Arrays l) where
       (h i (k .0) (u .0) (k .1) at))
       (λ u. subst P (sym (leg-entry l n e few b ∙ on-leg-off l (legValue n l e) (noLegValue n e) e u)) rest)
 
-  -- ---- what Within says of the entries of a path
+  -- ---- what Runnable says of the entries of a path
 
   arrays : (i : ℕ) → i < l .traffic .«train_count» → TrainArrays (train l i)
   arrays i n =
@@ -107,12 +108,12 @@ module _ (l : Line) (w : Within l) (r : Arrays l) where
   pub run-in : (i k : ℕ) → i < l .traffic .«train_count» → k < legs l i → In run (runOf l i k)
   run-in i k n h =
       each-at (In run) (legs l i) (train l i .runs) k 0 (omega (arith, arrays i n .0, legs-few (train l i) (routed l i w (r .trains) n) .1)) h
-      (train-within l i w (r .trains) n .runs)
+      (train-runnable l i w (r .trains) n .runs)
 
-  stop-in : (i k : ℕ) → i < l .traffic .«train_count» → k < legs l i - 1 → In stop (stopOf l i k)
+  stop-in : (i k : ℕ) → i < l .traffic .«train_count» → k < legs l i - 1 → In heldStop (stopOf l i k)
   stop-in i k n h =
-      each-at (In stop) (legs l i - 1) (train l i .stops) k 0 (omega (arith, arrays i n .1, legs-few (train l i) (routed l i w (r .trains) n) .1)) h
-      (train-within l i w (r .trains) n .stops)
+      each-at (In heldStop) (legs l i - 1) (train l i .stops) k 0 (omega (arith, arrays i n .1, legs-few (train l i) (routed l i w (r .trains) n) .1)) h
+      (train-runnable l i w (r .trains) n .stops)
 
   gaps-in : (p : ℕ) → p < segmentCount l → SegmentWithin (segment l p)
   gaps-in p h = each-at SegmentWithin (segmentCount l) (l .track .segments) p noSegment (omega (arith, r .segments, w .stations .1)) h (w .segments)
@@ -193,10 +194,10 @@ module _ (l : Line) (w : Within l) (r : Arrays l) where
   unfolding noLegValue
   run-most e b = leg-or (λ x. x ≤ 240) 0 e (omega arith) b (λ i k n h q. run-in i k n h .1) (omega arith)
 
-  pub stop-most : (e : ℕ) → e < 176 → stopIn (tablesOf l) e ≤ 240
+  pub stop-most : (e : ℕ) → e < 176 → stopIn (tablesOf l) e ≤ 480
   unfolding noLegValue
   stop-most e b =
-      leg-or (λ x. x ≤ 240) 1 e (omega arith) b
+      leg-or (λ x. x ≤ 480) 1 e (omega arith) b
       (λ i k n h q. elim (decLt (k + 1) (legs l i)) [
         | yes m ↦ rw (ne-eqb (k + 1) (legs l i) (omega arith)) (stop-in i k n (omega arith) .1)
         | no m ↦ rw (eq-eqb (k + 1) (legs l i) (omega arith)) (omega arith)
@@ -206,13 +207,13 @@ module _ (l : Line) (w : Within l) (r : Arrays l) where
   pub limit-most : (e : ℕ) → e < 176 → limitIn (tablesOf l) e ≤ 2879
   unfolding noLegValue
   limit-most e b =
-      leg-or (λ x. x ≤ 2879) 3 e (omega arith) b (λ i k n h q. omega (arith, train-within l i w (r .trains) n .latest .1)) (omega arith)
+      leg-or (λ x. x ≤ 2879) 3 e (omega arith) b (λ i k n h q. omega (arith, train-runnable l i w (r .trains) n .latest .1)) (omega arith)
 
   pub weight-most : (e : ℕ) → e < 176 → weightIn (tablesOf l) e ≤ 99
   unfolding noLegValue
   weight-most e b =
       leg-or (λ x. x ≤ 99) 4 e (omega arith) b
-      (λ i k n h q. kept (isLast (train l i) k) (train l i .weight) (train-within l i w (r .trains) n .weight .1))
+      (λ i k n h q. kept (isLast (train l i) k) (train l i .weight) (train-runnable l i w (r .trains) n .weight .1))
       (omega arith)
     where
       kept : (c : Bool) (x : ℕ) → x ≤ 99 → cond c x 0 ≤ 99

@@ -12,7 +12,7 @@ use Rattle.line.specs.declared.Segment.{Segment}
 use Rattle.line.specs.declared.Train.{Train}
 use Rattle.line.specs.declared.Line.{Line}
 use Rattle.line.specs.Record.{legsOf}
-use Rattle.line.specs.Within.{Within}
+use Rattle.line.specs.Runnable.{Runnable}
 use Rattle.rules.specs.Statement.Paths.{train, segmentCount, segment, runOf, stopOf, legs, segmentOf, Uses, Routed}
 use Rattle.rules.specs.StatementLaws.PathsLaws.{run-most, stop-most}
 use Rattle.rules.specs.Statement.Delay.{freeAfter, freeArrival}
@@ -71,7 +71,7 @@ module _ (l : Line) (i : ℕ) where
       counted : (n k : ℕ) → k + 1 < n → (n - 1 - k ≡ n - 1 - (k + 1) + 1) × (n - 2 - (n - 1 - (k + 1)) ≡ k) × (n - 1 - (n - 1 - (k + 1)) ≡ k + 1)
       counted n k h = (omega arith, omega arith, omega arith)
 
-  pub rest-most : Within l → i < l .traffic .«train_count» → (j : ℕ) → j < legs l i → restOf l i j ≤ 480 * j
+  pub rest-most : Runnable l → i < l .traffic .«train_count» → (j : ℕ) → j < legs l i → restOf l i j ≤ 720 * j
   unfolding restOf
   rest-most w h zero b = omega arith
   rest-most w h (suc j) b =

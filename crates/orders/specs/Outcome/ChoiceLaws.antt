@@ -7,7 +7,8 @@ use mathlib.Core.List.{List}
 use native.Mathlib.Omega.{arith}
 use lib.ListN.{getD}
 use Rattle.line.specs.declared.Line.{Line}
-use Rattle.line.specs.Within.{Within, Arrays}
+use Rattle.line.specs.Within.{Arrays}
+use Rattle.line.specs.Runnable.{Runnable}
 use Rattle.rules.specs.Statement.Paths.{train, outOf, EachTrain}
 use Rattle.rules.specs.Statement.Minutes.{departs}
 use Rattle.rules.specs.Statement.Rules.{NotLate}
@@ -38,7 +39,7 @@ use Rattle.orders.specs.Outcome.LimitsLaws.{limits-late, late-limits}
 pub segment-mark : (p i j : ℕ) (q : Plan) → inMask (getD (also (onSegment p i j) q) (departs p i) 0) j ≡ true
 segment-mark p i j q = marked-row (also (onSegment p i j) q) (onSegment p i j) (departs p i) j refl refl ∙ also-here (onSegment p i j) q
 
-module _ (l : Line) (w : Within l) (r : Arrays l) where
+module _ (l : Line) (w : Runnable l) (r : Arrays l) where
   abbrev ds : List ℕ
   ds = directionsOf l
 

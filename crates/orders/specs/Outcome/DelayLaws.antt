@@ -9,7 +9,8 @@ use Rattle.finite.specs.Below.{sum}
 use Rattle.finite.specs.BelowLaws.{sum-same}
 use Rattle.finite.specs.SumsLaws.{sum-none, sum-only, sum-parts, sum-columns}
 use Rattle.line.specs.declared.Line.{Line}
-use Rattle.line.specs.Within.{Within, Arrays}
+use Rattle.line.specs.Within.{Arrays}
+use Rattle.line.specs.Runnable.{Runnable}
 use Rattle.rules.specs.Statement.Paths.{train, legs, segmentOf}
 use Rattle.rules.specs.Statement.Minutes.{departs}
 use Rattle.rules.specs.Statement.Delay.{delay, weightedDelay}
@@ -18,7 +19,7 @@ use Rattle.rules.specs.StatementLaws.PathsLaws.{routed, legs-few, segment-below
 use Rattle.orders.specs.LineTables.Tables.{weightIn, freeIn, costIn, tablesOf}
 use Rattle.orders.specs.LineTables.TableLegsLaws.{weight-last, free-last, weight-else}
 
-module _ (l : Line) (w : Within l) (r : Arrays l) (m : List ℕ) where
+module _ (l : Line) (w : Runnable l) (r : Arrays l) (m : List ℕ) where
   -- the cost of leg e
   abbrev legCost : ℕ → ℕ
   legCost e = weightIn (tablesOf l) e * (getD m (176 + e) 0 - freeIn (tablesOf l) e)

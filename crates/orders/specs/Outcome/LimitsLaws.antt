@@ -5,7 +5,8 @@ use mathlib.Core.List.{List}
 use native.Mathlib.Omega.{arith}
 use lib.ListN.{getD}
 use Rattle.line.specs.declared.Line.{Line}
-use Rattle.line.specs.Within.{Within, Arrays}
+use Rattle.line.specs.Within.{Arrays}
+use Rattle.line.specs.Runnable.{Runnable}
 use Rattle.rules.specs.Statement.Paths.{train, legs, segmentOf, EachTrain}
 use Rattle.rules.specs.Statement.Minutes.{departs, arrival, lastArrival}
 use Rattle.rules.specs.Statement.Rules.{Runs, Stops, TrainRules, NotLate}
@@ -28,7 +29,7 @@ rest-fits l m i runs stops (suc j) k e =
     let run : legs l i - 1 - j ≡ k + 1 = omega arith in
     rw (stop, run) (omega (arith, rest-fits l m i runs stops j (k + 1) (omega arith), stops k (omega arith), runs (k + 1) (omega arith)))
 
-module _ (l : Line) (w : Within l) (r : Arrays l) (m : List ℕ) where
+module _ (l : Line) (w : Runnable l) (r : Arrays l) (m : List ℕ) where
   pub limits-late : InLimits (tablesOf l) (directionsOf l) m → EachTrain l (NotLate l m)
   unfolding restOf
   limits-late h i n =

@@ -9,7 +9,7 @@ use native.Mathlib.Omega.{arith}
 use lib.ListN.{length, getD, replicate, length-set, length-replicate}
 use borrow.Author.Tests.{eqb-true, eq-eqb}
 use Rattle.line.specs.declared.Line.{Line}
-use Rattle.line.specs.Within.{Within}
+use Rattle.line.specs.Runnable.{Runnable}
 use Rattle.orders.specs.Plan.Bits.{bit, inMask, withBit, change}
 use Rattle.orders.specs.Plan.BitsLaws.{bit-zero, bit-here, bit-other, change-set, change-cases}
 use Rattle.orders.specs.Plan.Choices.{Choice, onSegment, atStation, Of}
@@ -35,7 +35,7 @@ also-here c p =
     (λ h. ap (bit (second c)) (h .1) ∙ bit-here (second c) (getD p (row c) 0))
     (change-cases (withBit (second c)) (row c) p (row c)))
 
-pub of-placed : (l : Line) → Within l → (c : Choice) → Of l c → Placed c
+pub of-placed : (l : Line) → Runnable l → (c : Choice) → Of l c → Placed c
 of-placed l w (onSegment p i j) o = (omega (arith, w .stations .1, o .0), omega (arith, w .trains .1, o .1))
 of-placed l w (atStation s a b) o = (omega (arith, w .stations .1, o .0), omega (arith, w .trains .1, o .1))
 
@@ -67,7 +67,7 @@ also-cases c d p =
 pub also-placed : (c d : Choice) (p : Plan) → Placed c → Placed d → marked (also c p) d ≡ true → (d ≡ c) ⊎ (marked p d ≡ true)
 also-placed c d p a b t = ⊎-elim (λ h. inr (sym h ∙ t)) (λ h. inl (apart c d a b (h .0) (h .1))) (also-cases c d p)
 
-pub also-only : (l : Line) → Within l → (c d : Choice) (p : Plan) → Of l c → Of l d → marked (also c p) d ≡ true → (d ≡ c) ⊎ (marked p d ≡ true)
+pub also-only : (l : Line) → Runnable l → (c d : Choice) (p : Plan) → Of l c → Of l d → marked (also c p) d ≡ true → (d ≡ c) ⊎ (marked p d ≡ true)
 also-only l w c d p a b t = also-placed c d p (of-placed l w c a) (of-placed l w d b) t
 
 pub also-stays : (c d : Choice) (p : Plan) → marked p d ≡ true → marked (also c p) d ≡ true

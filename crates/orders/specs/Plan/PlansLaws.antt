@@ -4,7 +4,7 @@ use mathlib.Core.Path.{sym, subst}
 use mathlib.Core.Logic.{⊎-elim}
 use mathlib.Core.List.{List}
 use Rattle.line.specs.declared.Line.{Line}
-use Rattle.line.specs.Within.{Within}
+use Rattle.line.specs.Runnable.{Runnable}
 use Rattle.orders.specs.Plan.Choices.{Choice, Of, Shared, KeepsChoice}
 use Rattle.orders.specs.Plan.Marks.{Plan, also}
 use Rattle.orders.specs.Plan.MarksLaws.{also-here, also-only, also-stays}
@@ -15,7 +15,7 @@ module _ (l : Line) (c : Choice) (p : Plan) (m : List ℕ) where
   keeps-rest k =
       record { trains = k .trains; choices = λ d o s t. k .choices d o s (also-stays c d p t) }
 
-  pub keeps-also : Within l → Of l c → Keeps l p m → KeepsChoice l m c → Keeps l (also c p) m
+  pub keeps-also : Runnable l → Of l c → Keeps l p m → KeepsChoice l m c → Keeps l (also c p) m
   keeps-also w a k h =
       record {
         trains = k .trains;

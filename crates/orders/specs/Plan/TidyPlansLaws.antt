@@ -2,7 +2,7 @@
 use mathlib.Core.Path.{sym, subst}
 use mathlib.Core.Logic.{⊎-elim}
 use Rattle.line.specs.declared.Line.{Line}
-use Rattle.line.specs.Within.{Within}
+use Rattle.line.specs.Runnable.{Runnable}
 use Rattle.orders.specs.Plan.Choices.{Choice}
 use Rattle.orders.specs.Plan.Marks.{Plan, free, also}
 use Rattle.orders.specs.Plan.MarksLaws.{free-marked, free-size, of-placed, also-placed, also-size}
@@ -11,7 +11,7 @@ use Rattle.orders.specs.Plan.TidyPlans.{Fitting, Tidy}
 pub free-tidy : (l : Line) → Tidy l free
 free-tidy l = record { size = free-size; fitting = λ c o t. absurd (free-marked c t) }
 
-pub also-tidy : (l : Line) → Within l → (c : Choice) (q : Plan) → Fitting l c → Tidy l q → Tidy l (also c q)
+pub also-tidy : (l : Line) → Runnable l → (c : Choice) (q : Plan) → Fitting l c → Tidy l q → Tidy l (also c q)
 also-tidy l w c q f h =
     let placed = of-placed l w c (f .0) in
     record {

@@ -5,6 +5,7 @@ use mathlib.Core.List.{List, []}
 use Rattle.finite.specs.Below.{gather}
 use Rattle.line.specs.declared.Line.{Line}
 use Rattle.line.specs.Within.{Within, Arrays}
+use Rattle.line.specs.RunnableLaws.{within-runnable}
 use Rattle.rules.specs.declared.conflicts.Conflict.{Conflict}
 use Rattle.rules.specs.Conflict.Conflicts.{conflictOf}
 use Rattle.orders.specs.Plan.Marks.{Plan}
@@ -21,7 +22,7 @@ module _ (l : Line) (w : Within l) (a : Arrays l) (p : Plan) (m : List ℕ) wher
   conflict-splits c real some = record {
     complete = λ m′ h k.
         let (v, there, o, g) = goes-of l w a m m′ (h .1) c real some in
-        (v, there, keeps-also l v p m′ w o k g);
+        (v, there, keeps-also l v p m′ (within-runnable l w) o k g);
     progress = λ v there k.
         let n = not-kept l m c real v there in
         n .2 (keeps-chosen l v p m (n .0) (n .1) k);

@@ -7,7 +7,9 @@ use native.Mathlib.Omega.{arith}
 use lib.ListN.{getD}
 use Rattle.finite.specs.DecideLaws.{is-true}
 use Rattle.line.specs.declared.Line.{Line}
-use Rattle.line.specs.Within.{Within, Arrays}
+use Rattle.line.specs.Within.{Arrays}
+use Rattle.line.specs.Runnable.{Runnable}
+use Rattle.line.specs.RunnableLaws.{within-runnable}
 use Rattle.rules.specs.Statement.Paths.{train, outbound, outOf, Uses, Middle}
 use Rattle.rules.specs.Statement.Minutes.{departs}
 use Rattle.rules.specs.Conflict.Directions.{directionsOf}
@@ -25,7 +27,7 @@ use Rattle.plans.specs.Contracts.Choosing.{Chooses, NoRaise, Raises}
 use Rattle.plans.specs.declared.ways.Way.{Way}
 
 -- the leg out of a middle station is that of the segment on which the train leaves it
-leg-leaves : (l : Line) → Within l → Arrays l → (s a : ℕ) → a < l .traffic .«train_count» → Middle (train l a) s →
+leg-leaves : (l : Line) → Runnable l → Arrays l → (s a : ℕ) → a < l .traffic .«train_count» → Middle (train l a) s →
     legOut (directionsOf l) s a ≡ departs (outOf (train l a) s) a
 unfolding legOut
 leg-leaves l w r s a n h = rw (out-over l w r a n s (within-over h)) (either (outbound (train l a)))
@@ -43,7 +45,7 @@ module _ (l : Line) (p : Plan) (m marks t ds : List ℕ) (way : Way) (cost cut :
       Choosing (Follows (way .leg) (way .second)) m marks t ds (way .leg) cost cut × (way .second < 12) ×
       (inMask (getD marks (way .leg) 0) (way .second) ≡ true)
   segment-asks (onSegment x i j) h s low most =
-      let w = h .tabled .within in
+      let w = within-runnable l (h .tabled .within) in
       rw (h .told .leg, h .told .second, h .marks-are, h .tabled .tables, h .tabled .directions) (
         choosing l w (h .tabled .arrays) (onSegment x i j) (h .fitting) p (h .planned .tidy) m (h .planned .keeps) cost cut (h .planned .fit)
             (decides-inTime l m .yea (h .planned .timely)) (h .planned .cost-is) low most,
@@ -58,7 +60,7 @@ module _ (l : Line) (p : Plan) (m marks t ds : List ℕ) (way : Way) (cost cut :
       (inMask (getD marks (leaving ds (way .leg)) 0) (way .second) ≡ true)
   station-asks (onSegment x i j) h e low most = absurd (false≢true (sym (h .told .station) ∙ e))
   station-asks (atStation s a b) h e low most =
-      let w = h .tabled .within in
+      let w = within-runnable l (h .tabled .within) in
       let r = h .tabled .arrays in
       let f = h .fitting in
       let leg = leg-leaves l w r s a (f .0 .1) (f .1 .0) in
@@ -75,12 +77,12 @@ module _ (l : Line) (p : Plan) (m marks t ds : List ℕ) (way : Way) (cost cut :
   none-raises c h x m′ z k up late low =
       let q = h .planned in
       let y : NoneChosen (also c p) (tablesOf l) (directionsOf l) cut m = rw (h .marks-are, h .tabled .tables, h .tabled .directions) at x in
-      chosen-none l (h .tabled .within) (h .tabled .arrays) c (h .fitting) p (q .tidy) m (q .keeps) cut y m′ z k up (decides-inTime l m′ .yea late) low
+      chosen-none l (within-runnable l (h .tabled .within)) (h .tabled .arrays) c (h .fitting) p (q .tidy) m (q .keeps) cut y m′ z k up (decides-inTime l m′ .yea late) low
 
   pub chose-raises : (c : Choice) → Chooses l c p m marks t ds way cost → (n : List ℕ) (r : ℕ) → Chose marks t ds cut m n r → Raises l c p m cut n r
   chose-raises c h n r x =
       let q = h .planned in
-      let w = h .tabled .within in
+      let w = within-runnable l (h .tabled .within) in
       let a = h .tabled .arrays in
       let y : Chose (also c p) (tablesOf l) (directionsOf l) cut m n r = rw (h .marks-are, h .tabled .tables, h .tabled .directions) at x in
       record {

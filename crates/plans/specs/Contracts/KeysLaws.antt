@@ -13,6 +13,7 @@ use Rattle.finite.specs.Below.{EachBelow}
 use Rattle.finite.specs.BelowLaws.{table-at, table-size}
 use Rattle.line.specs.declared.Line.{Line}
 use Rattle.line.specs.Within.{Within}
+use Rattle.line.specs.RunnableLaws.{within-runnable}
 use Rattle.rules.specs.Statement.Paths.{train, legs}
 use Rattle.rules.specs.Statement.Delay.{weightedDelay}
 use Rattle.rules.specs.StatementLaws.PathsLaws.{routed-leg, segment-below}
@@ -78,7 +79,7 @@ module _ (l : Line) (w : Within l) (m : List ℕ) where
   keyed-entry e b =
       by-test (decides-leg l (e / 11) (e % 11))
       (λ h.
-      let low = segment-below (train l (e / 11)) (routed-leg l (e / 11) w (h .0) (omega (arith, h .1))) (e % 11) (h .1) in
+      let low = segment-below (train l (e / 11)) (routed-leg l (e / 11) (within-runnable l w) (h .0) (omega (arith, h .1))) (e % 11) (h .1) in
       sym (minute-in (keyOf l) m e (departsAt l (e / 11) (e % 11)) (entry-leg l _ _ (h .0) (h .1) ∙ sym (key-at l e b)) (omega arith)) ∙
       sym (table-at _ 132 e b ∙ rw (is-true (decides-leg l (e / 11) (e % 11)) h) refl))
       (λ h.

@@ -8,6 +8,7 @@ use native.Mathlib.Omega.{arith}
 use lib.ListN.{getD, set}
 use Rattle.line.specs.declared.Line.{Line}
 use Rattle.line.specs.Within.{Within, Arrays}
+use Rattle.line.specs.RunnableLaws.{within-runnable}
 use Rattle.rules.specs.Statement.Delay.{weightedDelay}
 use Rattle.rules.specs.Check.RulesLaws.{cost-most}
 use Rattle.orders.specs.LeastMinutes.NoLater.{slack}
@@ -59,7 +60,7 @@ module _ (l : Line) (best : List ℕ) (y b : Tally) (found-is : b .found ≡ y .
 module _ (l : Line) (w : Within l) (a : Arrays l) where
   -- no timetable costs as much as the answer that there is none
   pub delay-low : (m : List ℕ) → Fit 352 m → weightedDelay l m < 4294967295
-  delay-low m z = omega (arith, cost-most l m w (λ i _ k _. (z .within (departsAt l i k), z .within (arrivesAt l i k))), w .trains .1)
+  delay-low m z = omega (arith, cost-most l m (within-runnable l w) (λ i _ k _. (z .within (departsAt l i k), z .within (arrivesAt l i k))), w .trains .1)
 
   -- what is better than the best so far costs no more than the cut
   pub improves-cheap : (best : List ℕ) (y : Tally) (n : List ℕ) → Tallied l best y → Fit 352 n → Improves (planning l) n (bestOf y best) →
@@ -84,7 +85,7 @@ module _ (l : Line) (w : Within l) (a : Arrays l) where
         record {
           fit = h .least v .fit;
           keeps = h .least v .keeps;
-          tidy = also-tidy l w c p f (q .tidy);
+          tidy = also-tidy l (within-runnable l w) c p f (q .tidy);
           timely = h .timely v;
           cost-is = h .cost-is v;
         }

@@ -8,6 +8,7 @@ use native.Mathlib.Omega.{arith}
 use lib.ListN.{length, getD, set}
 use Rattle.line.specs.declared.Line.{Line}
 use Rattle.line.specs.Within.{Within, Arrays}
+use Rattle.line.specs.RunnableLaws.{within-runnable}
 use Rattle.rules.specs.declared.conflicts.Conflict.{Conflict}
 use Rattle.rules.specs.StatementLaws.PathsLaws.{routed}
 use Rattle.rules.specs.Conflict.Conflicts.{conflictOf}
@@ -58,7 +59,7 @@ module _ (l : Line) (w : Within l) (a : Arrays l) (m : List ℕ) where
       (omega (arith, h .place, w .stations .1), omega (arith, h .trains .0, w .trains .1), omega (arith, h .trains .1, w .trains .1))
   range-of (Conflict.AtStation x) h =
       let (i, n, e, _) = count-nth (inMask (x .trains)) (l .traffic .«train_count») 0 (omega (arith, h .many)) in
-      let path = routed l i w (a .trains) n in
+      let path = routed l i (within-runnable l w) (a .trains) n in
       let middle = h .trains i e .1 .0 in
       (omega (arith, middle .0), omega (arith, middle .1, path .origin .1, path .destination .1))
 
@@ -87,7 +88,7 @@ module _ (l : Line) (w : Within l) (a : Arrays l) (m : List ℕ) where
 -- ---- marks
 
 pub row-low : (l : Line) → Within l → (c : Choice) → Fitting l c → row c < 368
-row-low l w c f = row-below c (of-placed l w c (f .0))
+row-low l w c f = row-below c (of-placed l (within-runnable l w) c (f .0))
 
 pub second-low : (l : Line) → Within l → (c : Choice) → Fitting l c → second c < 16
 second-low l w (onSegment p i j) f = omega (arith, f .0 .2, w .trains .1)

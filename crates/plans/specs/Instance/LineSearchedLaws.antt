@@ -9,6 +9,7 @@ use lib.ListN.{getD, replicate, length-replicate}
 use Rattle.finite.specs.DecideLaws.{is-true}
 use Rattle.line.specs.declared.Line.{Line}
 use Rattle.line.specs.Within.{Within, Arrays}
+use Rattle.line.specs.RunnableLaws.{within-runnable}
 use Rattle.rules.specs.declared.conflicts.Conflict.{Conflict}
 use Rattle.rules.specs.Statement.Rules.{Lawful}
 use Rattle.rules.specs.Conflict.Conflicts.{conflictOf}
@@ -67,8 +68,8 @@ module _ (l : Line) (w : Within l) (a : Arrays l) where
   planning-laws = record {
     start-fit = start-fit;
     start-low = λ m _ e. omega (arith, start-zero e);
-    least-is = λ p s m z e. least-is l w a p s m z e;
-    least-none = λ p s z e. least-none l w a p s z e;
+    least-is = λ p s m z e. least-is l (within-runnable l w) a p s m z e;
+    least-none = λ p s z e. least-none l (within-runnable l w) a p s z e;
     cost-up = delay-up l;
     key-up = departures-up l;
     allowed-down = inTime-down l;

@@ -13,6 +13,7 @@ use Rattle.finite.specs.LoopLaws.{decides-all}
 use Rattle.finite.specs.BelowLaws.{table-at, table-past, table-grows}
 use Rattle.line.specs.declared.Line.{Line}
 use Rattle.line.specs.Within.{Within, Arrays}
+use Rattle.line.specs.RunnableLaws.{within-runnable}
 use Rattle.rules.specs.Statement.Paths.{train, legs, EachTrain}
 use Rattle.rules.specs.Statement.Minutes.{departure}
 use Rattle.rules.specs.Statement.Rules.{NotLate}
@@ -73,7 +74,7 @@ module _ (l : Line) where
 
 module _ (l : Line) (w : Within l) (a : Arrays l) where
   eleven : (i : ℕ) → i < l .traffic .«train_count» → legs l i ≤ 11
-  eleven i n = legs-few (train l i) (routed l i w (a .trains) n) .1
+  eleven i n = legs-few (train l i) (routed l i (within-runnable l w) (a .trains) n) .1
 
   -- an entry that is a leg's
   departures-at : (m : List ℕ) (i k : ℕ) → i < l .traffic .«train_count» → k < legs l i → getD (departures l m) (i * 11 + k) 0 ≡ departure l m i k

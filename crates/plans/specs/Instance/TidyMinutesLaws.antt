@@ -11,6 +11,7 @@ use Rattle.finite.specs.DecideLaws.{is-true, decides-and, decides-lt}
 use Rattle.finite.specs.BelowLaws.{table-at, table-past, table-size}
 use Rattle.line.specs.declared.Line.{Line}
 use Rattle.line.specs.Within.{Within, Arrays}
+use Rattle.line.specs.RunnableLaws.{within-runnable}
 use Rattle.rules.specs.Statement.Paths.{train, segmentOf, Uses, EachTrain}
 use Rattle.rules.specs.Statement.Minutes.{departs, arrives, departsOn, arrivesOn}
 use Rattle.rules.specs.Statement.Rules.{InDays, Lawful}
@@ -35,7 +36,7 @@ module _ (l : Line) where
 module _ (l : Line) (w : Within l) (a : Arrays l) (m : List ℕ) where
   pub tidy-same : Same l (tidyMinutes l m) m
   tidy-same i n k h =
-      let t = routed l i w (a .trains) n in
+      let t = routed l i (within-runnable l w) (a .trains) n in
       let u = leg-uses (train l i) t k h in
       let p = segmentOf (train l i) k in
       let few : p < 11 = segment-below (train l i) t k h in

@@ -15,6 +15,7 @@ use Rattle.line.specs.declared.Kind.{Kind}
 use Rattle.line.specs.declared.Segment.{Segment}
 use Rattle.line.specs.declared.Line.{Line}
 use Rattle.line.specs.Within.{Within, Arrays}
+use Rattle.line.specs.RunnableLaws.{within-runnable}
 use Rattle.rules.specs.declared.conflicts.Conflict.{Conflict}
 use Rattle.rules.specs.declared.stations.MinuteFound.{MinuteFound}
 use Rattle.rules.specs.declared.passages.Passage.{Passage}
@@ -26,7 +27,7 @@ use Rattle.rules.specs.Conflict.Directions.{directionsOf, on}
 use Rattle.rules.specs.Conflict.DirectionsLaws.{decides-on, same-way, outbound-way}
 use Rattle.rules.specs.Conflict.Conflicts.{gapBy, passage, keepsAfter, neitherFirst, clash, pairOn, segmentConflict, standsIn, standsAt, standingAt, crowdAt, crowdOn, stationConflict, conflictOf}
 use Rattle.rules.specs.Scan.StationLaws.{or-nothing, conflict-none, none-conflict, none-clash, clash-none, never-crowded, crowded-never, crowd-middle, crowd-first, crowd-last}
-use Rattle.rules.specs.StatementLaws.PathsLaws.{decides-middle, train-within}
+use Rattle.rules.specs.StatementLaws.PathsLaws.{decides-middle, train-runnable}
 use Rattle.rules.specs.Check.RulesLaws.{decides-10, decides-11, decides-12, decides-13}
 use Rattle.rules.specs.Check.Breaches.{trainBreach, conflictBreach, breachOf}
 use Rattle.rules.specs.Check.BreachesLaws.{or-none, breach-none, none-breach}
@@ -163,7 +164,7 @@ module _ (l : Line) (w : Within l) (a : Arrays l) (m : List ℕ) where
   -- the first and the last station are nobody's middle ones
   ends-free : (s : ℕ) → (s ≡ 0) ⊎ (l .track .«station_count» ≤ s + 1) → Room l m s
   ends-free s (inl e) = nobody-stands l m s (λ i b h. omega (arith, h .0))
-  ends-free s (inr e) = nobody-stands l m s (λ i b h. let t = train-within l i w (a .trains) b in omega (arith, h .1, t .origin .1, t .destination .1))
+  ends-free s (inr e) = nobody-stands l m s (λ i b h. let t = train-runnable l i (within-runnable l w) (a .trains) b in omega (arith, h .1, t .origin .1, t .destination .1))
 
   crowd-clear : (s : ℕ) → 0 < s → s + 1 < l .track .«station_count» →
       crowdOn (l .track .tracks) (directionsOf l) m (l .track .«station_count») (l .traffic .«train_count») s ≡ Conflict.Nothing → Room l m s

@@ -18,10 +18,10 @@ use Rattle.finite.specs.BelowLaws.{sum-most, sum-grows}
 use Rattle.line.specs.declared.Train.{Train}
 use Rattle.line.specs.declared.Line.{Line}
 use Rattle.line.specs.Record.{legsOf}
-use Rattle.line.specs.Within.{Within}
+use Rattle.line.specs.Runnable.{Runnable}
 use Rattle.rules.specs.Statement.Paths.{train, runOf, stopOf, legs, tracksAt, EachTrain}
 use Rattle.rules.specs.Statement.Minutes.{departure, arrival, lastArrival}
-use Rattle.rules.specs.StatementLaws.PathsLaws.{routed-within, legs-few, train-or-past, run-most, stop-most, decides-middle}
+use Rattle.rules.specs.StatementLaws.PathsLaws.{routed-runnable, legs-few, train-or-past, run-most, stop-most, decides-middle}
 use Rattle.rules.specs.Statement.Delay.{freeAfter, freeArrival, delay, weightedDelay}
 use Rattle.rules.specs.Statement.Rules.{InDays, NotEarly, Runs, Stops, NotLate, stands, Stands, standing, Room}
 use Rattle.rules.specs.Check.Tests.{departureOf, arrivalOf, startsRight, runsRight, stopsRight, endsRight, keepsRule}
@@ -44,9 +44,9 @@ module _ (l : Line) (i : ℕ) where
   free-step k r s e = rw (r, s, e, free-next k) refl
 
   -- it fits 16 bits
-  pub free-most : Within l → i < l .traffic .«train_count» → (k : ℕ) → k < legs l i → freeAfter l i k ≤ 3119 + 480 * k
+  pub free-most : Runnable l → i < l .traffic .«train_count» → (k : ℕ) → k < legs l i → freeAfter l i k ≤ 3359 + 720 * k
   free-most w h zero b =
-      let first : train l i .earliest ≤ 2879 = ⊎-elim (λ t. t .earliest .1) (λ e. omega (arith, ap (λ (t : Train). t .earliest) e)) (train-or-past l i w h) in
+      let first : train l i .earliest ≤ 3119 = ⊎-elim (λ t. t .earliest .1) (λ e. omega (arith, ap (λ (t : Train). t .earliest) e)) (train-or-past l i w h) in
       omega (arith, free-start, first, run-most l i w h 0 b)
   free-most w h (suc k) b =
       rw (← add-one)
@@ -81,12 +81,12 @@ module _ (l : Line) (m : List ℕ) where
   cost-end e h = e ∙ ap (sum cost) h
 
   -- a train costs at most 99 times 2,879
-  pub cost-most : Within l → EachTrain l (InDays l m) → weightedDelay l m ≤ l .traffic .«train_count» * 285021
+  pub cost-most : Runnable l → EachTrain l (InDays l m) → weightedDelay l m ≤ l .traffic .«train_count» * 285021
   unfolding weightedDelay
   cost-most w days = sum-most cost 285021 (l .traffic .«train_count») (λ i h.
       ⊎-elim
       (λ t.
-      let some = legs-few (train l i) (routed-within _ _ t (w .stations .1)) .0 in
+      let some = legs-few (train l i) (routed-runnable _ _ t (w .stations .1)) .0 in
       let last = days i h (legsOf (train l i) - 1) (omega arith) .1 in
       mul-le-mul {n₂ = 99} {m₂ = 2879} (t .weight .1) (omega arith))
       (λ e.

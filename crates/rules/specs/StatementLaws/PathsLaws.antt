@@ -1,4 +1,4 @@
--- Laws of paths: each train of a line within the limits has one, with bounds of its runs and stops; its legs are the segments that it uses, and a middle
+-- Laws of paths: each train that can be run has one, with bounds of its runs and stops; its legs are the segments that it uses, and a middle
 -- station lies between two legs in a row.
 use Prim.Native.Nat.{ℕ, _+_, _-_, _≤_, _<_, min, max}
 use mathlib.Core.Path.{_≡_, refl, sym, _∙_, ap}
@@ -14,52 +14,52 @@ use Rattle.finite.specs.DecideLaws.{decides-and, decides-lt}
 use Rattle.finite.specs.EachLaws.{each-at, each-or}
 use Rattle.line.specs.declared.Train.{Train}
 use Rattle.line.specs.declared.Line.{Line}
-use Rattle.line.specs.Ranges.{In, run, stop}
+use Rattle.line.specs.Ranges.{In, run}
 use Rattle.line.specs.Record.{legsBetween, legsOf}
-use Rattle.line.specs.Within.{TrainWithin, Within}
+use Rattle.line.specs.Runnable.{heldStop, TrainRunnable, Runnable}
 use Rattle.rules.specs.Statement.Paths.{pastTrain, train, runOf, stopOf, legs, Uses, segmentBetween, segmentOf, Middle, into, outOf, Routed}
 use Rattle.rules.specs.Statement.Rules.{middle}
 
 -- ---- the train of an index
 
-pub train-within : (l : Line) (i : ℕ) → Within l → length (l .traffic .trains) ≡ 12 → i < l .traffic .«train_count» → TrainWithin (l .track .«station_count») (train l i)
-train-within l i w size h =
-    each-at (TrainWithin (l .track .«station_count»)) (l .traffic .«train_count») (l .traffic .trains) i pastTrain (omega (arith, w .trains)) h (w .each-train)
+pub train-runnable : (l : Line) (i : ℕ) → Runnable l → length (l .traffic .trains) ≡ 12 → i < l .traffic .«train_count» → TrainRunnable (l .track .«station_count») (train l i)
+train-runnable l i w size h =
+    each-at (TrainRunnable (l .track .«station_count»)) (l .traffic .«train_count») (l .traffic .trains) i pastTrain (omega (arith, w .trains)) h (w .each-train)
 
-pub routed-within : (n : ℕ) (t : Train) → TrainWithin n t → n ≤ 12 → Routed t
-routed-within n t w h =
+pub routed-runnable : (n : ℕ) (t : Train) → TrainRunnable n t → n ≤ 12 → Routed t
+routed-runnable n t w h =
     record {
       origin = (omega (arith, w .origin), omega (arith, w .origin));
       destination = (omega (arith, w .destination), omega (arith, w .destination));
       apart = w .apart;
     }
 
-pub routed : (l : Line) (i : ℕ) → Within l → length (l .traffic .trains) ≡ 12 → i < l .traffic .«train_count» → Routed (train l i)
-routed l i w size h = routed-within _ _ (train-within l i w size h) (w .stations .1)
+pub routed : (l : Line) (i : ℕ) → Runnable l → length (l .traffic .trains) ≡ 12 → i < l .traffic .«train_count» → Routed (train l i)
+routed l i w size h = routed-runnable _ _ (train-runnable l i w size h) (w .stations .1)
 
 pub legs-few : (t : Train) → Routed t → (1 ≤ legsOf t) × (legsOf t ≤ 11)
 legs-few t r = (omega (arith, r .apart), omega (arith, r .origin, r .destination))
 
--- whatever the length of its array of trains, a line within the limits has a train at each index below its count, or the one past the last, which
+-- whatever the length of its array of trains, a line that can be run has a train at each index below its count, or the one past the last, which
 -- has no leg and no weight
-module _ (l : Line) (i : ℕ) (w : Within l) (h : i < l .traffic .«train_count») where
-  pub train-or-past : TrainWithin (l .track .«station_count») (train l i) ⊎ (train l i ≡ pastTrain)
-  train-or-past = each-or (TrainWithin (l .track .«station_count»)) (l .traffic .«train_count») (l .traffic .trains) i pastTrain h (w .each-train)
+module _ (l : Line) (i : ℕ) (w : Runnable l) (h : i < l .traffic .«train_count») where
+  pub train-or-past : TrainRunnable (l .track .«station_count») (train l i) ⊎ (train l i ≡ pastTrain)
+  train-or-past = each-or (TrainRunnable (l .track .«station_count»)) (l .traffic .«train_count») (l .traffic .trains) i pastTrain h (w .each-train)
 
   pub routed-leg : 1 ≤ legs l i → Routed (train l i)
-  routed-leg some = ⊎-elim (λ t. routed-within _ _ t (w .stations .1)) (λ e. absurd (omega (arith, ap legsOf e))) train-or-past
+  routed-leg some = ⊎-elim (λ t. routed-runnable _ _ t (w .stations .1)) (λ e. absurd (omega (arith, ap legsOf e))) train-or-past
 
   pub legs-most : legs l i ≤ 11
-  legs-most = ⊎-elim (λ t. legs-few (train l i) (routed-within _ _ t (w .stations .1)) .1) (λ e. omega (arith, ap legsOf e)) train-or-past
+  legs-most = ⊎-elim (λ t. legs-few (train l i) (routed-runnable _ _ t (w .stations .1)) .1) (λ e. omega (arith, ap legsOf e)) train-or-past
 
   pub run-most : (k : ℕ) → k < legs l i → runOf l i k ≤ 240
   run-most k b =
       ⊎-elim (λ t. ⊎-elim (λ p. p .1) (λ e. omega (arith, e)) (each-or (In run) (legs l i) (train l i .runs) k 0 b (t .runs)))
       (λ e. absurd (omega (arith, ap legsOf e))) train-or-past
 
-  pub stop-most : (k : ℕ) → k < legs l i - 1 → stopOf l i k ≤ 240
+  pub stop-most : (k : ℕ) → k < legs l i - 1 → stopOf l i k ≤ 480
   stop-most k b =
-      ⊎-elim (λ t. ⊎-elim (λ p. p .1) (λ e. omega (arith, e)) (each-or (In stop) (legs l i - 1) (train l i .stops) k 0 b (t .stops)))
+      ⊎-elim (λ t. ⊎-elim (λ p. p .1) (λ e. omega (arith, e)) (each-or (In heldStop) (legs l i - 1) (train l i .stops) k 0 b (t .stops)))
       (λ e. absurd (omega (arith, ap legsOf e))) train-or-past
 
 -- ---- legs and segments

@@ -10,6 +10,7 @@ use Rattle.finite.specs.DecideLaws.{by-test, is-true, is-false, decides-not, de
 use Rattle.finite.specs.BelowLaws.{count-same, sum-same, gather-same}
 use Rattle.line.specs.declared.Line.{Line}
 use Rattle.line.specs.Within.{Within, Arrays}
+use Rattle.line.specs.RunnableLaws.{within-runnable}
 use Rattle.rules.specs.declared.orders.Lane.{Lane}
 use Rattle.rules.specs.Statement.Paths.{train, segmentCount, segment, legs, Uses}
 use Rattle.rules.specs.Statement.Minutes.{departsOn, arrivesOn, lastArrival}
@@ -59,7 +60,7 @@ module _ (l : Line) (m m′ : List ℕ) (s : Same l m m′) where
 
   module _ (w : Within l) (a : Arrays l) where
     has-legs : (i : ℕ) → i < l .traffic .«train_count» → 1 ≤ legs l i
-    has-legs i n = legs-few (train l i) (routed l i w (a .trains) n) .0
+    has-legs i n = legs-few (train l i) (routed l i (within-runnable l w) (a .trains) n) .0
 
     last-same : (i : ℕ) → i < l .traffic .«train_count» → lastArrival l m i ≡ lastArrival l m′ i
     last-same i n = s i n (legs l i - 1) (omega (arith, has-legs i n)) .1

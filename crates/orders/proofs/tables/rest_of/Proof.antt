@@ -1,5 +1,5 @@
 -- `orders::tables::rest_of` meets its contract. The invariant: the sum is that of the last k legs, in any line whose train i has these runs and stops; it is
--- at most 480 k (`rest-most`). Assumes nothing.
+-- at most 720 k (`rest-most`). Assumes nothing.
 use Prim.Native.Nat.{_+_, _-_, _≤_}
 use mathlib.Core.Path.{_≡_, refl, _∙_, ap}
 use native.Mathlib.Omega.{arith}

@@ -3,6 +3,7 @@ use Prim.Native.Nat.{ℕ, _+_, _*_}
 use mathlib.Core.Path.{_∙_, ap}
 use native.Mathlib.Omega.{arith}
 use borrow.Author.Needs.{needs}
+use Rattle.line.specs.RunnableLaws.{within-runnable}
 use Rattle.rules.specs.StatementLaws.PathsLaws.{routed-leg}
 use Rattle.plans.specs.Contracts.KeysLaws.{entry-none, entry-leg}
 use Rattle.plans.proofs.ranking.key_entry.Statement.{statement}
@@ -30,7 +31,8 @@ segment-between-requires : tie.Need-segment-between-requires
 segment-between-requires c κs =
     let a = c .before .before .before .before .before .before in
     let legs = c .before .legs-between .ensures in
-    let r = routed-leg (a .args .line) (a .args .i) (a .pre) (omega (arith, c .before .before .before .before .if1 .left)) (omega (arith, legs, c .if2 .left)) in
+    let w = within-runnable (a .args .line) (a .pre) in
+    let r = routed-leg (a .args .line) (a .args .i) w (omega (arith, c .before .before .before .before .if1 .left)) (omega (arith, legs, c .if2 .left)) in
     (r .origin .0, r .origin .1, r .destination .0, r .destination .1, omega (arith, legs, c .if2 .left))
 
 mul-e : tie.Need-mul-e

@@ -1,5 +1,5 @@
 -- `rules::delay::free_after` meets its contract. The invariant: the arrival is that after leg j, in any line whose train i has these runs and stops and the
--- first arrival of the loop's start; it is at most 3,119 + 480 j (`free-most`). Assumes nothing.
+-- first arrival of the loop's start; it is at most 3,359 + 720 j (`free-most`). Assumes nothing.
 use Prim.Native.Nat.{_+_, _-_, _≤_}
 use mathlib.Core.Path.{_≡_, refl, sym, _∙_, ap}
 use native.Mathlib.Omega.{arith}

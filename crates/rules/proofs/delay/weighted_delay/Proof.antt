@@ -9,9 +9,9 @@ use denote.Ref.{now}
 use borrow.Author.Needs.{needs}
 use lib.ListN.{length, length-map}
 use Rattle.finite.specs.Below.{sum}
-use Rattle.line.specs.Within.{TrainWithin}
+use Rattle.line.specs.Runnable.{TrainRunnable}
 use Rattle.rules.specs.Statement.Paths.{train, Routed}
-use Rattle.rules.specs.StatementLaws.PathsLaws.{train-within, routed-within, legs-few}
+use Rattle.rules.specs.StatementLaws.PathsLaws.{train-runnable, routed-runnable, legs-few}
 use Rattle.rules.specs.Check.RulesLaws.{sum-next, cost, cost-start, cost-late, cost-none, cost-end}
 use Rattle.rules.proofs.delay.weighted_delay.Statement.{statement}
 use Rattle.rules.proofs.delay.weighted_delay.Tie as tie
@@ -22,23 +22,23 @@ Inv-loop line m n total₀ i₀ total i = (i ≤ n) × (total ≡ sum (cost line
 abbrev μ-loop : tie.MeasureT-loop
 μ-loop line m n total₀ i₀ total i = n - i
 
--- the train of this turn, which is within the limits
-within : (c : tie.After-train Inv-loop μ-loop) →
-    TrainWithin (c .before .before .before .before .before .before .args .line .track .«station_count»)
+-- the train of this turn, which can be run
+runnable : (c : tie.After-train Inv-loop μ-loop) →
+    TrainRunnable (c .before .before .before .before .before .before .args .line .track .«station_count»)
     (train (c .before .before .before .before .before .before .args .line) (c .before .before .before .loop .i))
-within c =
+runnable c =
     let a = c .before .before .before .before .before .before in
     let size : length (a .args .line .traffic .trains) ≡ 12 = sym (length-map (a .args .line .traffic .trains) _) ∙ a .good .0 .1 .1 .1 .0 .1 .1 .1 .0 .1 .0 .1 in
-    train-within (a .args .line) (c .before .before .before .loop .i) (a .pre .0) size (c .before .before .loop-test .taken)
+    train-runnable (a .args .line) (c .before .before .before .loop .i) (a .pre .0) size (c .before .before .loop-test .taken)
 
 path : (c : tie.After-train Inv-loop μ-loop) → Routed
     (train (c .before .before .before .before .before .before .args .line) (c .before .before .before .loop .i))
-path c = routed-within _ _ (within c) (c .before .before .before .before .before .before .pre .0 .stations .1)
+path c = routed-runnable _ _ (runnable c) (c .before .before .before .before .before .before .pre .0 .stations .1)
 
 -- a weight of at most 99 times a delay below 65,536
 most : (c : tie.After-wide3 Inv-loop μ-loop) → c .wide3 .result * (c .before .before .before .before .wide .result - c .before .before .wide2 .result) ≤ 99 * 65535
 most c =
-    mul-le-mul {n₂ = 99} {m₂ = 65535} (omega (arith, c .wide3 .ensures .0, within (c .before .before .before .before .before .before .before) .weight))
+    mul-le-mul {n₂ = 99} {m₂ = 65535} (omega (arith, c .wide3 .ensures .0, runnable (c .before .before .before .before .before .before .before) .weight))
     (omega (arith, c .before .before .before .before .wide .ensures .1))
 
 cast-n : tie.Need-cast-n Inv-loop μ-loop

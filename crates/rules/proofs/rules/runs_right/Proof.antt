@@ -9,6 +9,7 @@ use borrow.Author.Count.{below-more}
 use lib.ListN.{length, length-map}
 use Rattle.finite.specs.DecideLaws.{is-true, is-false}
 use Rattle.finite.specs.Below.{EachBelow}
+use Rattle.line.specs.RunnableLaws.{within-runnable}
 use Rattle.rules.specs.Statement.Paths.{train, Routed}
 use Rattle.rules.specs.StatementLaws.PathsLaws.{routed, legs-few}
 use Rattle.rules.specs.Check.RulesLaws.{RunAt, decides-runs}
@@ -26,7 +27,7 @@ path : (c : tie.After-train Inv-loop μ-loop) → Routed (train (c .before .befo
 path c =
     let a = c .before .before .before in
     let size : length (a .args .line .traffic .trains) ≡ 12 = sym (length-map (a .args .line .traffic .trains) _) ∙ a .good .0 .1 .1 .1 .0 .1 .1 .1 .0 .1 .0 .1 in
-    routed (a .args .line) (a .args .i) (a .pre .0) size (a .pre .2)
+    routed (a .args .line) (a .args .i) (within-runnable (a .args .line) (a .pre .0)) size (a .pre .2)
 
 mul-train : tie.Need-mul-train Inv-loop μ-loop
 mul-train c = search needs

@@ -3,6 +3,7 @@ use mathlib.Core.Path.{_≡_, sym, _∙_}
 use native.Mathlib.Omega.{arith}
 use borrow.Author.Needs.{needs}
 use lib.ListN.{length, length-map}
+use Rattle.line.specs.RunnableLaws.{within-runnable}
 use Rattle.rules.specs.Statement.Paths.{train, Routed}
 use Rattle.rules.specs.StatementLaws.PathsLaws.{routed, legs-few}
 use Rattle.rules.specs.Check.RulesLaws.{starts-is}
@@ -14,7 +15,7 @@ path : (c : tie.After-train) → Routed (train (c .before .before .before .args 
 path c =
     let a = c .before .before .before in
     let size : length (a .args .line .traffic .trains) ≡ 12 = sym (length-map (a .args .line .traffic .trains) _) ∙ a .good .0 .1 .1 .1 .0 .1 .1 .1 .0 .1 .0 .1 in
-    routed (a .args .line) (a .args .i) (a .pre .0) size (a .pre .2)
+    routed (a .args .line) (a .args .i) (within-runnable (a .args .line) (a .pre .0)) size (a .pre .2)
 
 mul-train : tie.Need-mul-train
 mul-train c = search needs

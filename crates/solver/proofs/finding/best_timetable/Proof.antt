@@ -6,6 +6,7 @@ use native.Mathlib.Omega.{arith}
 use borrow.Author.Needs.{needs}
 use borrow.Author.Tests.{not-true, not-false}
 use lib.ListN.{replicate}
+use Rattle.line.specs.RunnableLaws.{within-runnable}
 use Rattle.orders.specs.LeastMinutes.Least.{IsLeast}
 use Rattle.orders.specs.Plan.Marks.{free}
 use Rattle.orders.specs.Plan.Plans.{Keeps}
@@ -18,7 +19,7 @@ use Rattle.solver.proofs.finding.best_timetable.Statement.{statement}
 use Rattle.solver.proofs.finding.best_timetable.Tie as tie
 
 first-minutes-requires : tie.Need-first-minutes-requires
-first-minutes-requires c κs = search needs
+first-minutes-requires c κs = within-runnable (c .args .line) (c .pre .0)
 
 found-of-requires : tie.Need-found-of-requires
 found-of-requires c κs = search needs
@@ -31,7 +32,7 @@ returns c =
     subst (λ (r : Found). Finds (a .args .line) r × (r .steps ≡ 0)) (sym (c .found-of .ensures)) (nothing, refl)
 
 tables-of-requires : tie.Need-tables-of-requires
-tables-of-requires c κs = search needs
+tables-of-requires c κs = let a = c .before .before .before .before in within-runnable (a .args .line) (a .pre .0)
 
 directions-of-requires : tie.Need-directions-of-requires
 directions-of-requires c κs = search needs

@@ -1,5 +1,6 @@
 -- `timetable::checking::rest_breach` meets its contract: the lists are judged first, then the total.
 use borrow.Author.Needs.{needs}
+use Rattle.line.specs.RunnableLaws.{within-runnable}
 use Rattle.timetable.specs.CheckLoopLaws.{lists-told, rest-list, rest-none, rest-total}
 use Rattle.timetable.proofs.checking.rest_breach.Statement.{statement}
 use Rattle.timetable.proofs.checking.rest_breach.Tie as tie
@@ -23,7 +24,9 @@ returns c =
     rest-list _ _ _ lists (c .enum-told2 .given .1)
 
 weighted-delay-requires : tie.Need-weighted-delay-requires
-weighted-delay-requires c κs = search needs
+weighted-delay-requires c κs =
+    let a = c .before .before .before .before .before in
+    (within-runnable (a .args .line) (a .pre .0), a .pre .1)
 
 returns-2 : tie.Need-returns-2
 returns-2 c =

@@ -9,6 +9,7 @@ use Rattle.text.specs.Places.Lines.{Counted, AnyNumber}
 use Rattle.text.specs.Places.LinesLaws.{keeps-counted}
 use Rattle.line.specs.FileLaws.{ended-told}
 use Rattle.line.specs.PlaceLaws.{part-counted}
+use Rattle.line.specs.RunnableLaws.{within-runnable}
 use Rattle.rules.specs.StatementLaws.PathsLaws.{routed}
 use Rattle.timetable.specs.Reading.{trainsAt}
 use Rattle.timetable.specs.PlaceLaws.{any-timetable-number, stands-legs}
@@ -42,7 +43,7 @@ train-line-requires c κs =
     let w = c .before .before .before .lines in
     let left : w .i < a .args .line .traffic .«train_count» = omega (arith, w .inv .1, c .before .before .if1 .left) in
     let size : length (a .args .line .traffic .trains) ≡ 12 = sym (length-map (a .args .line .traffic .trains) _) ∙ a .good .1 .1 .0 .1 .1 .1 .0 .1 .1 .1 .0 .1 .0 .1 in
-    (routed (a .args .line) (w .i) (a .pre .0) size left, omega (arith, left, a .pre .0 .trains), w .inv .2)
+    (routed (a .args .line) (w .i) (within-runnable (a .args .line) (a .pre .0)) size left, omega (arith, left, a .pre .0 .trains), w .inv .2)
 
 enum-known-ended : tie.Need-enum-known-ended Inv-lines μ-lines
 enum-known-ended c = search needs

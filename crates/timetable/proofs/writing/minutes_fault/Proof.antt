@@ -8,6 +8,7 @@ use borrow.Author.Count.{below-none, below-more}
 use borrow.Author.Tests.{not-true, not-false}
 use lib.ListN.{length, length-map}
 use Rattle.finite.specs.Below.{EachBelow}
+use Rattle.line.specs.RunnableLaws.{within-runnable}
 use Rattle.rules.specs.StatementLaws.PathsLaws.{routed}
 use Rattle.timetable.specs.WritingLaws.{Timed, late-at, late-none}
 use Rattle.timetable.proofs.writing.minutes_fault.Statement.{statement}
@@ -38,7 +39,7 @@ times-right-requires c κs =
     let a = c .before .before .before .before .before .before in
     let size : length (a .args .line .traffic .trains) ≡ 12 = sym (length-map (a .args .line .traffic .trains) _) ∙ a .good .0 .1 .1 .1 .0 .1 .1 .1 .0 .1 .0 .1 in
     let here = c .before .before .loop-test .taken in
-    (routed (a .args .line) (c .before .before .before .loop .i) (a .pre .0) size here, a .pre .1, omega (arith, here, a .pre .0 .trains))
+    (routed (a .args .line) (c .before .before .before .loop .i) (within-runnable (a .args .line) (a .pre .0)) size here, a .pre .1, omega (arith, here, a .pre .0 .trains))
 
 add-t13 : tie.Need-add-t13 Inv-loop μ-loop
 add-t13 c = search needs

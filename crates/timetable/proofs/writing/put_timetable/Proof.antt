@@ -4,6 +4,7 @@ use native.Mathlib.Omega.{arith}
 use denote.Ref.{now}
 use borrow.Author.Needs.{needs}
 use Rattle.text.specs.Writing.SpliceLaws.{put-then}
+use Rattle.line.specs.RunnableLaws.{within-runnable}
 use Rattle.timetable.specs.FitsLaws.{total-small}
 use Rattle.timetable.specs.WritingLaws.{timetable-parts, timetable-size}
 use Rattle.timetable.proofs.writing.put_timetable.Statement.{statement}
@@ -69,7 +70,13 @@ put-lists-requires c κs =
     )
 
 weighted-delay-requires : tie.Need-weighted-delay-requires
-weighted-delay-requires c κs = search needs
+weighted-delay-requires c κs =
+    let p4 = c .before .before .before in
+    let p3 = p4 .before .before .before .before .before in
+    let p2 = p3 .before .before .before .before .before in
+    let p1 = p2 .before .before .before .before in
+    let a = p1 .before .before .before .before .before in
+    (within-runnable (a .args .line) (a .pre .0), a .pre .1)
 
 put-field-requires-3 : tie.Need-put-field-requires-3
 put-field-requires-3 c κs =

@@ -9,6 +9,7 @@ use denote.Ref.{now}
 use borrow.Author.Needs.{needs}
 use lib.ListN.{length, length-map}
 use Rattle.text.specs.Writing.SpliceLaws.{Putting, putting-start, putting-step, putting-end}
+use Rattle.line.specs.RunnableLaws.{within-runnable}
 use Rattle.rules.specs.StatementLaws.PathsLaws.{routed}
 use Rattle.timetable.specs.Spell.{trainsText}
 use Rattle.timetable.specs.WritingLaws.{next-train, no-train, train-room}
@@ -40,7 +41,7 @@ put-train-requires c κs =
     let w = c .before .before .before .before .loop in
     let a = c .before .before .before .before .before .before .before .before in
     let size : length (a .args .line .traffic .trains) ≡ 12 = sym (length-map (a .args .line .traffic .trains) _) ∙ a .good .1 .1 .0 .1 .1 .1 .0 .1 .1 .1 .0 .1 .0 .1 in (
-      routed (a .args .line) (w .i) (a .pre .0) size here,
+      routed (a .args .line) (w .i) (within-runnable (a .args .line) (a .pre .0)) size here,
       a .pre .1,
       omega (arith, here, a .pre .0 .trains),
       train-room (a .args .line) (now (a .args .m)) (a .args .line .traffic .«train_count») (w .i) (w .inv .0) here (a .pre .2),
