@@ -1,6 +1,6 @@
--- A line whose trains can be run: what raising and its tables need of it. It is less than the limits of a file. "Holds leave the limits": a hold of up to
--- 240 minutes is added to an earliest or to a stop, and so an earliest is at most 3,119 and a stop at most 480. A latest that is waived is 2,879, the last
--- minute of all. How many tracks a station has does not matter here.
+-- A line whose trains can be run: what raising and its tables need of it. It is less than the limits of a file. Request K7 adds a hold of up to 240 minutes to
+-- an earliest or to a stop, so an earliest is at most 3,119 and a stop at most 480. A latest that is waived is 2,879, the last minute of all. How many
+-- tracks a station has does not matter here.
 use Prim.Native.Nat.{ℕ}
 use mathlib.Core.Path.{_≡_}
 use Rattle.text.specs.declared.Limits.{Limits}
@@ -11,11 +11,11 @@ use Rattle.line.specs.Ranges.{In, stationCount, trainCount, station, tim
 use Rattle.line.specs.Record.{segmentsOf, trainsOf, runsOf, stopsOf}
 use Rattle.line.specs.Within.{SegmentWithin}
 
--- an earliest with a hold, "earliest + 240 ≤ 3,119"
+-- an earliest with a hold
 abbrev pub heldTime : Limits
 heldTime = record { min = 0; max = 3119 }
 
--- a stop with a hold, "stop + 240 ≤ 480"
+-- a stop with a hold
 abbrev pub heldStop : Limits
 heldStop = record { min = 0; max = 480 }
 

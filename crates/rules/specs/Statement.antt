@@ -1,7 +1,8 @@
 -- What is declared, in the words of document 01: the paths of trains, the minutes of a timetable, rules 10 to 15 and what is lawful, weighted delay and what is
--- best. To read in this order.
+-- best, the order lists, the first rule that is broken. To read in this order.
 pub mod Paths
 pub mod Minutes
 pub mod Rules
 pub mod Delay
+pub mod OrderLists
 pub mod FirstBroken

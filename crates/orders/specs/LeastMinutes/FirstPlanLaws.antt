@@ -17,8 +17,8 @@ use Rattle.line.specs.declared.Line.{Line}
 use Rattle.line.specs.Runnable.{Runnable}
 use Rattle.rules.specs.Statement.Paths.{train, legs, runOf, segmentOf, Routed}
 use Rattle.rules.specs.Statement.Minutes.{departs, arrives, departure, arrival}
-use Rattle.rules.specs.Statement.Rules.{TrainRules}
 use Rattle.rules.specs.StatementLaws.PathsLaws.{train-runnable, routed, legs-few, uses-leg, segment-below}
+use Rattle.rules.specs.StatementLaws.DelayLaws.{no-earlier}
 use Rattle.rules.specs.Check.RulesLaws.{free-start, free-next}
 use Rattle.rules.specs.Statement.Delay.{freeAfter, freeArrival, weightedDelay}
 use Rattle.orders.specs.declared.first.FirstPlan.{FirstPlan}
@@ -52,15 +52,6 @@ module _ (l : Line) (i : ℕ) where
 
   free-last : (k : ℕ) → k < legs l i → freeAfter l i k ≤ freeArrival l i
   free-last k h = free-grows k (legs l i - 1) (omega arith)
-
--- ---- no minutes are before them
-
-module _ (l : Line) (m : List ℕ) (i : ℕ) (h : TrainRules l m i) where
-  no-earlier : (k : ℕ) → k < legs l i → freeAfter l i k ≤ arrival l m i k
-  no-earlier zero b = omega (arith, h .rule10, h .rule11 0 b, free-start l i)
-  no-earlier (suc k) b =
-      rw (← add-one)
-      (omega (arith, no-earlier k (omega arith), h .rule12 k (omega arith), h .rule11 (k + 1) (omega arith), free-next l i k))
 
 -- ---- the minutes of a line
 

@@ -1,7 +1,7 @@
 -- The table of directions: what one train's entry is, how the loops fill the table, and what an entry says of the train's path.
 use Prim.Native.Nat.{ℕ, suc, _+_, _-_, _*_, _/_, _%_, _≤_, _<_, min, max}
 use mathlib.Core.Path.{_≡_, refl, sym, _∙_, ap, ap₂, subst}
-use mathlib.Core.Bool.{Bool, true, false, cond, Bool·beq}
+use mathlib.Core.Bool.{Bool, true, false, cond, not, Bool·beq}
 use mathlib.Core.List.{List}
 use native.Mathlib.Decide.{decLt, ℕ-discrete}
 use native.Mathlib.Omega.{arith}
@@ -148,3 +148,10 @@ module _ (l : Line) (few : l .traffic .«train_count» ≤ 12) (p : ℕ) (short 
       one : (w : Bool) → eqb (cond w 1 2) 1 ≡ w
       one true = refl
       one false = refl
+
+  pub inbound-way : (i : ℕ) → i < l .traffic .«train_count» → Uses (train l i) p → eqb (way (directionsOf l) p i) 2 ≡ not (outbound (train l i))
+  inbound-way i b u = ap (λ (w : ℕ). eqb w 2) (way-on i b u) ∙ two (outbound (train l i))
+    where
+      two : (w : Bool) → eqb (cond w 1 2) 2 ≡ not w
+      two true = refl
+      two false = refl

@@ -17,7 +17,8 @@ freeAfter l i (suc k) = freeAfter l i k + stopOf l i k + runOf l i (suc k)
 abbrev pub freeArrival : Line → ℕ → ℕ
 freeArrival l i = freeAfter l i (legs l i - 1)
 
--- "A train's delay is its last arrival less its free arrival"; of lawful minutes the difference is never cut off at 0
+-- "A train's delay is its last arrival less its free arrival"; of minutes that keep rules 10 to 12 the difference is never cut off
+-- at 0 (`delay-true` in `StatementLaws/DelayLaws`)
 abbrev pub delay : Line → List ℕ → ℕ → ℕ
 delay l m i = lastArrival l m i - freeArrival l i
 

@@ -3,10 +3,9 @@
 use Prim.Native.Nat.{ℕ, _+_, _*_, _-_, _≤_, _<_}
 use mathlib.Core.Path.{_≡_, refl, sym, _∙_, ap}
 use mathlib.Core.Logic.{inl, inr, ⊎-elim}
-use mathlib.Core.Bool.{true}
 use mathlib.Core.List.{List, [], _∷_}
 use native.Mathlib.Omega.{arith}
-use Rattle.finite.specs.DecideLaws.{by-test, is-true, is-false, decides-not, decides-eq}
+use Rattle.finite.specs.DecideLaws.{by-test, is-false}
 use Rattle.finite.specs.BelowLaws.{count-same, sum-same, gather-same}
 use Rattle.line.specs.declared.Line.{Line}
 use Rattle.line.specs.Within.{Within, Arrays}
@@ -16,9 +15,9 @@ use Rattle.rules.specs.Statement.Paths.{train, segmentCount, segment, le
 use Rattle.rules.specs.Statement.Minutes.{departsOn, arrivesOn, lastArrival}
 use Rattle.rules.specs.Statement.Rules.{Before, stands, standing, Lawful}
 use Rattle.rules.specs.Statement.Delay.{freeArrival, weightedDelay, Same}
-use Rattle.rules.specs.Conflict.Directions.{directionsOf, way}
-use Rattle.rules.specs.Conflict.DirectionsLaws.{decides-on}
-use Rattle.rules.specs.Lists.Orders.{inLane, lanesOf, listsOn, orderList, orderLists}
+use Rattle.rules.specs.Statement.OrderLists.{lanesOf}
+use Rattle.rules.specs.Lists.Orders.{listsOn, orderList, orderLists}
+use Rattle.rules.specs.Lists.LanesLaws.{test-lane}
 use Rattle.rules.specs.Lists.OrdersLaws.{ordered-same}
 use Rattle.rules.specs.StatementLaws.PathsLaws.{uses-leg, decides-middle, middle-legs, legs-few, routed}
 
@@ -27,12 +26,6 @@ same-sym l m m′ s i n k r = (sym (s i n k r .0), sym (s i n k r .1))
 
 pub same-trans : (l : Line) (a b c : List ℕ) → Same l a b → Same l b c → Same l a c
 same-trans l a b c s t i n k r = (s i n k r .0 ∙ t i n k r .0, s i n k r .1 ∙ t i n k r .1)
-
--- a train in a lane of a segment has a way there
-lane-way : (lane : Lane) (w : ℕ) → inLane lane w ≡ true → inLane Lane.Both w ≡ true
-lane-way Lane.Both w e = e
-lane-way Lane.Outbound w e = is-true (decides-not (decides-eq w 0)) (λ z. omega (arith, decides-eq w 1 .yea e))
-lane-way Lane.Inbound w e = is-true (decides-not (decides-eq w 0)) (λ z. omega (arith, decides-eq w 2 .yea e))
 
 -- ---- what the same minutes have in common
 
@@ -73,7 +66,7 @@ module _ (l : Line) (m m′ : List ℕ) (s : Same l m m′) where
     unfolding orderList
     list-same p b lane =
         ordered-same (departsOn m p) (departsOn m′ p) _ _ (l .traffic .«train_count»)
-        (λ i n. (λ t. same-on p i n (decides-on l (w .trains .1) p b i n .yea (lane-way lane (way (directionsOf l) p i) t)) .0, refl))
+        (λ i n. (λ t. same-on p i n (test-lane l (w .trains .1) p b i n lane t .0) .0, refl))
 
     pub lists-same : orderLists l m ≡ orderLists l m′
     unfolding orderLists
