@@ -19,7 +19,7 @@ use Rattle.line.specs.declared.writing.Fault.{Fault}
 use Rattle.line.specs.Ranges.{In, station, time, weight}
 use Rattle.line.specs.Record.{legsOf}
 use Rattle.line.specs.RecordLaws.{path-legs}
-use Rattle.line.specs.Writing.{thenFault, numberFault, linesFault, timesFault, pathFault, headFault}
+use Rattle.line.specs.Writing.{thenFault, valueFault, numberFault, linesFault, timesFault, pathFault, headFault}
 
 -- ---- one check and then the next
 
@@ -31,9 +31,10 @@ found-first b e h = h ∙ ap (λ (f : Fault). thenFault f b) (sym h ∙ e)
 pub found-later : {r a b x : Fault} → r ≡ a → r ≡ Fault.None → x ≡ b → x ≡ thenFault a b
 found-later {r} {a} {b} e h g = g ∙ ap (λ (f : Fault). thenFault f b) (sym h ∙ e)
 
--- a check against limits that a call gave
-pub fault-by : {r : Fault} {l m : Limits} (n p : ℕ) → r ≡ numberFault l n p → l ≡ m → r ≡ numberFault m n p
-fault-by n p e h = e ∙ ap (λ (k : Limits). numberFault k n p) h
+-- a value that a call built or refused
+pub fault-by : {r : Fault} {b : Bounded} (l : Limits) (n p : ℕ) → r ≡ valueFault b p → b ≡ boundedOf (l .min) (l .max) n → r ≡ numberFault l n p
+unfolding numberFault
+fault-by l n p e h = e ∙ ap (λ (k : Bounded). valueFault k p) h
 
 -- a check of as many values as a call gave
 pub times-by : {r : Fault} {k n : ℕ} (xs : List ℕ) (l : Limits) (p : ℕ) → r ≡ timesFault (take k xs) l p → k ≡ n → r ≡ timesFault (take n xs) l p

@@ -22,6 +22,10 @@ gap = record { min = 1; max = 60 }
 abbrev pub trainCount : Limits
 trainCount = record { min = 0; max = 12 }
 
+-- "Trains: .. numbered from 1"; "a train number not from 1 to the line's trains"
+abbrev pub trainNumber : ℕ → Limits
+trainNumber n = record { min = 1; max = n }
+
 -- "Origin and destination are .. stations, each from 1 to the station count"
 abbrev pub station : ℕ → Limits
 station n = record { min = 1; max = n }

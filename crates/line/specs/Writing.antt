@@ -2,6 +2,7 @@
 use Prim.Native.Nat.{ℕ, _+_}
 use mathlib.Core.List.{List, [], _∷_}
 use lib.Dec.{eqb}
+use Rattle.text.specs.declared.Bounded.{Bounded}
 use Rattle.text.specs.declared.Limits.{Limits}
 use Rattle.text.specs.Reading.Choice.{pick, onBounded}
 use Rattle.text.specs.Reading.Limits.{boundedOf}
@@ -19,9 +20,13 @@ abbrev pub thenFault : Fault → Fault → Fault
 thenFault Fault.None f = f
 thenFault (Fault.At n p) f = Fault.At n p
 
+-- a value on line p that was built, or refused
+abbrev pub valueFault : Bounded → ℕ → Fault
+valueFault b p = onBounded b (λ v. Fault.None) (Fault.At 3 p)
+
 -- a value outside its range on line p
 unfoldable pub numberFault : Limits → ℕ → ℕ → Fault
-numberFault r n p = onBounded (boundedOf (r .min) (r .max) n) (λ v. Fault.None) (Fault.At 3 p)
+numberFault r n p = valueFault (boundedOf (r .min) (r .max) n) p
 
 -- the first fault of elements on lines of their own, from line p on
 unfoldable pub linesFault : {A : Type 0} → List A → (ℕ → A → Fault) → ℕ → Fault

@@ -1,8 +1,10 @@
 // The line of a railway: its record, the limits of its fields, and its file, read and written.
 ghost use mathlib.Core.Path.{_≡_};
 ghost use Prim.Native.Nat.{_+_, _-_, _<_};
-ghost use Rattle.line.specs.Ranges.{station};
+ghost use Rattle.text.specs.Reading.Limits.{boundedOf};
+ghost use Rattle.line.specs.Ranges.{time, station, trainNumber};
 ghost use Rattle.line.specs.Record.{legsBetween};
+use text::Bounded;
 use text::Limits;
 
 pub mod reader;
@@ -71,6 +73,17 @@ pub struct Time {}
 
 impl Time {
     pub const LIMITS: Limits = Limits { min: 0, max: 2879 };
+
+    // Past the last minute: no time.
+    pub const END: u16 = 2880;
+
+    // Builds the time of minute n, or refuses.
+    pub fn value(n: u32) -> Bounded
+        ensures { λ r. ⌜ r ≡ boundedOf (time .min) (time .max) n ⌝ }
+    {
+        let limits = Time::LIMITS;
+        limits.value(n)
+    }
 }
 
 // Stations are numbered from 1.
@@ -87,6 +100,14 @@ impl Station {
     {
         Limits { min: 1, max: count }
     }
+
+    // Builds station n of a line that has `count` of them, or refuses.
+    pub fn value(n: u32, count: u16) -> Bounded
+        ensures { λ r. ⌜ r ≡ boundedOf (station count .min) (station count .max) n ⌝ }
+    {
+        let limits = Station::numbers(count);
+        limits.value(n)
+    }
 }
 
 impl Segment {
@@ -101,6 +122,21 @@ impl Train {
     pub const RUN: Limits = Limits { min: 1, max: 240 };
 
     pub const STOP: Limits = Limits { min: 0, max: 240 };
+
+    // The numbers of the trains of a line that has `count` of them.
+    pub fn numbers(count: u16) -> Limits
+        ensures { λ r. ⌜ r ≡ trainNumber count ⌝ }
+    {
+        Limits { min: 1, max: count }
+    }
+
+    // Builds the number of train n of a line that has `count` of them, or refuses.
+    pub fn value(n: u32, count: u16) -> Bounded
+        ensures { λ r. ⌜ r ≡ boundedOf (trainNumber count .min) (trainNumber count .max) n ⌝ }
+    {
+        let limits = Train::numbers(count);
+        limits.value(n)
+    }
 }
 
 // How many segments lie between two stations.

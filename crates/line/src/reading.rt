@@ -359,11 +359,7 @@ fn segment_section(s: &[u8], start: Cursor, stations: u16) -> SegmentSection
     ensures { λ r. ⌜ toldEnding (r .ending) (record { count = r .count; entries = r .segments }) ≡ segmentSection stations (now (s .entry)) start ⌝ }
 {
     let none = no_segment();
-    let joins = Limits {
-        min: stations - 1,
-        max: stations - 1,
-    };
-    let field = start.ranged(s, LINE_FEED, joins, FAULTS);
+    let field = start.ranged(s, LINE_FEED, Limits::only(stations - 1), FAULTS);
     let Field::Value(count, next) = field else {
         return SegmentSection {
             ending: ending_of(field),

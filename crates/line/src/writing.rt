@@ -9,8 +9,9 @@ ghost use Rattle.text.specs.Writing.Splice.{Put};
 ghost use Rattle.text.specs.Writing.Lend.{Spelling, Lent};
 ghost use Rattle.line.specs.Within.{Within};
 ghost use Rattle.line.specs.Record.{legsOf, HasPath};
+ghost use Rattle.line.specs.RoundTripLaws.{ReadBack};
 ghost use Rattle.line.specs.Spell.{stationText, letterByte, segmentText, journeyText, headText, trainText, textOf};
-ghost use Rattle.line.specs.Writing.{numberFault, linesFault, timesFault, trackFault, segmentFault, pathFault, headFault, trainFault, faultOf, spelling};
+ghost use Rattle.line.specs.Writing.{valueFault, numberFault, linesFault, timesFault, trackFault, segmentFault, pathFault, headFault, trainFault, faultOf, spelling};
 use crate::Kind;
 use crate::Line;
 use crate::MAX_BYTES;
@@ -34,13 +35,20 @@ pub enum Fault {
     At(u8, usize),
 }
 
+// A value on a line that was built, or refused.
+fn value_fault(value: Bounded, line: usize) -> Fault
+    ensures { λ r. ⌜ r ≡ valueFault value line ⌝ }
+{
+    match value {
+        Bounded::Within(_) => Fault::None,
+        Bounded::Outside => Fault::At(3, line),
+    }
+}
+
 fn number_fault(n: u16, limits: Limits, line: usize) -> Fault
     ensures { λ r. ⌜ r ≡ numberFault limits n line ⌝ }
 {
-    let Bounded::Within(_) = limits.value(n as u32) else {
-        return Fault::At(3, line);
-    };
-    Fault::None
+    value_fault(limits.value(n as u32), line)
 }
 
 // The tracks of the stations, from line 2 on.
@@ -104,11 +112,11 @@ fn time_faults(times: [u16; 11], count: usize, limits: Limits, line: usize) -> F
 fn path_fault(origin: u16, destination: u16, stations: u16, line: usize) -> Fault
     ensures { λ r. ⌜ r ≡ pathFault stations line origin destination ⌝ }
 {
-    let from = number_fault(origin, Station::numbers(stations), line);
+    let from = value_fault(Station::value(origin as u32, stations), line);
     let Fault::None = from else {
         return from;
     };
-    let to = number_fault(destination, Station::numbers(stations), line);
+    let to = value_fault(Station::value(destination as u32, stations), line);
     let Fault::None = to else {
         return to;
     };
@@ -126,11 +134,11 @@ fn head_fault(train: Train, stations: u16, line: usize) -> Fault
     let Fault::None = path else {
         return path;
     };
-    let earliest = number_fault(train.earliest, Time::LIMITS, line);
+    let earliest = value_fault(Time::value(train.earliest as u32), line);
     let Fault::None = earliest else {
         return earliest;
     };
-    let latest = number_fault(train.latest, Time::LIMITS, line);
+    let latest = value_fault(Time::value(train.latest as u32), line);
     let Fault::None = latest else {
         return latest;
     };
@@ -343,8 +351,9 @@ fn write_text(line: Line, out: &mut [u8]) -> Written
 }
 
 // Writes the record of a line, in range or not, into the lent bytes: the length of its text, or 3, 4 or 6 and no byte changed.
+// Every line within the limits has a text, and reading it gives the same line back.
 pub fn write(line: Line, out: &mut [u8]) -> Written
-    ensures { λ r. ⌜ Lent (spelling line) (now (out .entry)) (now (out .exit)) r ⌝ }
+    ensures { λ r. ⌜ Lent (spelling line) (now (out .entry)) (now (out .exit)) r × (Within line → ReadBack line) ⌝ }
 {
     let fault = fault_of(line);
     match fault {

@@ -10,6 +10,7 @@ use crate::conflicts::StationConflict;
 use crate::directions::way_on;
 use crate::passages::arrives_on;
 use crate::passages::departs_on;
+use line::Time;
 
 // When a train stands at a station: from its arrival to its departure, both included.
 pub struct Stay {
@@ -107,7 +108,7 @@ fn earliest_crowd(ds: &[u16], m: &[u16], s: usize, tracks: u16, n: usize) -> Min
     let stays = stays_at(ds, m, s, n);
     let came = stays.came;
     let leaves = stays.leaves;
-    let mut earliest: u16 = 2880;
+    let mut earliest: u16 = Time::END;
     let mut i: usize = 0;
     while i < n {
         let t = came[i];
@@ -118,7 +119,7 @@ fn earliest_crowd(ds: &[u16], m: &[u16], s: usize, tracks: u16, n: usize) -> Min
         }
         i = i + 1;
     }
-    if earliest < 2880 {
+    if earliest < Time::END {
         return MinuteFound::Minute(earliest);
     }
     MinuteFound::Never

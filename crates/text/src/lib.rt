@@ -59,6 +59,20 @@ pub struct Limits {
 }
 
 impl Limits {
+    // The one value n.
+    pub fn only(n: u16) -> Limits
+        ensures { λ r. ⌜ r ≡ record { min = n; max = n } ⌝ }
+    {
+        Limits { min: n, max: n }
+    }
+
+    // The values from 0 to n.
+    pub fn up_to(n: u16) -> Limits
+        ensures { λ r. ⌜ r ≡ record { min = 0; max = n } ⌝ }
+    {
+        Limits { min: 0, max: n }
+    }
+
     // Builds the value n of the type, or refuses.
     pub fn value(self, n: u32) -> Bounded
         ensures { λ r. ⌜ r ≡ boundedOf (self .min) (self .max) n ⌝ }
@@ -145,7 +159,7 @@ impl Cursor {
     }
 
     // A number of one to `most` digits, with no leading zero.
-    pub fn number(self, s: &[u8], most: usize) -> Number
+    fn number_to(self, s: &[u8], most: usize) -> Number
         requires { ⌜ (1 ≤ most) × (most ≤ 7) ⌝ }
         ensures { λ r. ⌜ r ≡ numberAt most (now (s .entry)) self ⌝ }
     {
@@ -172,12 +186,19 @@ impl Cursor {
         Number::Value(value, next)
     }
 
+    // A number of one to four digits.
+    pub fn number(self, s: &[u8]) -> Number
+        ensures { λ r. ⌜ r ≡ numberAt 4 (now (s .entry)) self ⌝ }
+    {
+        self.number_to(s, 4)
+    }
+
     // A number of one to `most` digits and the byte b after it.
-    pub fn number_field(self, s: &[u8], most: usize, b: u8) -> NumberField
+    fn field_to(self, s: &[u8], most: usize, b: u8) -> NumberField
         requires { ⌜ (1 ≤ most) × (most ≤ 7) × Counted self ⌝ }
         ensures { λ r. ⌜ r ≡ fieldAt most (now (s .entry)) self b ⌝ }
     {
-        let Number::Value(n, after) = self.number(s, most) else {
+        let Number::Value(n, after) = self.number_to(s, most) else {
             return NumberField::Malformed;
         };
         let Step::Next(next) = after.past(s, b) else {
@@ -186,13 +207,29 @@ impl Cursor {
         NumberField::Value(n, next)
     }
 
+    // A number of one to four digits and the byte b after it.
+    pub fn number_field(self, s: &[u8], b: u8) -> NumberField
+        requires { ⌜ Counted self ⌝ }
+        ensures { λ r. ⌜ r ≡ fieldAt 4 (now (s .entry)) self b ⌝ }
+    {
+        self.field_to(s, 4, b)
+    }
+
+    // A number of one to seven digits and the byte b after it.
+    pub fn long_number_field(self, s: &[u8], b: u8) -> NumberField
+        requires { ⌜ Counted self ⌝ }
+        ensures { λ r. ⌜ r ≡ fieldAt 7 (now (s .entry)) self b ⌝ }
+    {
+        self.field_to(s, 7, b)
+    }
+
     // A number of one to four digits within its limits, with the byte b after it: form, byte after, then range. A fault's place is the line on
     // which the field began.
     pub fn ranged(self, s: &[u8], b: u8, limits: Limits, faults: Faults) -> Field
         requires { ⌜ Counted self ⌝ }
         ensures { λ r. ⌜ toldField r ≡ rangedAt (faults .form) (faults .range) (limits .min) (limits .max) b (now (s .entry)) self ⌝ }
     {
-        let NumberField::Value(n, next) = self.number_field(s, 4, b) else {
+        let NumberField::Value(n, next) = self.number_field(s, b) else {
             return Field::Refused(faults.form, self.line);
         };
         let Bounded::Within(v) = limits.value(n) else {

@@ -22,16 +22,10 @@ use Rattle.rules.specs.Check.Breaches.{breachOf}
 use Rattle.rules.specs.Check.BreachesLaws.{or-none}
 use Rattle.timetable.specs.Reading.{Rest, Timetable}
 use Rattle.timetable.specs.Spell.{numbers, listNumbers}
-use Rattle.timetable.specs.CheckLoopLaws.{decides-matches}
+use Rattle.timetable.specs.CheckLoopLaws.{number-at, decides-matches}
 use Rattle.timetable.specs.Check.{sameList, atList, listsBreach, totalBreach, restBreach, timetableBreach}
 
 -- ---- lists
-
--- the number of entry j
-pub number-at : (is : List ℕ) (j : ℕ) → j < length is → getD (numbers is) j 0 ≡ getD is j 0 + 1
-number-at [] j b = absurd (omega arith)
-number-at (i ∷ is) zero b = refl
-number-at (i ∷ is) (suc j) b = number-at is j (omega arith)
 
 decides-list : (xs is : List ℕ) → Decides (xs ≡ numbers is) (sameList xs is)
 unfolding sameList

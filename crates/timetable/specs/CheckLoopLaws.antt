@@ -1,8 +1,8 @@
 -- Laws of the check of lists and total as its loops and returns go.
-use Prim.Native.Nat.{ℕ, _+_, _<_, _≤_}
+use Prim.Native.Nat.{ℕ, zero, suc, _+_, _<_, _≤_}
 use mathlib.Core.Path.{_≡_, refl, sym, ap, _∙_}
 use mathlib.Core.Bool.{true, false, not}
-use mathlib.Core.List.{List, [], map}
+use mathlib.Core.List.{List, [], _∷_, map}
 use native.Mathlib.Omega.{arith}
 use borrow.Author.Tests.{eq-eqb, ne-eqb}
 use lib.ListN.{length, getD, take, length-map, length-take, List·getD-map}
@@ -11,7 +11,7 @@ use Rattle.text.specs.declared.Cursor.{Cursor}
 use Rattle.text.specs.declared.Ending.{Ending}
 use Rattle.text.specs.Reading.Told.{toldEnding}
 use Rattle.finite.specs.Decide.{Decides}
-use Rattle.finite.specs.DecideLaws.{decides-and, decides-eq}
+use Rattle.finite.specs.DecideLaws.{decides-and, decides-eq, decides-as}
 use Rattle.finite.specs.Below.{EachBelow}
 use Rattle.finite.specs.LoopLaws.{decides-all, first-found, first-none}
 use Rattle.text.specs.Reading.Parsed.{Parsed}
@@ -28,6 +28,8 @@ use Rattle.rules.specs.Statement.Delay.{weightedDelay}
 use Rattle.rules.specs.Check.Breaches.{breachOf}
 use Rattle.rules.specs.Check.BreachesLaws.{breach-first, breach-later}
 use Rattle.timetable.specs.Reading.{Rest, Timetable, timetableFile}
+use Rattle.timetable.specs.Spell.{numbers}
+use Rattle.timetable.specs.Told.{named}
 use Rattle.timetable.specs.declared.checking.Verdict.{Verdict}
 use Rattle.timetable.specs.Check.{sameList, atList, listsBreach, restBreach, timetableBreach, verdictOf, judged, checked, checkOf}
 
@@ -49,6 +51,29 @@ decides-matches xs is = decides-and (decides-eq _ _) (decides-all (MatchAt xs is
 pub entry-at : (o : OrderList) (j : ℕ) → j < length (listed o) → getD (listed o) j 0 ≡ getD (o .trains) j 0
 entry-at o j h = getD-take (o .count) (o .trains) j 0 (omega (arith, length-take (o .count) (o .trains)))
 
+-- the number of entry j
+pub number-at : (is : List ℕ) (j : ℕ) → j < length is → getD (numbers is) j 0 ≡ getD is j 0 + 1
+number-at [] j b = absurd (omega arith)
+number-at (i ∷ is) zero b = refl
+number-at (i ∷ is) (suc j) b = number-at is j (omega arith)
+
+-- two lists of the code have the same train at j
+abbrev pub SameAt : OrderList → OrderList → ℕ → Type 0
+SameAt o q j = getD (o .trains) j 0 ≡ getD (q .trains) j 0
+
+-- a list that was read against the right one
+pub decides-same : (o q : OrderList) → Decides ((length (listed o) ≡ length (listed q)) × EachBelow (length (listed q)) (SameAt o q)) (sameList (named o) (listed q))
+decides-same o q =
+    decides-as
+    (λ h.
+    let size = sym (length-map (listed o) (λ i. i + 1)) ∙ h .0 in
+    (size, λ j b. omega (arith, h .1 j b, number-at (listed o) j (omega (arith, size, b)), entry-at o j (omega (arith, size, b)), entry-at q j b)))
+    (λ h. (
+      length-map (listed o) (λ i. i + 1) ∙ h .0,
+      λ j b. omega (arith, h .1 j b, number-at (listed o) j (omega (arith, h .0, b)), entry-at o j (omega (arith, h .0, b)), entry-at q j b),
+    ))
+    (decides-matches (named o) (listed q))
+
 -- ---- all of them
 
 -- what stands past the last list
@@ -56,13 +81,13 @@ abbrev pastList : OrderList
 pastList = record { count = 0; trains = [] }
 
 -- list k of some lists of the code
-list-at : (xs : List OrderList) (n k : ℕ) → k < n → getD (map listed (take n xs)) k [] ≡ listed (getD xs k pastList)
-list-at xs n k h = List·getD-map listed (take n xs) k pastList ∙ ap listed (getD-take n xs k _ h)
+list-at : (f : OrderList → List ℕ) (xs : List OrderList) (n k : ℕ) → k < n → getD (map f (take n xs)) k (f pastList) ≡ f (getD xs k pastList)
+list-at f xs n k h = List·getD-map f (take n xs) k pastList ∙ ap f (getD-take n xs k _ h)
 
 -- the test of list k
 pub same-at : (xs ys : List OrderList) (n k : ℕ) → k < n →
-    sameList (getD (map listed (take n xs)) k []) (getD (map listed (take n ys)) k []) ≡ sameList (listed (getD xs k pastList)) (listed (getD ys k pastList))
-same-at xs ys n k h = rw (list-at xs n k h, list-at ys n k h) refl
+    sameList (getD (map named (take n xs)) k []) (getD (map listed (take n ys)) k []) ≡ sameList (named (getD xs k pastList)) (listed (getD ys k pastList))
+same-at xs ys n k h = rw (list-at named xs n k h, list-at listed ys n k h) refl
 
 pub lists-size : (xs : List OrderList) (n : ℕ) → n ≤ length xs → length (map listed (take n xs)) ≡ n
 lists-size xs n h = length-map (take n xs) listed ∙ omega (arith, length-take n xs)
@@ -84,7 +109,7 @@ module _ (read own : List (List ℕ)) where
 
 -- the lists that the code was given, against its own, which are n
 pub lists-told : (l : Line) (m : List ℕ) (xs : List OrderList) {n : ℕ} {own : List (List ℕ)} {b : Breach} → own ≡ orderLists l m → n ≡ listCount l →
-    b ≡ listsBreach (map listed (take n xs)) own → b ≡ listsBreach (map listed (take (listCount l) xs)) (orderLists l m)
+    b ≡ listsBreach (map named (take n xs)) own → b ≡ listsBreach (map named (take (listCount l) xs)) (orderLists l m)
 lists-told l m xs own n b = b ∙ rw (own, n) refl
 
 module _ (l : Line) (m : List ℕ) (r : Rest) {b : Breach} (lists : b ≡ listsBreach (r .lists) (orderLists l m)) where

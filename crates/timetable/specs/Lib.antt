@@ -1,11 +1,11 @@
 -- The mathematics of the timetable's text: its modules, definitions before their laws.
 pub mod Reading
+pub mod Spell
 pub mod Told
 pub mod ReadingLaws
 pub mod ListLaws
 pub mod RestLaws
 pub mod PlaceLaws
-pub mod Spell
 pub mod Writing
 pub mod Check
 pub mod CheckLoopLaws

@@ -1,12 +1,14 @@
--- Laws of reading an order list's line: each way out of its own count, and the numbers of its trains laid into an array.
-use Prim.Native.Nat.{ℕ, _≤_}
+-- Laws of reading an order list's line: each way out of its own count, and its trains, whose numbers are stored by index.
+use Prim.Native.Nat.{ℕ, _+_, _-_, _<_, _≤_}
 use mathlib.Core.Path.{_≡_, refl, sym, ap, _∙_}
 use mathlib.Core.Bool.{cond}
-use mathlib.Core.List.{List}
+use mathlib.Core.List.{List, [], _∷_, _++_, map, map-append}
+use native.Mathlib.Numerals.{add-one}
 use native.Mathlib.Omega.{arith}
 use borrow.Author.Tests.{eq-eqb, ne-eqb}
 use lib.Dec.{eqb}
-use lib.ListN.{take, replicate}
+use lib.ListN.{length, set, take}
+use lib.Seq.{take-suc-set}
 use Rattle.text.specs.declared.Cursor.{Cursor}
 use Rattle.text.specs.declared.Number.{Number}
 use Rattle.text.specs.declared.Step.{Step}
@@ -15,12 +17,11 @@ use Rattle.text.specs.Reading.Choice.{onNumber, onStep, onBounded}
 use Rattle.text.specs.Reading.Bytes.{pastOf}
 use Rattle.text.specs.Reading.Numbers.{numberAt}
 use Rattle.text.specs.Reading.Limits.{boundedOf}
-use Rattle.text.specs.Elements.Padded.{padded}
-use Rattle.text.specs.Elements.PaddedLaws.{take-padded}
-use Rattle.text.specs.Reading.Parsed.{Parsed, mapParsed, many}
-use Rattle.text.specs.Reading.ParsedLaws.{many-length, bounded-within}
-use Rattle.text.specs.Elements.LayLaws.{layMany}
-use Rattle.timetable.specs.Reading.{ownCountAt, nameAt, listAt}
+use Rattle.text.specs.Reading.Parsed.{Parsed, many}
+use Rattle.text.specs.Reading.ParsedLaws.{bounded-within, ranged-spelt}
+use Rattle.timetable.specs.Reading.{afterField, ownCountAt, nameAt, listAt}
+use Rattle.timetable.specs.ReadingLaws.{after-byte}
+use Rattle.timetable.specs.Spell.{numbers}
 
 -- ---- a list's own count
 
@@ -79,26 +80,25 @@ own-within n s c v next e = number (numberAt 4 s c) e
 
 -- ---- the trains of a list
 
--- laid into an array of twelve, they are its first entries
-lay-take : (part : ℕ → List ℕ → Cursor → Parsed ℕ) (k : ℕ) (s : List ℕ) (c : Cursor) → k ≤ 12 →
-    many k part s c ≡ mapParsed (take k) (layMany k part s c (replicate 12 0) 0)
-unfolding padded
-lay-take part k s c few = go (many k part s c) refl
-  where
-    go : (r : Parsed (List ℕ)) → many k part s c ≡ r → r ≡ mapParsed (take k) (mapParsed (padded 12 0) r)
-    go (Parsed.got xs next) e =
-        let size = many-length part k s c xs next e in
-        ap (λ (l : List ℕ). Parsed.got l next) (sym (rw size at (take-padded 12 0 xs (rw size few))))
-    go (Parsed.bad n p) e = refl
+-- one more entry stored at the end of the first k
+pub stored-more : {A B : Type 0} (f : A → B) (at : List A) (k : ℕ) (x : A) → k < length at → map f (take (k + 1) (set at k x)) ≡ map f (take k at) ++ (f x ∷ [])
+stored-more f at k x h = rw add-one (ap (map f) (take-suc-set at k x h) ∙ map-append f (take k at) (x ∷ []))
+
+-- one more train, with the number x, stored by index
+pub number-more : (at : List ℕ) (k x : ℕ) → k < length at → 1 ≤ x → numbers (take (k + 1) (set at k (x - 1))) ≡ numbers (take k at) ++ (x ∷ [])
+number-more at k x h p =
+    stored-more (λ i. i + 1) at k (x - 1) h ∙ ap (λ (y : ℕ). numbers (take k at) ++ (y ∷ [])) (omega arith)
+
+-- a number that was read is at least 1
+pub name-least : (n left : ℕ) (s : List ℕ) (c : Cursor) (x : ℕ) (next : Cursor) → nameAt n left s c ≡ Parsed.got x next → 1 ≤ x
+name-least n left s c x next e = ranged-spelt 8 9 1 n (afterField left) s c x next (after-byte left) e .low
 
 module _ (n : ℕ) (s : List ℕ) (c : Cursor) where
   pub list-no-count : {m q : ℕ} → ownCountAt n s c ≡ Parsed.bad m q → listAt n s c ≡ Parsed.bad m q
   unfolding listAt
   list-no-count e = rw e refl
 
-  -- a list from its own count and its trains laid into an array
-  pub list-from : (v : ℕ) (c₁ : Cursor) (laid : Parsed (List ℕ)) → n ≤ 12 → ownCountAt n s c ≡ Parsed.got v c₁ →
-      laid ≡ layMany v (nameAt n) s c₁ (replicate 12 0) 0 → listAt n s c ≡ mapParsed (take v) laid
+  -- a list from its own count and its trains
+  pub list-counted : {v : ℕ} {c₁ : Cursor} {r : Parsed (List ℕ)} → ownCountAt n s c ≡ Parsed.got v c₁ → many v (nameAt n) s c₁ ≡ r → listAt n s c ≡ r
   unfolding listAt
-  list-from v c₁ laid few e l =
-      rw (e, l) (lay-take (nameAt n) v s c₁ (omega (arith, own-within n s c v c₁ e)))
+  list-counted e h = rw e h

@@ -1,5 +1,5 @@
 -- Laws of reading the minutes of a timetable's text: the legs of a train and the lines of the trains a step at a time.
-use Prim.Native.Nat.{ℕ, suc, _+_, _*_}
+use Prim.Native.Nat.{ℕ, zero, suc, _+_, _*_, _<_}
 use mathlib.Core.Path.{_≡_, refl, ap}
 use mathlib.Core.List.{List}
 use native.Mathlib.Omega.{arith}
@@ -11,6 +11,10 @@ use Rattle.line.specs.declared.Train.{Train}
 use Rattle.line.specs.declared.Line.{Line}
 use Rattle.rules.specs.Statement.Paths.{train, legs, segmentOf}
 use Rattle.timetable.specs.Reading.{afterField, timeAt, countAt, legsAt, trainsAt, minutesAt}
+
+pub after-byte : (k : ℕ) → afterField k < 256
+after-byte zero = omega arith
+after-byte (suc k) = omega arith
 
 -- a count that was read is the line's
 pub count-is : (n : ℕ) (s : List ℕ) (c : Cursor) (v : ℕ) (next : Cursor) → countAt n s c ≡ Parsed.got v next → v ≡ n

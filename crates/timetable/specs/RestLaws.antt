@@ -1,6 +1,6 @@
 -- Laws of reading the second part of a timetable's text, and of the whole: a step at a time.
 use Prim.Native.Nat.{ℕ, suc, _<_, _≤_}
-use mathlib.Core.Path.{_≡_, refl, sym, ap, _∙_}
+use mathlib.Core.Path.{_≡_, refl, sym, ap, subst, _∙_}
 use mathlib.Core.List.{List, [], _∷_, _++_, append-nil, append-assoc}
 use borrow.Author.Tests.{lt-ltb, le-ltb}
 use lib.ListN.{length}
@@ -13,6 +13,8 @@ use Rattle.text.specs.Reading.Told.{toldEnding}
 use Rattle.text.specs.Reading.ParsedLaws.{many-done, many-step, many-stop}
 use Rattle.line.specs.declared.Line.{Line}
 use Rattle.rules.specs.Lists.Orders.{listCount}
+use Rattle.timetable.specs.declared.reading.TimetablePart.{TimetablePart}
+use Rattle.timetable.specs.Told.{blank, BlankAt, Blank}
 use Rattle.timetable.specs.Reading.{countAt, listAt, totalAt, Rest, restAt, minutesAt, timetableFile}
 use Rattle.timetable.specs.ReadingLaws.{count-is}
 
@@ -104,3 +106,15 @@ module _ (l : Line) (s : List ℕ) where
         r ≡ restAt l s c → timetableFile l s ≡ mapParsed (λ x. record { minutes = m; rest = x }) r
     unfolding timetableFile
     file-rest e f = rw (le-ltb 4096 (length s) h, e, f) refl
+
+-- ---- refused, nothing is handed back
+
+blank-is : (e : Ending) → BlankAt e (blank e)
+blank-is (Ending.Done c) = tt
+blank-is (Ending.Refused n p) = refl
+
+pub blank-refused : (e : Ending) {t : TimetablePart} → t ≡ blank e → Blank t
+blank-refused e h = subst (λ (t : TimetablePart). Blank t) (sym h) (blank-is e)
+
+pub blank-read : (t : TimetablePart) {e : Ending} {c : Cursor} → e ≡ Ending.Done c → BlankAt e t
+blank-read t h = subst (λ (k : Ending). BlankAt k t) (sym h) tt

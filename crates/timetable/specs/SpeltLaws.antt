@@ -38,17 +38,13 @@ use Rattle.rules.specs.Statement.Rules.{InDays}
 use Rattle.rules.specs.Lists.Orders.{listCount}
 use Rattle.rules.specs.StatementLaws.PathsLaws.{routed-leg}
 use Rattle.timetable.specs.Reading.{afterField, timeAt, countAt, withLeg, legsAt, trainsAt, minutesAt, ownCountAt, nameAt, listAt, totalAt, Rest, restAt, Timetable, timetableFile}
-use Rattle.timetable.specs.ReadingLaws.{count-is, minutes-counted}
+use Rattle.timetable.specs.ReadingLaws.{after-byte, count-is, minutes-counted}
 use Rattle.timetable.specs.ListLaws.{own-malformed, own-unended, own-over, own-value}
 use Rattle.timetable.specs.Spell.{legsText, trainsText, minutesText, namesText, listText, restText}
 use Rattle.timetable.specs.SameTextLaws.{legs-same}
 use Rattle.timetable.specs.StoresLaws.{departure-stored, arrival-stored, leg-stored, legs-stored, trains-stored}
 
 -- ---- fields
-
-after-byte : (k : ℕ) → afterField k < 256
-after-byte zero = omega arith
-after-byte (suc k) = omega arith
 
 count-spelt : (n : ℕ) (s : List ℕ) (c : Cursor) (v : ℕ) (next : Cursor) → countAt n s c ≡ Parsed.got v next → from s c ≡ field n 10 (from s next)
 count-spelt n s c v next e =

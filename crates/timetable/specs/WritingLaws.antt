@@ -5,6 +5,7 @@ use mathlib.Core.Path.{_≡_, refl, sym, ap, _∙_}
 use mathlib.Core.Bool.{true, false, cond, not}
 use mathlib.Core.Option.{Option, some, none}
 use mathlib.Core.List.{List, [], _∷_, _++_, map, append-assoc}
+use native.Mathlib.Decide.{decLe}
 use native.Mathlib.Omega.{arith}
 use native.Mathlib.Numerals.{add-one}
 use borrow.Author.Tests.{not-false}
@@ -15,6 +16,9 @@ use Rattle.finite.specs.Decide.{Decides}
 use Rattle.finite.specs.DecideLaws.{is-true, decides-and, decides-le}
 use Rattle.finite.specs.Below.{EachBelow}
 use Rattle.finite.specs.LoopLaws.{decides-all, first-found, first-none, none-first}
+use Rattle.text.specs.declared.Bounded.{Bounded}
+use Rattle.text.specs.Reading.Limits.{boundedOf}
+use Rattle.text.specs.Reading.ParsedLaws.{bounded-within, bounded-fits}
 use Rattle.text.specs.Writing.Digits.{fieldText}
 use Rattle.text.specs.Elements.EachThen.{eachThen}
 use Rattle.text.specs.Writing.Lend.{Spelling}
@@ -35,10 +39,23 @@ use Rattle.rules.specs.Lists.Orders.{listCount, listed}
 use Rattle.timetable.specs.Reading.{afterField}
 use Rattle.timetable.specs.Spell.{legsText, trainsText, minutesText, namesText, listText, restText, numbers, listNumbers, timetableText}
 use Rattle.timetable.specs.Writing.{timesRight, onLine, minutesFault, minutesSpelling, spelling}
-use Rattle.timetable.specs.CheckLaws.{number-at}
+use Rattle.timetable.specs.CheckLoopLaws.{number-at}
 use Rattle.timetable.specs.SpeltLaws.{DaysAt}
 
 -- ---- the times of a train, and the first train with a time that is too late
+
+-- a time that a call built, or refused
+pub time-built : (n : ℕ) {b : Bounded} {v : ℕ} → b ≡ boundedOf 0 2879 n → b ≡ Bounded.Within v → n ≤ 2879
+time-built n e h = bounded-within 0 2879 n _ (sym e ∙ h) .high
+
+pub time-refused : (n : ℕ) {b : Bounded} → b ≡ boundedOf 0 2879 n → b ≡ Bounded.Outside → 2879 < n
+time-refused n {b} e h = elim (decLe n 2879) [
+  | yes l ↦ (
+      let w : Bounded.Within n ≡ Bounded.Outside = sym (bounded-fits 0 2879 n (omega arith) l) ∙ sym e ∙ h in
+      let z : _≡_ {A = ℕ} 0 1 = cc in
+      absurd (omega arith))
+  | no f ↦ omega arith
+]
 
 module _ (t : Train) (m : List ℕ) (i : ℕ) where
   pub decides-times : Decides (EachBelow (legsOf t) (DaysAt t m i)) (timesRight t m i)

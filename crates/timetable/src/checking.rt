@@ -6,7 +6,7 @@ ghost use lib.ListN.{length, take};
 ghost use Rattle.line.specs.Within.{Within};
 ghost use Rattle.rules.specs.Lists.Orders.{listCount, listed, listsIn};
 ghost use Rattle.timetable.specs.Reading.{timetableFile};
-ghost use Rattle.timetable.specs.Told.{restOf};
+ghost use Rattle.timetable.specs.Told.{named, restOf};
 ghost use Rattle.timetable.specs.Check.{sameList, listsBreach, restBreach, timetableBreach, verdictOf, judged, checkOf};
 use crate::reading::read_timetable;
 use line::Answer;
@@ -27,17 +27,17 @@ pub enum Verdict {
     Refused(u8, usize),
 }
 
-// A list by numbers is that of the trains by index.
-fn same_list(numbers: OrderList, trains: OrderList) -> bool
-    ensures { λ r. ⌜ r ≡ sameList (listed numbers) (listed trains) ⌝ }
+// A list that was read is the right one: the same trains in the same order.
+fn same_list(read: OrderList, right: OrderList) -> bool
+    ensures { λ r. ⌜ r ≡ sameList (named read) (listed right) ⌝ }
 {
-    let n = size_of(trains);
-    if size_of(numbers) != n {
+    let n = size_of(right);
+    if size_of(read) != n {
         return false;
     }
     let mut j: usize = 0;
     while j < n {
-        if numbers.trains[j] as u32 != trains.trains[j] as u32 + 1 {
+        if read.trains[j] != right.trains[j] {
             return false;
         }
         j = j + 1;
@@ -48,7 +48,7 @@ fn same_list(numbers: OrderList, trains: OrderList) -> bool
 // The lowest list that is not the one of its segment and lane.
 fn lists_breach(lists: [OrderList; 22], own: OrderLists) -> Breach
     requires { ⌜ own .count ≤ 22 ⌝ }
-    ensures { λ r. ⌜ r ≡ listsBreach (map listed (take (own .count) lists)) (listsIn own) ⌝ }
+    ensures { λ r. ⌜ r ≡ listsBreach (map named (take (own .count) lists)) (listsIn own) ⌝ }
 {
     let n = own.count;
     let mut k: usize = 0;

@@ -4,14 +4,13 @@ ghost use Prim.Native.Nat.{_+_, _-_, _≤_, _<_};
 ghost use mathlib.Core.List.{map};
 ghost use lib.ListN.{replicate, take};
 ghost use Rattle.text.specs.Places.Lines.{Counted};
-ghost use Rattle.text.specs.Reading.Parsed.{lines};
+ghost use Rattle.text.specs.Reading.Parsed.{lines, rangedAt};
 ghost use Rattle.text.specs.Reading.Told.{toldField, toldEnding};
 ghost use Rattle.line.specs.Record.{legsOf};
 ghost use Rattle.line.specs.Within.{Within};
 ghost use Rattle.rules.specs.Statement.Paths.{Routed};
-ghost use Rattle.rules.specs.Lists.Orders.{listed};
 ghost use Rattle.timetable.specs.Reading.{afterField, legsAt, trainsAt, minutesAt, ownCountAt, listAt, restAt, timetableFile};
-ghost use Rattle.timetable.specs.Told.{restOf, timetableOf};
+ghost use Rattle.timetable.specs.Told.{named, blank, Blank, restOf, timetableOf};
 use line::Line;
 use line::MAX_BYTES;
 use line::Time;
@@ -40,7 +39,7 @@ pub struct MinutesPart {
     pub at: [u16; 352],
 }
 
-// An order list as it stands in the text, its trains by their numbers.
+// An order list, its trains by index, one less than the numbers in the text.
 pub struct ListPart {
     pub ending: Ending,
     pub list: OrderList,
@@ -59,7 +58,7 @@ pub struct RestPart {
     pub total: u32,
 }
 
-// The whole text.
+// The whole text; refused, all is 0 and no list has a train.
 pub struct TimetablePart {
     pub ending: Ending,
     pub minutes: [u16; 352],
@@ -136,14 +135,11 @@ fn train_lines(s: &[u8], start: Cursor, line: Line) -> MinutesPart
 }
 
 // The first part of the text: the count of trains and their lines.
-pub fn read_minutes(s: &[u8], start: Cursor, line: Line) -> MinutesPart
+fn read_minutes(s: &[u8], start: Cursor, line: Line) -> MinutesPart
     requires { ⌜ Within line × Counted start ⌝ }
     ensures { λ r. ⌜ toldEnding (r .ending) (r .at) ≡ minutesAt line (now (s .entry)) start ⌝ }
 {
-    let limits = Limits {
-        min: line.traffic.train_count,
-        max: line.traffic.train_count,
-    };
+    let limits = Limits::only(line.traffic.train_count);
     let count = start.ranged(s, LINE_FEED, limits, FAULTS);
     let Field::Value(_, next) = count else {
         return MinutesPart {
@@ -159,15 +155,29 @@ fn own_count(s: &[u8], cursor: Cursor, n: u16) -> Field
     requires { ⌜ Counted cursor ⌝ }
     ensures { λ r. ⌜ toldField r ≡ ownCountAt n (now (s .entry)) cursor ⌝ }
 {
-    let Number::Value(count, after) = cursor.number(s, 4) else {
+    let Number::Value(count, after) = cursor.number(s) else {
         return Field::Refused(8, cursor.line);
     };
     let b = if count == 0 { LINE_FEED } else { SPACE };
     let Step::Next(next) = after.past(s, b) else {
         return Field::Refused(8, cursor.line);
     };
-    let limits = Limits { min: 0, max: n };
+    let limits = Limits::up_to(n);
     let Bounded::Within(v) = limits.value(count) else {
+        return Field::Refused(9, cursor.line);
+    };
+    Field::Value(v, next)
+}
+
+// The number of a train, of a line with n trains, and the byte b after it.
+fn train_field(s: &[u8], cursor: Cursor, n: u16, b: u8) -> Field
+    requires { ⌜ Counted cursor ⌝ }
+    ensures { λ r. ⌜ toldField r ≡ rangedAt 8 9 1 n b (now (s .entry)) cursor ⌝ }
+{
+    let NumberField::Value(number, next) = cursor.number_field(s, b) else {
+        return Field::Refused(8, cursor.line);
+    };
+    let Bounded::Within(v) = Train::value(number, n) else {
         return Field::Refused(9, cursor.line);
     };
     Field::Value(v, next)
@@ -176,29 +186,28 @@ fn own_count(s: &[u8], cursor: Cursor, n: u16) -> Field
 // The line of an order list.
 fn list_line(s: &[u8], start: Cursor, n: u16) -> ListPart
     requires { ⌜ (n ≤ 12) × Counted start ⌝ }
-    ensures { λ r. ⌜ toldEnding (r .ending) (listed (r .list)) ≡ listAt n (now (s .entry)) start ⌝ }
+    ensures { λ r. ⌜ toldEnding (r .ending) (named (r .list)) ≡ listAt n (now (s .entry)) start ⌝ }
 {
-    let field = own_count(s, start, n);
+    let first = own_count(s, start, n);
     let mut trains = [0u16; 12];
-    let Field::Value(own, after_count) = field else {
+    let Field::Value(own, after_count) = first else {
         return ListPart {
-            ending: ending_of(field),
+            ending: ending_of(first),
             list: OrderList { count: 0, trains },
         };
     };
     let count = own as usize;
-    let limits = Limits { min: 1, max: n };
     let mut cursor = after_count;
     let mut k: usize = 0;
     let ending = 'fields: loop {
         if k == count {
             break 'fields Ending::Done(cursor);
         }
-        let number = cursor.ranged(s, after_field(count - (k + 1)), limits, FAULTS);
-        let Field::Value(train, next) = number else {
-            break 'fields ending_of(number);
+        let field = train_field(s, cursor, n, after_field(count - (k + 1)));
+        let Field::Value(number, next) = field else {
+            break 'fields ending_of(field);
         };
-        trains[k] = train;
+        trains[k] = number - 1;
         cursor = next;
         k = k + 1;
     };
@@ -211,7 +220,7 @@ fn list_line(s: &[u8], start: Cursor, n: u16) -> ListPart
 // The lines of the order lists, of a line with n trains.
 fn list_lines(s: &[u8], start: Cursor, n: u16, count: usize) -> ListsPart
     requires { ⌜ (n ≤ 12) × (count ≤ 22) × Counted start ⌝ }
-    ensures { λ r. ⌜ toldEnding (r .ending) (map listed (take count (r .lists))) ≡ lines count (listAt n) (now (s .entry)) start ⌝ }
+    ensures { λ r. ⌜ toldEnding (r .ending) (map named (take count (r .lists))) ≡ lines count (listAt n) (now (s .entry)) start ⌝ }
 {
     let none = no_list();
     let mut lists = [none; 22];
@@ -247,13 +256,12 @@ fn no_rest(ending: Ending) -> RestPart
 }
 
 // The second part of the text: the order lists and the total, and nothing after them.
-pub fn read_rest(s: &[u8], start: Cursor, line: Line) -> RestPart
+fn read_rest(s: &[u8], start: Cursor, line: Line) -> RestPart
     requires { ⌜ Within line × Counted start ⌝ }
     ensures { λ r. ⌜ toldEnding (r .ending) (restOf line (r .lists) (r .total)) ≡ restAt line (now (s .entry)) start ⌝ }
 {
     let own = list_count(line);
-    let limits = Limits { min: own, max: own };
-    let field = start.ranged(s, LINE_FEED, limits, FAULTS);
+    let field = start.ranged(s, LINE_FEED, Limits::only(own), FAULTS);
     let Field::Value(_, next) = field else {
         return no_rest(ending_of(field));
     };
@@ -263,7 +271,7 @@ pub fn read_rest(s: &[u8], start: Cursor, line: Line) -> RestPart
     let Ending::Done(after_lists) = ended else {
         return no_rest(ended);
     };
-    let NumberField::Value(total, end) = after_lists.number_field(s, 7, LINE_FEED) else {
+    let NumberField::Value(total, end) = after_lists.long_number_field(s, LINE_FEED) else {
         return no_rest(Ending::Refused(8, after_lists.line));
     };
     if end.at < s.len() {
@@ -279,7 +287,7 @@ pub fn read_rest(s: &[u8], start: Cursor, line: Line) -> RestPart
 
 // Nothing read, with how the reading ended.
 fn no_timetable(ending: Ending) -> TimetablePart
-    ensures { λ r. ⌜ r .ending ≡ ending ⌝ }
+    ensures { λ r. ⌜ r ≡ blank ending ⌝ }
 {
     let none = no_list();
     TimetablePart {
@@ -290,10 +298,10 @@ fn no_timetable(ending: Ending) -> TimetablePart
     }
 }
 
-// The whole text: 7 before all, then field by field.
+// The whole text: 7 before all, then field by field. Refused, it is blank.
 pub fn read_timetable(s: &[u8], line: Line) -> TimetablePart
     requires { ⌜ Within line ⌝ }
-    ensures { λ r. ⌜ toldEnding (r .ending) (timetableOf line r) ≡ timetableFile line (now (s .entry)) ⌝ }
+    ensures { λ r. ⌜ (toldEnding (r .ending) (timetableOf line r) ≡ timetableFile line (now (s .entry))) × Blank r ⌝ }
 {
     if MAX_BYTES < s.len() {
         return no_timetable(Ending::Refused(7, 0));
@@ -305,6 +313,9 @@ pub fn read_timetable(s: &[u8], line: Line) -> TimetablePart
     };
     let second = read_rest(s, next, line);
     let ending = second.ending;
+    let Ending::Done(_) = ending else {
+        return no_timetable(ending);
+    };
     let minutes = first.at;
     let lists = second.lists;
     TimetablePart {

@@ -16,6 +16,7 @@ ghost use Rattle.timetable.specs.Writing.{timesRight, minutesFault, minu
 use crate::reading::after_field;
 use line::Line;
 use line::MAX_BYTES;
+use line::Time;
 use line::Train;
 use line::legs_between;
 use line::writing::Fault;
@@ -28,6 +29,7 @@ use rules::orders::order_lists;
 use rules::orders::size_of;
 use rules::rules::arrival_of;
 use rules::rules::departure_of;
+use text::Bounded;
 use text::LINE_FEED;
 use text::SPACE;
 use text::Written;
@@ -42,12 +44,12 @@ fn times_right(train: Train, m: &[u16], i: usize) -> bool
     let legs = legs_between(train.origin, train.destination);
     let mut k: usize = 0;
     while k < legs {
-        if departure_of(train, m, i, k) > 2879 {
+        let Bounded::Within(_) = Time::value(departure_of(train, m, i, k) as u32) else {
             return false;
-        }
-        if arrival_of(train, m, i, k) > 2879 {
+        };
+        let Bounded::Within(_) = Time::value(arrival_of(train, m, i, k) as u32) else {
             return false;
-        }
+        };
         k = k + 1;
     }
     true

@@ -34,7 +34,7 @@ same-length c = search needs
 returns : tie.Need-returns
 returns c =
     rewritten-line _ _ _ _ (c .before .before .before .before .before .before .before .before .read .ensures)
-    (c .before .before .before .before .before .before .enum-told .given .1) (c .before .before .before .write .ensures) (c .pack-written .ensures)
+    (c .before .before .before .before .before .before .enum-told .given .1) (c .before .before .before .write .ensures .0) (c .pack-written .ensures)
 
 returns-2 : tie.Need-returns-2
 returns-2 c =

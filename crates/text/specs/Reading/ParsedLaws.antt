@@ -11,6 +11,7 @@ use Rattle.text.specs.declared.Cursor.{Cursor}
 use Rattle.text.specs.declared.Digit.{Digit}
 use Rattle.text.specs.declared.NumberField.{NumberField}
 use Rattle.text.specs.declared.Bounded.{Bounded}
+use Rattle.text.specs.declared.Limits.{Limits}
 use Rattle.text.specs.Reading.Choice.{pick, onField, onBounded}
 use Rattle.text.specs.Reading.Bytes.{from, digitOf}
 use Rattle.text.specs.Reading.Numbers.{fieldAt}
@@ -99,6 +100,10 @@ bounded-within lo hi n v e = go (ltb n lo) (ltb hi n) refl refl e
 pub bounded-fits : (lo hi n : ℕ) → lo ≤ n → n ≤ hi → boundedOf lo hi n ≡ Bounded.Within n
 unfolding boundedOf
 bounded-fits lo hi n l h = simp (le-ltb n lo l, le-ltb hi n h)
+
+-- a value built by limits that a call gave
+pub bounded-by : {b : Bounded} {l : Limits} (r : Limits) (n : ℕ) → b ≡ boundedOf (l .min) (l .max) n → l ≡ r → b ≡ boundedOf (r .min) (r .max) n
+bounded-by r n built limits = built ∙ ap (λ (k : Limits). boundedOf (k .min) (k .max) n) limits
 
 module _ (form range lo hi b : ℕ) (s : List ℕ) (c : Cursor) where
   pub ranged-malformed : fieldAt 4 s c b ≡ NumberField.Malformed → rangedAt form range lo hi b s c ≡ Parsed.bad form (c .line)

@@ -14,11 +14,11 @@ use Rattle.line.proofs.reading.segment_section.Tie as tie
 no-segment-requires : tie.Need-no-segment-requires
 no-segment-requires c κs = search needs
 
-sub-t12 : tie.Need-sub-t12
-sub-t12 c = search needs
+sub-only : tie.Need-sub-only
+sub-only c = search needs
 
-sub-t13 : tie.Need-sub-t13
-sub-t13 c = search needs
+only-requires : tie.Need-only-requires
+only-requires c κs = search needs
 
 ranged-requires : tie.Need-ranged-requires
 ranged-requires c κs = search needs
@@ -35,7 +35,7 @@ ending-of-requires c κs = search needs
 returns : tie.Need-returns
 returns c =
     let told = c .before .before in
-    let count = ranged-told 2 3 (record { min = _; max = _ }) 10 _ _ refl refl (told .before .ranged .ensures) (c .before .enum-told .given .1) in
+    let count = ranged-told 2 3 (record { min = _; max = _ }) 10 _ _ (told .before .before .only .ensures) refl (told .before .ranged .ensures) (c .before .enum-told .given .1) in
     ended-told _ (c .ending-of .ensures ∙ ap endingOf (c .before .enum-told .given .1)) ∙ sym (section-no-count _ _ _ _ _ _ count)
 
 cast-segment-lines : tie.Need-cast-segment-lines
@@ -43,14 +43,14 @@ cast-segment-lines c = search needs
 
 segment-lines-requires : tie.Need-segment-lines-requires
 segment-lines-requires c κs =
-    let count = ranged-told 2 3 (record { min = _; max = _ }) 10 _ _ refl refl (c .before .before .before .ranged .ensures) (c .before .field .given .1) in
+    let count = ranged-told 2 3 (record { min = _; max = _ }) 10 _ _ (c .before .before .before .before .only .ensures) refl (c .before .before .before .ranged .ensures) (c .before .field .given .1) in
     let range = ranged-spelt _ _ _ _ _ _ _ _ _ (omega arith) count in
-    let after = field-counted _ _ _ _ _ _ (c .before .before .before .before .before .before .pre .2) (c .before .before .before .ranged .ensures) (c .before .field .given .1) in
-    (omega (arith, range .high, c .before .before .before .before .before .before .pre .1), after)
+    let after = field-counted _ _ _ _ _ _ (c .before .before .before .before .before .before .before .pre .2) (c .before .before .before .ranged .ensures) (c .before .field .given .1) in
+    (omega (arith, range .high, c .before .before .before .before .before .before .before .pre .1), after)
 
 returns-2 : tie.Need-returns-2
 returns-2 c =
-    let count = ranged-told 2 3 (record { min = _; max = _ }) 10 _ _ refl refl (c .before .before .before .before .before .ranged .ensures) (c .before .before .before .field .given .1) in
+    let count = ranged-told 2 3 (record { min = _; max = _ }) 10 _ _ (c .before .before .before .before .before .before .only .ensures) refl (c .before .before .before .before .before .ranged .ensures) (c .before .before .before .field .given .1) in
     let lines = c .before .segment-lines in
     section-lines _ _ _ _ _ _ _ _ (lines .result .ending) (lines .result .segments) count (lines .ensures)
 
@@ -59,8 +59,8 @@ segment-section-spec =
     tie.close
     (tie.spec
     no-segment-requires
-    sub-t12
-    sub-t13
+    sub-only
+    only-requires
     ranged-requires
     enum-known-field
     enum-told

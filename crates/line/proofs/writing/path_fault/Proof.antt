@@ -2,15 +2,16 @@
 -- ends. Assumes nothing.
 use borrow.Author.Needs.{needs}
 use Rattle.line.specs.FaultLaws.{found-first, found-later, fault-by, same-ends, other-ends}
+use Rattle.line.specs.Ranges.{station}
 use Rattle.line.specs.Writing.{pathFault}
 use Rattle.line.proofs.writing.path_fault.Statement.{statement}
 use Rattle.line.proofs.writing.path_fault.Tie as tie
 
-numbers-requires : tie.Need-numbers-requires
-numbers-requires c κs = search needs
+value-requires : tie.Need-value-requires
+value-requires c κs = search needs
 
-number-fault-requires : tie.Need-number-fault-requires
-number-fault-requires c κs = search needs
+value-fault-requires : tie.Need-value-fault-requires
+value-fault-requires c κs = search needs
 
 enum-told : tie.Need-enum-told
 enum-told c = search needs
@@ -20,13 +21,13 @@ enum-told-2 c = search needs
 
 returns : tie.Need-returns
 unfolding pathFault
-returns c = found-first _ (fault-by _ _ (c .before .before .number-fault .ensures) (c .before .before .before .numbers .ensures)) (c .enum-told2 .given .1)
+returns c = found-first _ (fault-by (station _) _ _ (c .before .before .value-fault .ensures) (c .before .before .before .value .ensures)) (c .enum-told2 .given .1)
 
-numbers-requires-2 : tie.Need-numbers-requires-2
-numbers-requires-2 c κs = search needs
+value-requires-2 : tie.Need-value-requires-2
+value-requires-2 c κs = search needs
 
-number-fault-requires-2 : tie.Need-number-fault-requires-2
-number-fault-requires-2 c κs = search needs
+value-fault-requires-2 : tie.Need-value-fault-requires-2
+value-fault-requires-2 c κs = search needs
 
 enum-told-3 : tie.Need-enum-told-3
 enum-told-3 c = search needs
@@ -38,16 +39,16 @@ returns-2 : tie.Need-returns-2
 unfolding pathFault
 returns-2 c =
     let origin = c .before .before .before .before in
-    found-later (fault-by _ _ (origin .before .before .number-fault .ensures) (origin .before .before .before .numbers .ensures)) (origin .enum-told .given .1)
-    (found-first _ (fault-by _ _ (c .before .before .number-fault2 .ensures) (c .before .before .before .numbers2 .ensures)) (c .enum-told4 .given .1))
+    found-later (fault-by (station _) _ _ (origin .before .before .value-fault .ensures) (origin .before .before .before .value .ensures)) (origin .enum-told .given .1)
+    (found-first _ (fault-by (station _) _ _ (c .before .before .value-fault2 .ensures) (c .before .before .before .value2 .ensures)) (c .enum-told4 .given .1))
 
 returns-3 : tie.Need-returns-3
 unfolding pathFault
 returns-3 c =
     let destination = c .before in
     let origin = destination .before .before .before .before in
-    found-later (fault-by _ _ (origin .before .before .number-fault .ensures) (origin .before .before .before .numbers .ensures)) (origin .enum-told .given .1)
-    (found-later (fault-by _ _ (destination .before .before .number-fault2 .ensures) (destination .before .before .before .numbers2 .ensures))
+    found-later (fault-by (station _) _ _ (origin .before .before .value-fault .ensures) (origin .before .before .before .value .ensures)) (origin .enum-told .given .1)
+    (found-later (fault-by (station _) _ _ (destination .before .before .value-fault2 .ensures) (destination .before .before .before .value2 .ensures))
     (destination .enum-told3 .given .1)
     (same-ends _ _ _ (c .if1 .taken)))
 
@@ -56,8 +57,8 @@ unfolding pathFault
 returns-4 c =
     let destination = c .before in
     let origin = destination .before .before .before .before in
-    found-later (fault-by _ _ (origin .before .before .number-fault .ensures) (origin .before .before .before .numbers .ensures)) (origin .enum-told .given .1)
-    (found-later (fault-by _ _ (destination .before .before .number-fault2 .ensures) (destination .before .before .before .numbers2 .ensures))
+    found-later (fault-by (station _) _ _ (origin .before .before .value-fault .ensures) (origin .before .before .before .value .ensures)) (origin .enum-told .given .1)
+    (found-later (fault-by (station _) _ _ (destination .before .before .value-fault2 .ensures) (destination .before .before .before .value2 .ensures))
     (destination .enum-told3 .given .1)
     (other-ends _ _ _ (c .if1 .left)))
 
@@ -65,13 +66,13 @@ pub path-fault-spec : {M : Type 1} → statement M
 path-fault-spec =
     tie.close
     (tie.spec
-    numbers-requires
-    number-fault-requires
+    value-requires
+    value-fault-requires
     enum-told
     enum-told-2
     returns
-    numbers-requires-2
-    number-fault-requires-2
+    value-requires-2
+    value-fault-requires-2
     enum-told-3
     enum-told-4
     returns-2

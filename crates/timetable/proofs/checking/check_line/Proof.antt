@@ -18,11 +18,11 @@ enum-known-ending c = search needs
 
 returns : tie.Need-returns
 returns c =
-    judged-read _ _ _ (c .before .before .before .before .before .read-timetable .ensures) (c .before .before .before .enum-told .given .1) (c .judge .ensures)
+    judged-read _ _ _ (c .before .before .before .before .before .read-timetable .ensures .0) (c .before .before .before .enum-told .given .1) (c .judge .ensures)
 
 returns-2 : tie.Need-returns-2
 returns-2 c =
-    judged-refused _ _ _ (c .before .before .before .read-timetable .ensures) (c .before .ending .given .1)
+    judged-refused _ _ _ (c .before .before .before .read-timetable .ensures .0) (c .before .ending .given .1)
 
 pub check-line-spec : {M : Type 1} → statement M
 check-line-spec =

@@ -8,13 +8,14 @@ use borrow.Author.Count.{below-none, below-more}
 use borrow.Author.Tests.{not-true, not-false}
 use lib.ListN.{length, take, length-map}
 use Rattle.finite.specs.Below.{EachBelow}
-use Rattle.rules.specs.Lists.Orders.{listed, listsIn}
+use Rattle.rules.specs.Lists.Orders.{listsIn}
+use Rattle.timetable.specs.Told.{named}
 use Rattle.timetable.specs.CheckLoopLaws.{same-at, lists-size, Right, wrong-at, wrong-none}
 use Rattle.timetable.proofs.checking.lists_breach.Statement.{statement}
 use Rattle.timetable.proofs.checking.lists_breach.Tie as tie
 
 abbrev Inv-loop : tie.InvT-loop
-Inv-loop lists own n k₀ k = (k ≤ n) × EachBelow k (Right (map listed (take (own .count) lists)) (listsIn own))
+Inv-loop lists own n k₀ k = (k ≤ n) × EachBelow k (Right (map named (take (own .count) lists)) (listsIn own))
 
 abbrev μ-loop : tie.MeasureT-loop
 μ-loop lists own n k₀ k = n - k
@@ -22,7 +23,7 @@ abbrev μ-loop : tie.MeasureT-loop
 loop-holds : tie.Need-loop-holds Inv-loop μ-loop
 loop-holds c =
     let a = c .args in
-    (omega arith, below-none (Right (map listed (take (a .t2 .count) (a .t1))) (listsIn (a .t2))))
+    (omega arith, below-none (Right (map named (take (a .t2 .count) (a .t1))) (listsIn (a .t2))))
 
 mul-read : tie.Need-mul-read Inv-loop μ-loop
 mul-read c = search needs
@@ -63,7 +64,7 @@ loop-again c =
     let i = c .before .before .before .before .before .loop in
     let here = c .before .before .before .before .loop-test .taken in
     let right = same-at (a .args .t1) (a .args .t2 .at) (a .args .t2 .count) (i .k) here ∙ sym (c .before .same-list .ensures) ∙ not-false _ (c .if1 .left) in
-    (omega (arith, here), below-more (Right (map listed (take (a .args .t2 .count) (a .args .t1))) (listsIn (a .args .t2))) (i .k) (i .inv .1) right)
+    (omega (arith, here), below-more (Right (map named (take (a .args .t2 .count) (a .args .t1))) (listsIn (a .args .t2))) (i .k) (i .inv .1) right)
 
 returns-2 : tie.Need-returns-2 Inv-loop μ-loop
 returns-2 c =

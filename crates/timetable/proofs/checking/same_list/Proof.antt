@@ -4,21 +4,19 @@ use mathlib.Core.Path.{_∙_, sym}
 use native.Mathlib.Omega.{arith}
 use borrow.Author.Needs.{needs}
 use borrow.Author.Count.{below-none, below-more}
-use mir.Syntax.{w16}
-use mir.Val.{Fits}
-use lib.ListN.{length, getD}
+use lib.ListN.{length}
 use Rattle.finite.specs.DecideLaws.{is-true, is-false}
 use Rattle.finite.specs.Below.{EachBelow}
 use Rattle.rules.specs.Lists.Orders.{listed}
-use Rattle.timetable.specs.CheckLoopLaws.{MatchAt, decides-matches, entry-at}
+use Rattle.timetable.specs.CheckLoopLaws.{SameAt, decides-same}
 use Rattle.timetable.proofs.checking.same_list.Statement.{statement}
 use Rattle.timetable.proofs.checking.same_list.Tie as tie
 
 abbrev Inv-loop : tie.InvT-loop
-Inv-loop numbers trains n j₀ j = (j ≤ n) × EachBelow j (MatchAt (listed numbers) (listed trains))
+Inv-loop read right n j₀ j = (j ≤ n) × EachBelow j (SameAt read right)
 
 abbrev μ-loop : tie.MeasureT-loop
-μ-loop numbers trains n j₀ j = n - j
+μ-loop read right n j₀ j = n - j
 
 size-of-requires : tie.Need-size-of-requires Inv-loop μ-loop
 size-of-requires c κs = search needs
@@ -29,13 +27,13 @@ size-of-requires-2 c κs = search needs
 returns : tie.Need-returns Inv-loop μ-loop
 returns c =
     let a = c .before .before .before .args in
-    sym (is-false (decides-matches (listed (a .t1)) (listed (a .t2)))
+    sym (is-false (decides-same (a .t1) (a .t2))
     (λ h. c .if1 .taken (c .before .size-of2 .ensures .0 ∙ h .0 ∙ sym (c .before .before .size-of .ensures .0))))
 
 loop-holds : tie.Need-loop-holds Inv-loop μ-loop
 loop-holds c =
     let a = c .before .before .before .args in
-    (omega arith, below-none (MatchAt (listed (a .t1)) (listed (a .t2))))
+    (omega arith, below-none (SameAt (a .t1) (a .t2)))
 
 mul-if2 : tie.Need-mul-if2 Inv-loop μ-loop
 mul-if2 c = search needs
@@ -43,23 +41,11 @@ mul-if2 c = search needs
 element-copy-out-if2 : tie.Need-element-copy-out-if2 Inv-loop μ-loop
 element-copy-out-if2 c = search needs
 
-cast-if2 : tie.Need-cast-if2 Inv-loop μ-loop
-cast-if2 c = search needs
-
 mul-if2-2 : tie.Need-mul-if2-2 Inv-loop μ-loop
 mul-if2-2 c = search needs
 
 element-copy-out-if2-2 : tie.Need-element-copy-out-if2-2 Inv-loop μ-loop
 element-copy-out-if2-2 c = search needs
-
-cast-if2-2 : tie.Need-cast-if2-2 Inv-loop μ-loop
-cast-if2-2 c = search needs
-
-add-if2 : tie.Need-add-if2 Inv-loop μ-loop
-add-if2 c =
-    let short : Fits w16 (getD (c .before .before .before .before .before .before .before .args .t2 .trains) (c .before .before .before .loop .j) 0) =
-    search needs in
-    record { fits = omega (arith, short .fits) }
 
 returns-2 : tie.Need-returns-2 Inv-loop μ-loop
 returns-2 c =
@@ -67,8 +53,8 @@ returns-2 c =
     let n = c .before .before .before .before .before .before .before .size-of .ensures .0 in
     let j = c .before .before .before .before .loop .j in
     let own : j < length (listed (a .t2)) = omega (arith, n, c .before .before .before .loop-test .taken) in
-    sym (is-false (decides-matches (listed (a .t1)) (listed (a .t2)))
-    (λ h. c .if2 .taken (sym (entry-at (a .t1) j (omega (arith, own, h .0))) ∙ h .1 j own ∙ omega (arith, entry-at (a .t2) j own))))
+    sym (is-false (decides-same (a .t1) (a .t2))
+    (λ h. c .if2 .taken (h .1 j own)))
 
 add-j : tie.Need-add-j Inv-loop μ-loop
 add-j c = search needs
@@ -80,13 +66,9 @@ loop-again : tie.Need-loop-again Inv-loop μ-loop
 loop-again c =
     let a = c .before .before .before .before .before .before .before .before .args in
     let w = c .before .before .before .before .loop in
-    let here = c .before .before .before .loop-test .taken in
-    let left = c .before .before .before .before .before .if1 .left in
-    let own : w .j < length (listed (a .t2)) = omega (arith, c .before .before .before .before .before .before .before .size-of .ensures .0, here) in
-    let read : w .j < length (listed (a .t1)) = omega (arith, c .before .before .before .before .before .before .size-of2 .ensures .0, left, here) in (
+    let here = c .before .before .before .loop-test .taken in (
       omega (arith, here),
-      below-more (MatchAt (listed (a .t1)) (listed (a .t2))) (w .j) (w .inv .1)
-          (omega (arith, entry-at (a .t1) (w .j) read, entry-at (a .t2) (w .j) own, c .if2 .left)),
+      below-more (SameAt (a .t1) (a .t2)) (w .j) (w .inv .1) (c .if2 .left),
     )
 
 returns-3 : tie.Need-returns-3 Inv-loop μ-loop
@@ -94,7 +76,7 @@ returns-3 c =
     let a = c .before .before .before .before .before .args in
     let w = c .before .loop in
     let n = c .before .before .before .before .size-of .ensures .0 in
-    sym (is-true (decides-matches (listed (a .t1)) (listed (a .t2))) (
+    sym (is-true (decides-same (a .t1) (a .t2)) (
       omega (arith, n, c .before .before .before .size-of2 .ensures .0, c .before .before .if1 .left),
       λ i l. w .inv .1 i (omega (arith, n, l, c .loop-test .left)),
     ))
@@ -111,11 +93,8 @@ same-list-spec =
     loop-holds
     mul-if2
     element-copy-out-if2
-    cast-if2
     mul-if2-2
     element-copy-out-if2-2
-    cast-if2-2
-    add-if2
     returns-2
     add-j
     loop-less

@@ -11,9 +11,9 @@ use Rattle.text.specs.Places.Lines.{Counted, AnyNumber}
 use Rattle.text.specs.Places.LinesLaws.{keeps-counted}
 use Rattle.line.specs.PlaceLaws.{part-counted}
 use Rattle.line.specs.FileLaws.{ended-told}
-use Rattle.rules.specs.Lists.Orders.{listed}
-use Rattle.rules.specs.Lists.ListsLaws.{listed-more}
 use Rattle.timetable.specs.Reading.{listAt}
+use Rattle.timetable.specs.Told.{named}
+use Rattle.timetable.specs.ListLaws.{stored-more}
 use Rattle.timetable.specs.PlaceLaws.{any-timetable-number, stands-list}
 use Rattle.timetable.specs.RestLaws.{after, after-none, after-done, after-step, after-stop}
 use Rattle.timetable.proofs.reading.list_lines.Statement.{statement}
@@ -21,7 +21,7 @@ use Rattle.timetable.proofs.reading.list_lines.Tie as tie
 
 abbrev Inv-lines : tie.InvT-lines
 Inv-lines s n count lists₀ cursor₀ k₀ lists cursor k =
-    (after (map listed (take k lists)) (lines (count - k) (listAt n) s cursor) ≡ lines count (listAt n) s cursor₀) × (k ≤ count) × (length lists ≡ 22)
+    (after (map named (take k lists)) (lines (count - k) (listAt n) s cursor) ≡ lines count (listAt n) s cursor₀) × (k ≤ count) × (length lists ≡ 22)
     × Counted cursor
 
 abbrev μ-lines : tie.MeasureT-lines
@@ -64,8 +64,8 @@ lines-again c =
     let list = sym (c .before .before .before .before .list-line .ensures) ∙ ended-told _ (c .before .before .ended .given .1) in
     let room : w .k < length (w .lists) = omega
     (arith, w .inv .2, w .inv .1, more, c .before .before .before .before .before .before .before .before .before .pre) in (
-      sym (after-step (λ left. listAt (a .n)) _ _ _ _ (map listed (take (w .k) (w .lists))) more _ _ list
-          (listed-more (w .lists) (w .k) o room)) ∙ w .inv .0,
+      sym (after-step (λ left. listAt (a .n)) _ _ _ _ (map named (take (w .k) (w .lists))) more _ _ list
+          (stored-more named (w .lists) (w .k) o room)) ∙ w .inv .0,
       omega (arith, more),
       length-set (w .lists) (w .k) o ∙ w .inv .2,
       part-counted _ _ (stands-list _ Counted (keeps-counted _) AnyNumber any-timetable-number _ _ (w .inv .3)) (c .before .before .before .before .list-line .ensures)
@@ -78,8 +78,8 @@ returns c =
     let a = c .before .before .before .before .args in
     let all : w .k ≡ a .count = omega arith in
     let none : a .count - w .k ≡ 0 = omega arith in
-    ap (λ (k : ℕ). Parsed.got (map listed (take k (w .lists))) (w .cursor)) (sym all)
-    ∙ sym (after-done (λ left. listAt (a .n)) _ 0 _ _ (map listed (take (w .k) (w .lists))) none) ∙ w .inv .0
+    ap (λ (k : ℕ). Parsed.got (map named (take k (w .lists))) (w .cursor)) (sym all)
+    ∙ sym (after-done (λ left. listAt (a .n)) _ 0 _ _ (map named (take (w .k) (w .lists))) none) ∙ w .inv .0
 
 returns-2 : tie.Need-returns-2 Inv-lines μ-lines
 returns-2 c =
@@ -87,7 +87,7 @@ returns-2 c =
     let a = c .before .before .before .before .before .before .before .args in
     let more : a .count - w .k ≡ suc (a .count - (w .k + 1)) = omega (arith, w .inv .1, c .before .before .before .if1 .left) in
     let list = sym (c .before .before .list-line .ensures) ∙ ended-told _ (c .enum-told .given .1) in
-    ended-told _ (c .enum-told .given .1) ∙ sym (after-stop (λ left. listAt (a .n)) _ _ _ _ (map listed (take (w .k) (w .lists))) more _ _ list) ∙ w .inv .0
+    ended-told _ (c .enum-told .given .1) ∙ sym (after-stop (λ left. listAt (a .n)) _ _ _ _ (map named (take (w .k) (w .lists))) more _ _ list) ∙ w .inv .0
 
 pub list-lines-spec : {M : Type 1} → statement M
 list-lines-spec =

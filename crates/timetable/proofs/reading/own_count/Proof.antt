@@ -5,6 +5,7 @@ use mathlib.Core.Logic.{⊎-elim}
 use mathlib.Core.Bool.{cond}
 use lib.Dec.{eqb}
 use Rattle.text.specs.Places.Lines.{Counted}
+use Rattle.text.specs.Reading.ParsedLaws.{bounded-by}
 use Rattle.text.specs.Places.LinesLaws.{keeps-counted, number-keeps}
 use Rattle.timetable.specs.ListLaws.{byte-none, byte-some, own-malformed, own-unended, own-over, own-value}
 use borrow.Author.Needs.{needs}
@@ -48,6 +49,9 @@ returns-2 c =
     let byte = ends (c .before .before .before) in
     sym (own-unended _ _ _ number byte (sym (c .before .before .past .ensures) ∙ c .enum-told2 .given .1))
 
+up-to-requires : tie.Need-up-to-requires
+up-to-requires c κs = search needs
+
 value-requires : tie.Need-value-requires
 value-requires c κs = search needs
 
@@ -59,19 +63,19 @@ enum-told-3 c = search needs
 
 returns-3 : tie.Need-returns-3
 returns-3 c =
-    let number = sym (c .before .before .before .before .before .before .before .before .before .before .before .number .ensures)
-    ∙ c .before .before .before .before .before .before .before .before .before .count .given .1 in
-    let byte = ends (c .before .before .before .before .before .before .before) in
-    let past = sym (c .before .before .before .before .before .before .past .ensures) ∙ c .before .before .before .before .next .given .1 in
-    sym (own-over _ _ _ number byte past (sym (c .before .before .value .ensures) ∙ c .enum-told3 .given .1))
-
-returns-4 : tie.Need-returns-4
-returns-4 c =
     let number = sym (c .before .before .before .before .before .before .before .before .before .before .before .before .number .ensures)
     ∙ c .before .before .before .before .before .before .before .before .before .before .count .given .1 in
     let byte = ends (c .before .before .before .before .before .before .before .before) in
     let past = sym (c .before .before .before .before .before .before .before .past .ensures) ∙ c .before .before .before .before .before .next .given .1 in
-    sym (own-value _ _ _ number byte past (sym (c .before .before .before .value .ensures) ∙ c .before .v .given .1))
+    sym (own-over _ _ _ number byte past (sym (bounded-by (record { min = 0; max = _ }) _ (c .before .before .value .ensures) (c .before .before .before .up-to .ensures)) ∙ c .enum-told3 .given .1))
+
+returns-4 : tie.Need-returns-4
+returns-4 c =
+    let number = sym (c .before .before .before .before .before .before .before .before .before .before .before .before .before .number .ensures)
+    ∙ c .before .before .before .before .before .before .before .before .before .before .before .count .given .1 in
+    let byte = ends (c .before .before .before .before .before .before .before .before .before) in
+    let past = sym (c .before .before .before .before .before .before .before .before .past .ensures) ∙ c .before .before .before .before .before .before .next .given .1 in
+    sym (own-value _ _ _ number byte past (sym (bounded-by (record { min = 0; max = _ }) _ (c .before .before .before .value .ensures) (c .before .before .before .before .up-to .ensures)) ∙ c .before .v .given .1))
 
 pub own-count-spec : {M : Type 1} → statement M
 own-count-spec =
@@ -85,6 +89,7 @@ own-count-spec =
     enum-known-next
     enum-told-2
     returns-2
+    up-to-requires
     value-requires
     enum-known-v
     enum-told-3

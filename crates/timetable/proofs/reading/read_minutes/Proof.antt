@@ -9,8 +9,11 @@ use borrow.Author.Needs.{needs}
 use Rattle.timetable.proofs.reading.read_minutes.Statement.{statement}
 use Rattle.timetable.proofs.reading.read_minutes.Tie as tie
 
+only-requires : tie.Need-only-requires
+only-requires c κs = search needs
+
 ranged-requires : tie.Need-ranged-requires
-ranged-requires c κs = c .before .pre .1
+ranged-requires c κs = c .before .before .pre .1
 
 enum-known-count : tie.Need-enum-known-count
 enum-known-count c = search needs
@@ -24,18 +27,18 @@ ending-of-requires c κs = search needs
 returns : tie.Need-returns
 returns c =
     let refused = c .before .enum-told .given .1 in
-    let count = ranged-told 8 9 (record { min = _; max = _ }) 10 _ _ refl refl
+    let count = ranged-told 8 9 (record { min = _; max = _ }) 10 _ _ (c .before .before .before .before .only .ensures) refl
     (c .before .before .before .ranged .ensures) refused in
     ended-told _ (c .ending-of .ensures ∙ ap endingOf refused) ∙ sym (minutes-no-count _ _ _ count)
 
 train-lines-requires : tie.Need-train-lines-requires
 train-lines-requires c κs =
-    let start = c .before .before .before .before .before .pre in
+    let start = c .before .before .before .before .before .before .pre in
     (start .0, field-counted _ _ _ _ _ _ (start .1) (c .before .before .before .ranged .ensures) (c .before .count .given .1))
 
 returns-2 : tie.Need-returns-2
 returns-2 c =
-    let count = ranged-told 8 9 (record { min = _; max = _ }) 10 _ _ refl refl
+    let count = ranged-told 8 9 (record { min = _; max = _ }) 10 _ _ (c .before .before .before .before .before .only .ensures) refl
     (c .before .before .before .before .ranged .ensures) (c .before .before .count .given .1) in
     c .train-lines .ensures ∙ sym (minutes-counted _ _ _ count)
 
@@ -43,6 +46,7 @@ pub read-minutes-spec : {M : Type 1} → statement M
 read-minutes-spec =
     tie.close
     (tie.spec
+    only-requires
     ranged-requires
     enum-known-count
     enum-told

@@ -12,7 +12,7 @@ use Rattle.text.specs.Reading.Told.{endingOf}
 use Rattle.text.specs.Reading.ToldLaws.{ranged-told}
 use Rattle.line.specs.FileLaws.{ended-told}
 use Rattle.line.specs.PlaceLaws.{part-counted}
-use Rattle.rules.specs.Lists.Orders.{listed}
+use Rattle.timetable.specs.Told.{named}
 use Rattle.timetable.specs.PlaceLaws.{any-timetable-number, stands-lists}
 use Rattle.timetable.specs.RestLaws.{rest-no-count, rest-no-lists, rest-no-total, rest-more, rest-whole}
 use Rattle.timetable.proofs.reading.read_rest.Statement.{statement}
@@ -21,8 +21,11 @@ use Rattle.timetable.proofs.reading.read_rest.Tie as tie
 list-count-requires : tie.Need-list-count-requires
 list-count-requires c κs = c .before .pre .0
 
+only-requires : tie.Need-only-requires
+only-requires c κs = search needs
+
 ranged-requires : tie.Need-ranged-requires
-ranged-requires c κs = c .before .before .pre .1
+ranged-requires c κs = c .before .before .before .pre .1
 
 enum-known-field : tie.Need-enum-known-field
 enum-known-field c = search needs
@@ -39,18 +42,18 @@ no-rest-requires c κs = search needs
 returns : tie.Need-returns
 returns c =
     let refused = c .before .before .enum-told .given .1 in
-    let count = ranged-told 8 9 (record { min = _; max = _ }) 10 _ _ refl refl (c .before .before .before .before .ranged .ensures) refused in
+    let count = ranged-told 8 9 (record { min = _; max = _ }) 10 _ _ (c .before .before .before .before .before .only .ensures) refl (c .before .before .before .before .ranged .ensures) refused in
     ended-told _ (c .no-rest .ensures ∙ c .before .ending-of .ensures ∙ ap endingOf refused)
-    ∙ sym (rest-no-count _ _ _ (c .before .before .before .before .before .list-count .ensures .0) count)
+    ∙ sym (rest-no-count _ _ _ (c .before .before .before .before .before .before .list-count .ensures .0) count)
 
 cast-count : tie.Need-cast-count
 cast-count c = search needs
 
 list-lines-requires : tie.Need-list-lines-requires
 list-lines-requires c κs =
-    let start = c .before .before .before .before .before .before .pre in (
+    let start = c .before .before .before .before .before .before .before .pre in (
       start .0 .trains .1,
-      c .before .before .before .before .list-count .ensures .1,
+      c .before .before .before .before .before .list-count .ensures .1,
       field-counted _ _ _ _ _ _ (start .1) (c .before .before .before .ranged .ensures) (c .before .field .given .1),
     )
 
@@ -65,19 +68,19 @@ no-rest-requires-2 c κs = search needs
 
 returns-2 : tie.Need-returns-2
 returns-2 c =
-    let count = ranged-told 8 9 (record { min = _; max = _ }) 10 _ _ refl refl (c .before .before .before .before .before .before .before .ranged .ensures) (c .before .before .before .before .before .field .given .1) in
+    let count = ranged-told 8 9 (record { min = _; max = _ }) 10 _ _ (c .before .before .before .before .before .before .before .before .only .ensures) refl (c .before .before .before .before .before .before .before .ranged .ensures) (c .before .before .before .before .before .field .given .1) in
     let refused = c .before .enum-told2 .given .1 in
     let lists = sym (c .before .before .before .list-lines .ensures) ∙ ended-told _ refused in
     ended-told _ (c .no-rest2 .ensures ∙ refused)
-    ∙ sym (rest-no-lists _ _ _ (c .before .before .before .before .before .before .before .before .list-count .ensures .0) count lists)
+    ∙ sym (rest-no-lists _ _ _ (c .before .before .before .before .before .before .before .before .before .list-count .ensures .0) count lists)
 
-number-field-requires : tie.Need-number-field-requires
-number-field-requires c κs =
+long-number-field-requires : tie.Need-long-number-field-requires
+long-number-field-requires c κs =
     let f = c .before .before .before .before .before in
-    let after-count = field-counted _ _ _ _ _ _ (f .before .before .before .before .before .pre .1) (f .before .before .ranged .ensures) (f .field .given .1) in
+    let after-count = field-counted _ _ _ _ _ _ (f .before .before .before .before .before .before .pre .1) (f .before .before .ranged .ensures) (f .field .given .1) in
     let after-lists = part-counted _ _ (stands-lists _ Counted (keeps-counted _) AnyNumber any-timetable-number _ _ _ after-count) (c .before .before .before .list-lines .ensures)
     (c .before .ended .given .1) in
-    (omega arith, omega arith, after-lists)
+    after-lists
 
 enum-known-total : tie.Need-enum-known-total
 enum-known-total c = search needs
@@ -90,10 +93,10 @@ no-rest-requires-3 c κs = search needs
 
 returns-3 : tie.Need-returns-3
 returns-3 c =
-    let count = ranged-told 8 9 (record { min = _; max = _ }) 10 _ _ refl refl (c .before .before .before .before .before .before .before .before .before .before .before .ranged .ensures) (c .before .before .before .before .before .before .before .before .before .field .given .1) in
+    let count = ranged-told 8 9 (record { min = _; max = _ }) 10 _ _ (c .before .before .before .before .before .before .before .before .before .before .before .before .only .ensures) refl (c .before .before .before .before .before .before .before .before .before .before .before .ranged .ensures) (c .before .before .before .before .before .before .before .before .before .field .given .1) in
     let lists = sym (c .before .before .before .before .before .before .before .list-lines .ensures) ∙ ended-told _ (c .before .before .before .before .before .ended .given .1) in
-    let total = sym (c .before .before .before .number-field .ensures) ∙ c .before .enum-told3 .given .1 in
-    let own = c .before .before .before .before .before .before .before .before .before .before .before .before .list-count .ensures .0 in
+    let total = sym (c .before .before .before .long-number-field .ensures) ∙ c .before .enum-told3 .given .1 in
+    let own = c .before .before .before .before .before .before .before .before .before .before .before .before .before .list-count .ensures .0 in
     ended-told _ (c .no-rest3 .ensures) ∙ sym (rest-no-total _ _ _ own count lists total)
 
 no-rest-requires-4 : tie.Need-no-rest-requires-4
@@ -101,24 +104,24 @@ no-rest-requires-4 c κs = search needs
 
 returns-4 : tie.Need-returns-4
 returns-4 c =
-    let count = ranged-told 8 9 (record { min = _; max = _ }) 10 _ _ refl refl
+    let count = ranged-told 8 9 (record { min = _; max = _ }) 10 _ _ (c .before .before .before .before .before .before .before .before .before .before .before .before .before .before .before .only .ensures) refl
     (c .before .before .before .before .before .before .before .before .before .before .before .before .before .before .ranged .ensures)
     (c .before .before .before .before .before .before .before .before .before .before .before .before .field .given .1) in
     let lists = sym (c .before .before .before .before .before .before .before .before .before .before .list-lines .ensures) ∙ ended-told _ (c .before .before .before .before .before .before .before .before .ended .given .1) in
-    let total = sym (c .before .before .before .before .before .before .number-field .ensures) ∙ c .before .before .before .before .total .given .1 in
-    let own = c .before .before .before .before .before .before .before .before .before .before .before .before .before .before .before .list-count .ensures .0 in
+    let total = sym (c .before .before .before .before .before .before .long-number-field .ensures) ∙ c .before .before .before .before .total .given .1 in
+    let own = c .before .before .before .before .before .before .before .before .before .before .before .before .before .before .before .before .list-count .ensures .0 in
     ended-told _ (c .no-rest4 .ensures) ∙ sym (rest-more _ _ _ own count lists total (c .before .if1 .taken))
 
 returns-5 : tie.Need-returns-5
 returns-5 c =
-    let own = c .before .before .before .before .before .before .before .before .before .before .before .before .before .before .before .list-count .ensures .0 in
-    let count = ranged-told 8 9 (record { min = _; max = _ }) 10 _ _ refl refl
+    let own = c .before .before .before .before .before .before .before .before .before .before .before .before .before .before .before .before .list-count .ensures .0 in
+    let count = ranged-told 8 9 (record { min = _; max = _ }) 10 _ _ (c .before .before .before .before .before .before .before .before .before .before .before .before .before .before .before .only .ensures) refl
     (c .before .before .before .before .before .before .before .before .before .before .before .before .before .before .ranged .ensures)
     (c .before .before .before .before .before .before .before .before .before .before .before .before .field .given .1) in
     let read = c .before .before .before .before .before .before .before .before .before .before .list-lines in
     let lists = sym (read .ensures) ∙ ended-told _ (c .before .before .before .before .before .before .before .before .ended .given .1) in
-    let total = sym (c .before .before .before .before .before .before .number-field .ensures) ∙ c .before .before .before .before .total .given .1 in
-    ap (λ (k : ℕ). Parsed.got (record { lists = map listed (take k (read .result .lists)); total = c .before .before .before .before .total .given .0 .0 })
+    let total = sym (c .before .before .before .before .before .before .long-number-field .ensures) ∙ c .before .before .before .before .total .given .1 in
+    ap (λ (k : ℕ). Parsed.got (record { lists = map named (take k (read .result .lists)); total = c .before .before .before .before .total .given .0 .0 })
     (c .before .before .before .before .total .given .0 .1 .0)) (sym own)
     ∙ sym (rest-whole _ _ _ own count lists total (omega (arith, c .before .if1 .left)))
 
@@ -127,6 +130,7 @@ read-rest-spec =
     tie.close
     (tie.spec
     list-count-requires
+    only-requires
     ranged-requires
     enum-known-field
     enum-told
@@ -139,7 +143,7 @@ read-rest-spec =
     enum-told-2
     no-rest-requires-2
     returns-2
-    number-field-requires
+    long-number-field-requires
     enum-known-total
     enum-told-3
     no-rest-requires-3

@@ -9,7 +9,7 @@ use borrow.Author.Count.{below-more}
 use Rattle.finite.specs.DecideLaws.{is-true, is-false}
 use Rattle.finite.specs.Below.{EachBelow}
 use Rattle.timetable.specs.SpeltLaws.{DaysAt}
-use Rattle.timetable.specs.WritingLaws.{decides-times}
+use Rattle.timetable.specs.WritingLaws.{time-built, time-refused, decides-times}
 use Rattle.timetable.proofs.writing.times_right.Statement.{statement}
 use Rattle.timetable.proofs.writing.times_right.Tie as tie
 
@@ -28,26 +28,50 @@ loop-holds c = search needs
 departure-of-requires : tie.Need-departure-of-requires Inv-loop μ-loop
 departure-of-requires c κs = search needs
 
+cast-value : tie.Need-cast-value Inv-loop μ-loop
+cast-value c = search needs
+
+value-requires : tie.Need-value-requires Inv-loop μ-loop
+value-requires c κs = search needs
+
+enum-told : tie.Need-enum-told Inv-loop μ-loop
+enum-told c = search needs
+
+enum-told-2 : tie.Need-enum-told-2 Inv-loop μ-loop
+enum-told-2 c = search needs
+
 returns : tie.Need-returns Inv-loop μ-loop
 returns c =
-    let w = c .before .before .before in
+    let w = c .before .before .before .before .before in
     let a = w .before .before .before in
-    let departs = c .before .departure-of .ensures in
+    let late = time-refused _ (c .before .before .value .ensures) (c .enum-told2 .given .1) in
     sym (is-false (decides-times (a .args .train) (now (a .args .m)) (a .args .i)) (λ h.
-    let right = h (w .loop .k) (omega (arith, c .before .before .loop-test .taken, w .before .legs-between .ensures)) in
-    omega (arith, right .0, departs, c .if1 .taken)))
+    let right = h (w .loop .k) (omega (arith, c .before .before .before .before .loop-test .taken, w .before .legs-between .ensures)) in
+    omega (arith, right .0, c .before .before .before .departure-of .ensures, late)))
 
 arrival-of-requires : tie.Need-arrival-of-requires Inv-loop μ-loop
 arrival-of-requires c κs = search needs
 
+cast-value-2 : tie.Need-cast-value-2 Inv-loop μ-loop
+cast-value-2 c = search needs
+
+value-requires-2 : tie.Need-value-requires-2 Inv-loop μ-loop
+value-requires-2 c κs = search needs
+
+enum-told-3 : tie.Need-enum-told-3 Inv-loop μ-loop
+enum-told-3 c = search needs
+
+enum-told-4 : tie.Need-enum-told-4 Inv-loop μ-loop
+enum-told-4 c = search needs
+
 returns-2 : tie.Need-returns-2 Inv-loop μ-loop
 returns-2 c =
-    let w = c .before .before .before .before .before in
+    let w = c .before .before .before .before .before .before .before .before .before in
     let a = w .before .before .before in
-    let arrives = c .before .arrival-of .ensures in
+    let late = time-refused _ (c .before .before .value2 .ensures) (c .enum-told4 .given .1) in
     sym (is-false (decides-times (a .args .train) (now (a .args .m)) (a .args .i)) (λ h.
-    let right = h (w .loop .k) (omega (arith, c .before .before .before .before .loop-test .taken, w .before .legs-between .ensures)) in
-    omega (arith, right .1, arrives, c .if2 .taken)))
+    let right = h (w .loop .k) (omega (arith, c .before .before .before .before .before .before .before .before .loop-test .taken, w .before .legs-between .ensures)) in
+    omega (arith, right .1, c .before .before .before .arrival-of .ensures, late)))
 
 add-k : tie.Need-add-k Inv-loop μ-loop
 add-k c = search needs
@@ -57,13 +81,13 @@ loop-less c = search needs
 
 loop-again : tie.Need-loop-again Inv-loop μ-loop
 loop-again c =
-    let w = c .before .before .before .before .before in
+    let w = c .before .before .before .before .before .before .before .before .before in
     let a = w .before .before .before in
-    let departs = c .before .before .before .departure-of .ensures in
-    let arrives = c .before .arrival-of .ensures in (
+    let departs = time-built _ (c .before .before .before .before .before .before .value .ensures) (c .before .before .before .before .enum-told .given .1) in
+    let arrives = time-built _ (c .before .before .value2 .ensures) (c .enum-told3 .given .1) in (
       omega arith,
       below-more (DaysAt (a .args .train) (now (a .args .m)) (a .args .i)) (w .loop .k) (w .loop .inv .1)
-          (omega (arith, departs, c .before .before .if1 .left), omega (arith, arrives, c .if2 .left)),
+          (omega (arith, departs, c .before .before .before .before .before .before .before .departure-of .ensures), omega (arith, arrives, c .before .before .before .arrival-of .ensures)),
     )
 
 returns-3 : tie.Need-returns-3 Inv-loop μ-loop
@@ -81,8 +105,16 @@ times-right-spec =
     legs-between-requires
     loop-holds
     departure-of-requires
+    cast-value
+    value-requires
+    enum-told
+    enum-told-2
     returns
     arrival-of-requires
+    cast-value-2
+    value-requires-2
+    enum-told-3
+    enum-told-4
     returns-2
     add-k
     loop-less

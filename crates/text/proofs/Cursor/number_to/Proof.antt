@@ -1,4 +1,4 @@
--- `text::Cursor::number` meets its contract. The loop's invariant: what is yet to read gives what the loop began with, and the value has room for
+-- `text::Cursor::number_to` meets its contract. The loop's invariant: what is yet to read gives what the loop began with, and the value has room for
 -- the digits left, so it stays below 10,000,000. A digit that was read stands inside the text, so the position after it fits. The measure is how many
 -- digits are left. Assumes nothing.
 use borrow.Author.Needs.{needs}
@@ -11,8 +11,8 @@ use Rattle.text.specs.Reading.Bytes.{ahead}
 use Rattle.text.specs.Reading.Numbers.{more}
 use Rattle.text.specs.Reading.BytesLaws.{digit-is, digit-inside, digit-small}
 use Rattle.text.specs.Reading.NumbersLaws.{number-none, number-zero, number-more, more-none, more-step, DigitsFit, room-first, room-step, room-below}
-use Rattle.text.proofs.Cursor.number.Statement.{statement}
-use Rattle.text.proofs.Cursor.number.Tie as tie
+use Rattle.text.proofs.Cursor.number_to.Statement.{statement}
+use Rattle.text.proofs.Cursor.number_to.Tie as tie
 
 abbrev Inv-loop : tie.InvT-loop
 Inv-loop s most first next₀ value₀ left₀ next value left =
@@ -142,8 +142,8 @@ returns-4 c =
     sym (more-none (now (a .s)) (w .next) (w .left) (w .value) none) ∙ w .inv .0
     ∙ sym (number-more (now (a .s)) (a .self) (a .most) _ e (c .before .before .before .before .before .before .if1 .left))
 
-pub number-spec : {M : Type 1} → statement M
-number-spec =
+pub number-to-spec : {M : Type 1} → statement M
+number-to-spec =
     tie.close
     (tie.spec
     Inv-loop
