@@ -9,12 +9,12 @@ use lib.ListN.{getD}
 use Rattle.line.specs.declared.Train.{Train}
 use Rattle.line.specs.declared.Line.{Line}
 use Rattle.line.specs.Record.{legsOf}
-use Rattle.line.specs.Within.{Within}
+use Rattle.line.specs.Runnable.{Runnable}
 use Rattle.rules.specs.Statement.Paths.{pastTrain, train, legs}
 use Rattle.rules.specs.Statement.Minutes.{arrival, lastArrival}
 use Rattle.rules.specs.Statement.Rules.{TrainRules}
 use Rattle.rules.specs.Statement.Delay.{freeAfter, freeArrival, delay}
-use Rattle.rules.specs.StatementLaws.PathsLaws.{train-or-past, routed-within, legs-few}
+use Rattle.rules.specs.StatementLaws.PathsLaws.{train-or-past, routed-runnable, legs-few}
 use Rattle.rules.specs.Check.RulesLaws.{free-start, free-next}
 
 module _ (l : Line) (m : List ℕ) (i : ℕ) (h : TrainRules l m i) where
@@ -25,11 +25,11 @@ module _ (l : Line) (m : List ℕ) (i : ℕ) (h : TrainRules l m i) where
       rw (← add-one)
       (omega (arith, no-earlier k (omega arith), h .rule12 k (omega arith), h .rule11 (k + 1) (omega arith), free-next l i k))
 
-  module _ (w : Within l) (n : i < l .traffic .«train_count») where
+  module _ (w : Runnable l) (n : i < l .traffic .«train_count») where
     -- and after the last; a train past the last of the record has no leg, and 0 for its free arrival
     pub delay-true : freeArrival l i ≤ lastArrival l m i
     delay-true =
-        ⊎-elim (λ t. no-earlier (legs l i - 1) (omega (arith, legs-few (train l i) (routed-within _ _ t (w .stations .1)) .0))) past (train-or-past l i w n)
+        ⊎-elim (λ t. no-earlier (legs l i - 1) (omega (arith, legs-few (train l i) (routed-runnable _ _ t (w .stations .1)) .0))) past (train-or-past l i w n)
       where
         past : train l i ≡ pastTrain → freeArrival l i ≤ lastArrival l m i
         past e =
