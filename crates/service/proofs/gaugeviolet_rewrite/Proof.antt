@@ -20,7 +20,7 @@ pack-written-requires : tie.Need-pack-written-requires
 pack-written-requires c κs =
     let within = accepted-read _ (c .before .before .before .before .before .before .before .read .ensures)
     (c .before .before .before .before .before .enum-told .given .1) .limits in
-    rewritten-packs within (c .before .before .write .ensures)
+    rewritten-packs within (c .before .before .write .ensures .0)
 
 enum-known-answer : tie.Need-enum-known-answer
 enum-known-answer c = search needs
