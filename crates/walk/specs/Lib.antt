@@ -5,6 +5,7 @@ pub mod SoundLaws
 pub mod WalkLaws
 pub mod WalkBestLaws
 pub mod ProblemLaws
+pub mod AfreshLaws
 pub mod Scanning
 pub mod ScanningLaws
 pub mod Taking

@@ -25,7 +25,7 @@ use Rattle.plans.specs.declared.ways.Way.{Way}
 
 -- ---- parts of the walk
 
--- what is left of taking up a plan once its least minutes are known
+-- what is left of taking up a plan once its least minutes are known; in the code `Planned` says that they are the least of all
 unfoldable pub takenUp : (P : Problem) → ℕ → P .Plan → List ℕ → BestSoFar → Walked
 takenUp P fuel cs m b = follow P (λ ds n. takeUp P fuel ds n) cs b (lookLeast P (minutes m) b)
 

@@ -37,6 +37,7 @@ module _ (P : Problem) where
   lookLeast none b = ends
   lookLeast (minutes m) b = cond (allowed m && improves P m b) (lookWays m (ways m)) ends
 
+  -- `s` has the least minutes of the plan before, from which on those of this plan are sought; they are the least of all (`walk-afresh` in `AfreshLaws`)
   unfoldable pub look : Plan → List ℕ → BestSoFar → Look Choice
   look cs s b = lookLeast (least cs s) b
 
@@ -52,6 +53,11 @@ module _ (P : Problem) where
   unfoldable pub takeUp : ℕ → Plan → List ℕ → BestSoFar → Walked
   takeUp zero cs s b = record { best = b; steps = 0 }
   takeUp (suc fuel) cs s b = follow (λ ds m. takeUp fuel ds m) cs b (look cs s b)
+
+  -- the same with each plan's least minutes sought from the start on, and not from those of the plan before
+  unfoldable pub takeUpAfresh : ℕ → Plan → BestSoFar → Walked
+  takeUpAfresh zero cs b = record { best = b; steps = 0 }
+  takeUpAfresh (suc fuel) cs b = follow (λ ds m. takeUpAfresh fuel ds) cs b (look cs start b)
 
 -- fuel for every plan, since no slack is more than 2880 for each event
 unfoldable pub plenty : Problem → ℕ

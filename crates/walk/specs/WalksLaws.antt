@@ -75,9 +75,9 @@ module _ (l : Line) (w : Within l) (a : Arrays l) (m marks best : List ℕ) (cos
   walks-clear e conflict is n n-is empty best′ same = record {
     marks-same = refl;
     tallied = record {
-      size = rw same (g .fit .size);
+      size = rw same (g .least .fit .size);
       delay-is = λ _. rw same (g .cost-is);
-      delay-low = λ _. omega (arith, g .cost-is, delay-low l w a m (g .fit));
+      delay-low = λ _. omega (arith, g .cost-is, delay-low l w a m (g .least .fit));
       steps-low = t .steps-low;
     };
     best-is = λ fuel h. ap found same ∙ sym (ap (λ (x : Walked). x .best) (taken fuel));
@@ -138,7 +138,7 @@ module _ (l : Line) (w : Within l) (a : Arrays l) (m marks best : List ℕ) (cos
     }
       where
         taken : (fuel : ℕ) → takeUp (planning l) (suc fuel) (also c marks) m (bestOf y best) ≡ record { best = bestOf y best; steps = 1 }
-        taken fuel = rw (← same-best) (child-none l w a c marks m (g .fit) fuel best b counted-tallied h)
+        taken fuel = rw (← same-best) (child-none l w a c marks m (g .least .fit) fuel best b counted-tallied h)
 
         go-best : (fuel : ℕ) → slack m < fuel → bestOf b best ≡ takeUp (planning l) fuel (also c marks) m (bestOf y best) .best
         go-best zero s = absurd (omega arith)
@@ -161,7 +161,7 @@ module _ (l : Line) (w : Within l) (a : Arrays l) (m marks best : List ℕ) (cos
         taken : (fuel : ℕ) → takenUp (planning l) fuel marks₁ n (bestOf b best) ≡ takeUp (planning l) (suc fuel) (also c marks) m (bestOf y best)
         taken fuel =
             ap₂ (λ (q : Plan) (x : BestSoFar). takenUp (planning l) fuel q n x) added same-best ∙
-            sym (child-least l w a c marks m (g .fit) fuel n (bestOf y best) least)
+            sym (child-least l w a c marks m (g .least .fit) fuel n (bestOf y best) least)
 
         go-best : (fuel : ℕ) → slack m < fuel → bestOf r best₂ ≡ takeUp (planning l) fuel (also c marks) m (bestOf y best) .best
         go-best zero s = absurd (omega arith)

@@ -18,7 +18,7 @@ use Rattle.orders.specs.Plan.Plans.{Keeps}
 use Rattle.orders.specs.Plan.TidyPlans.{Fitting, Tidy}
 use Rattle.orders.specs.LineTables.Tables.{tablesOf}
 use Rattle.orders.specs.Lift.Lifting.{Alive}
-use Rattle.plans.specs.Instance.Planning.{inTime}
+use Rattle.plans.specs.Instance.Planning.{start, inTime}
 use Rattle.plans.specs.Contracts.Keys.{keyOf}
 use Rattle.plans.specs.Contracts.Tallies.{Tallied}
 use Rattle.plans.specs.Contracts.WaysTold.{Tells}
@@ -34,10 +34,10 @@ pub record Tabled (l : Line) (t ds : List ℕ) : Type 0 where
   pub tables : t ≡ tablesOf l
   pub directions : ds ≡ directionsOf l
 
--- minutes of a plan that are in time, and their cost
+-- a plan, "a set of .. choices with the least minutes that meet them and rules 10 to 12": the least of all from 0 on, whatever plan it was made from. These
+-- are in time and have this cost
 pub record Planned (l : Line) (marks m : List ℕ) (cost : ℕ) : Type 0 where
-  pub fit : Fit 352 m
-  pub keeps : Keeps l marks m
+  pub least : IsLeast 352 (Keeps l marks) start m
   pub tidy : Tidy l marks
   pub timely : inTime l m ≡ true
   pub cost-is : cost ≡ weightedDelay l m

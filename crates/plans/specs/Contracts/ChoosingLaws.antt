@@ -47,7 +47,7 @@ module _ (l : Line) (p : Plan) (m marks t ds : List ℕ) (way : Way) (cost cut :
   segment-asks (onSegment x i j) h s low most =
       let w = within-runnable l (h .tabled .within) in
       rw (h .told .leg, h .told .second, h .marks-are, h .tabled .tables, h .tabled .directions) (
-        choosing l w (h .tabled .arrays) (onSegment x i j) (h .fitting) p (h .planned .tidy) m (h .planned .keeps) cost cut (h .planned .fit)
+        choosing l w (h .tabled .arrays) (onSegment x i j) (h .fitting) p (h .planned .tidy) m (h .planned .least .keeps) cost cut (h .planned .least .fit)
             (decides-inTime l m .yea (h .planned .timely)) (h .planned .cost-is) low most,
         omega (arith, h .fitting .0 .2, w .trains .1),
         segment-mark x i j p,
@@ -65,7 +65,7 @@ module _ (l : Line) (p : Plan) (m marks t ds : List ℕ) (way : Way) (cost cut :
       let f = h .fitting in
       let leg = leg-leaves l w r s a (f .0 .1) (f .1 .0) in
       rw (h .told .leg, h .told .second, h .marks-are, h .tabled .tables, h .tabled .directions, leg) (
-        choosing l w r (atStation s a b) f p (h .planned .tidy) m (h .planned .keeps) cost cut (h .planned .fit)
+        choosing l w r (atStation s a b) f p (h .planned .tidy) m (h .planned .least .keeps) cost cut (h .planned .least .fit)
             (decides-inTime l m .yea (h .planned .timely)) (h .planned .cost-is) low most,
         omega (arith, f .0 .2, w .trains .1),
         station-mark l w r s a b p (f .0) (f .1),
@@ -77,7 +77,7 @@ module _ (l : Line) (p : Plan) (m marks t ds : List ℕ) (way : Way) (cost cut :
   none-raises c h x m′ z k up late low =
       let q = h .planned in
       let y : NoneChosen (also c p) (tablesOf l) (directionsOf l) cut m = rw (h .marks-are, h .tabled .tables, h .tabled .directions) at x in
-      chosen-none l (within-runnable l (h .tabled .within)) (h .tabled .arrays) c (h .fitting) p (q .tidy) m (q .keeps) cut y m′ z k up (decides-inTime l m′ .yea late) low
+      chosen-none l (within-runnable l (h .tabled .within)) (h .tabled .arrays) c (h .fitting) p (q .tidy) m (q .least .keeps) cut y m′ z k up (decides-inTime l m′ .yea late) low
 
   pub chose-raises : (c : Choice) → Chooses l c p m marks t ds way cost → (n : List ℕ) (r : ℕ) → Chose marks t ds cut m n r → Raises l c p m cut n r
   chose-raises c h n r x =
@@ -86,9 +86,9 @@ module _ (l : Line) (p : Plan) (m marks t ds : List ℕ) (way : Way) (cost cut :
       let a = h .tabled .arrays in
       let y : Chose (also c p) (tablesOf l) (directionsOf l) cut m n r = rw (h .marks-are, h .tabled .tables, h .tabled .directions) at x in
       record {
-        least = λ v. chosen-least l w a c (h .fitting) p (q .tidy) m (q .keeps) cut n r (q .fit) (y .alive v) .0;
-        timely = λ v. is-true (decides-inTime l n) (chosen-least l w a c (h .fitting) p (q .tidy) m (q .keeps) cut n r (q .fit) (y .alive v) .1);
-        cost-is = λ v. chosen-least l w a c (h .fitting) p (q .tidy) m (q .keeps) cut n r (q .fit) (y .alive v) .2;
+        least = λ v. chosen-least l w a c (h .fitting) p (q .tidy) m (q .least .keeps) cut n r (q .least .fit) (y .alive v) .0;
+        timely = λ v. is-true (decides-inTime l n) (chosen-least l w a c (h .fitting) p (q .tidy) m (q .least .keeps) cut n r (q .least .fit) (y .alive v) .1);
+        cost-is = λ v. chosen-least l w a c (h .fitting) p (q .tidy) m (q .least .keeps) cut n r (q .least .fit) (y .alive v) .2;
         none = λ e. none-raises c h (x .dead e);
       }
 

@@ -30,10 +30,11 @@ use Rattle.plans.specs.declared.tally.Tally.{Tally}
 
 module _ (l : Line) (w : Within l) (a : Arrays l) where
   module _ (m : List ℕ) (least : IsLeast 352 (Keeps l free) (replicate 352 0) m) where
+    from-start : IsLeast 352 (Keeps l free) start m
+    from-start = subst (λ (s : List ℕ). IsLeast 352 (Keeps l free) s m) starts least
+
     pub first-under : Under (planning l) free m
-    first-under =
-        let L = planning-laws l w a in
-        under-least (planning l) L free start m (under-start (planning l) L) (subst (λ (s : List ℕ). IsLeast 352 (Keeps l free) s m) starts least)
+    first-under = let L = planning-laws l w a in under-least (planning l) L free start m (under-start (planning l) L) from-start
 
     -- what a search is given of it, with nothing found yet
     pub first-given : EachTrain l (NotLate l m) → (cost : ℕ) → cost ≡ weightedDelay l m → (t ds key : List ℕ) (layout : Layout) → t ≡ tablesOf l → ds ≡ directionsOf l →
@@ -45,8 +46,7 @@ module _ (l : Line) (w : Within l) (a : Arrays l) where
           keys = keys;
           layout-is = layout-is;
           planned = record {
-            fit = least .fit;
-            keeps = least .keeps;
+            least = from-start;
             tidy = free-tidy l;
             timely = is-true (decides-inTime l m) late;
             cost-is = cost-is;

@@ -14,11 +14,12 @@ use Rattle.rules.specs.Check.RulesLaws.{cost-most}
 use Rattle.orders.specs.LeastMinutes.NoLater.{slack}
 use Rattle.orders.specs.LeastMinutes.NoLaterLaws.{slack-falls}
 use Rattle.orders.specs.LeastMinutes.Least.{Fit, IsLeast}
+use Rattle.orders.specs.LeastMinutes.LeastLaws.{least-afresh}
 use Rattle.orders.specs.Plan.Bits.{withBit}
 use Rattle.orders.specs.Plan.Choices.{Choice, KeepsChoice}
 use Rattle.orders.specs.Plan.Marks.{Plan, also}
 use Rattle.orders.specs.Plan.Plans.{Keeps}
-use Rattle.orders.specs.Plan.PlansLaws.{keeps-chosen}
+use Rattle.orders.specs.Plan.PlansLaws.{keeps-rest, keeps-chosen}
 use Rattle.orders.specs.LeastMinutes.PlanArcs.{departsAt, arrivesAt}
 use Rattle.orders.specs.Plan.TidyPlans.{Fitting}
 use Rattle.orders.specs.Plan.TidyPlansLaws.{also-tidy}
@@ -28,7 +29,7 @@ use Rattle.plans.specs.Theory.Problem.{rank}
 use Rattle.plans.specs.Theory.BestSoFar.{nothing, found, Improves}
 use Rattle.plans.specs.Theory.Search.{Under, NoneBetter}
 use Rattle.plans.specs.Theory.SearchLaws.{under-also}
-use Rattle.plans.specs.Instance.Planning.{inTime, planning}
+use Rattle.plans.specs.Instance.Planning.{start, inTime, planning}
 use Rattle.plans.specs.Instance.LineSearchedLaws.{planning-laws}
 use Rattle.plans.specs.Contracts.Tallies.{bestOf, cutOf, Tallied}
 use Rattle.plans.specs.Contracts.Choosing.{Tabled, Planned, Chooses, NoRaise, RaisesChoice, Raises, IsWay}
@@ -83,8 +84,7 @@ module _ (l : Line) (w : Within l) (a : Arrays l) where
         Raises l c p m cut n r → Alive r → Planned l (also c p) n r
     child-planned cost q f cut n r h v =
         record {
-          fit = h .least v .fit;
-          keeps = h .least v .keeps;
+          least = least-afresh 352 (Keeps l p) (Keeps l (also c p)) (keeps-rest l c p) start m (q .least) n (h .least v);
           tidy = also-tidy l (within-runnable l w) c p f (q .tidy);
           timely = h .timely v;
           cost-is = h .cost-is v;
@@ -146,8 +146,8 @@ module _ (l : Line) (m marks t ds : List ℕ) (cost : ℕ) (tabled : Tabled l t 
     pub next-planned : Alive r → Planned l (set marks (way .row) v) n r
     next-planned alive =
         subst (λ (x : List ℕ). Planned l x n r) (sym way-added)
-        (child-planned l (tabled .within) (tabled .arrays) c marks m (planned .fit) cost planned (i .fitting) cut n r way-raises alive)
+        (child-planned l (tabled .within) (tabled .arrays) c marks m (planned .least .fit) cost planned (i .fitting) cut n r way-raises alive)
 
     pub next-falls : Alive r → slack n < slack m
     next-falls alive =
-        child-falls l (tabled .within) (tabled .arrays) c marks m (planned .fit) (i .fitting) (i .open-yet) n (way-raises .least alive)
+        child-falls l (tabled .within) (tabled .arrays) c marks m (planned .least .fit) (i .fitting) (i .open-yet) n (way-raises .least alive)

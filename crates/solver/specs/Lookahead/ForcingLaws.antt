@@ -171,7 +171,7 @@ module _ (l : Line) (p : Plan) (m marks best t ds key : List ℕ) (layout : Layo
               keys = g .keys;
               layout-is = g .layout-is;
               planned =
-                  child-planned l (g .tabled .within) (g .tabled .arrays) c marks m (g .planned .fit) cost (g .planned) (i .fitting) cut m′ r (settled .0) alive;
+                  child-planned l (g .tabled .within) (g .tabled .arrays) c marks m (g .planned .least .fit) cost (g .planned) (i .fitting) cut m′ r (settled .0) alive;
               tallied = g .tallied;
             };
             under =

@@ -91,7 +91,7 @@ module _ (t ds : List ℕ) (p i j : ℕ) where
             let L = planning-laws l w (a .tabled .arrays) in
             let k = h l c marks (chooses-first l a s) in
             record {
-              planned = child-planned l w (a .tabled .arrays) c marks m (s .planned .fit) cost (s .planned) (a .fitting) cut n r k alive;
+              planned = child-planned l w (a .tabled .arrays) c marks m (s .planned .least .fit) cost (s .planned) (a .fitting) cut n r k alive;
               under = under-least (planning l) L (also c marks) m n (under-also (planning l) L c marks m (s .under)) (k .least alive);
             }
 

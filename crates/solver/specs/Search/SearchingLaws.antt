@@ -89,15 +89,15 @@ module _ (l : Line) (m marks best t ds key : List ℕ) (layout : Layout) (cost l
         let w = g .tabled .within in
         let a = g .tabled .arrays in
         let c = chosen l w a (g .layout-is) (g .tabled .directions) in
-        let lawful = clear-lawful l w a marks m (p .fit) (p .keeps) (p .timely) (c .none (nothing-of conflict (sym n-is ∙ none))) in
+        let lawful = clear-lawful l w a marks m (p .least .fit) (p .least .keeps) (p .timely) (c .none (nothing-of conflict (sym n-is ∙ none))) in
         let i = improves-true (planning l) m (bestOf y best) (told l m marks best t ds key layout cost y g r r-is ∙ not-false r better) in
         let s = searched-clear (planning l) L marks m (bestOf y best) (h .under) lawful i in
         record {
           marks-same = refl;
           tallied = record {
-            size = rw same (p .fit .size);
+            size = rw same (p .least .fit .size);
             delay-is = λ _. rw same (p .cost-is);
-            delay-low = λ _. omega (arith, p .cost-is, delay-low l w a m (p .fit));
+            delay-low = λ _. omega (arith, p .cost-is, delay-low l w a m (p .least .fit));
             steps-low = g .tallied .steps-low;
           };
           steps-rise = omega arith;
