@@ -18,8 +18,8 @@ use Rattle.timetable.specs.Check.{checkOf}
 use Rattle.timetable.specs.FitsLaws.{timetable-fits}
 use Rattle.solver.specs.Promise.Solving.{Refuses, Solving}
 use Rattle.solver.specs.Promise.Demand.{Printed, Length, printed-best, printed-passes, refused-so, five-only, five-then, room-then, six-then, room-printed, AnswerBounded, answer-bounded}
-use Rattle.service.specs.Packing.{packed, Packs, PacksWritten, numberOf, valueOf, packedWritten}
-use Rattle.service.specs.PackingLaws.{Tells, packed-tells}
+use Rattle.service.specs.Packing.{packed, Packs, PacksWritten, numberIn, valueIn, packedWritten}
+use Rattle.service.specs.PackingLaws.{Unpacks, packed-tells}
 use Rattle.screen.specs.Solved.{Solved}
 
 -- what solving answers can be packed
@@ -32,11 +32,11 @@ solving-packs file entry exit w s = bounded-packs w (answer-bounded file entry e
 
 -- ---- number and value are those of the answer
 
-written-tells : (w : Written) (r n p : ℕ) → r ≡ packedWritten w → w ≡ Written.Refused n p → PacksWritten w → Tells r n p
+written-tells : (w : Written) (r n p : ℕ) → r ≡ packedWritten w → w ≡ Written.Refused n p → PacksWritten w → Unpacks r n p
 written-tells w r n p is e h = packed-tells r n p (is ∙ ap packedWritten e) (rw e at h)
 
 -- number 0 is a length
-length-told : (w : Written) (r : ℕ) → r ≡ packedWritten w → AnswerBounded w → numberOf r ≡ 0 → w ≡ Written.Length (valueOf r)
+length-told : (w : Written) (r : ℕ) → r ≡ packedWritten w → AnswerBounded w → numberIn r ≡ 0 → w ≡ Written.Length (valueIn r)
 length-told (Written.Length n) r is h zero =
     let told = packed-tells r 0 n is (omega arith) in
     ap Written.Length (sym (told .1))
@@ -45,7 +45,7 @@ length-told (Written.Refused n p) r is h zero =
     absurd (omega (arith, told .0, h .0))
 
 -- number 5 is that refusal
-five-told : (w : Written) (r : ℕ) → r ≡ packedWritten w → AnswerBounded w → numberOf r ≡ 5 → valueOf r ≡ 0 → w ≡ Written.Refused 5 0
+five-told : (w : Written) (r : ℕ) → r ≡ packedWritten w → AnswerBounded w → numberIn r ≡ 5 → valueIn r ≡ 0 → w ≡ Written.Refused 5 0
 five-told (Written.Length n) r is h five zero =
     let told = packed-tells r 0 n is (omega arith) in
     absurd (omega (arith, told .0))
@@ -63,38 +63,38 @@ module _ (file entry exit : List ℕ) (r : ℕ) (s : Solved file entry exit r) w
   packs = bounded-packs (s .written) bounded
 
   -- what is printed passes the check with that file
-  pub screen-passes : numberOf r ≡ 0 → checkOf file (take (valueOf r) exit) ≡ Verdict.Passed
-  screen-passes e = printed-passes file entry exit (s .written) (s .solving) (valueOf r) (length-told (s .written) r (s .answer) bounded e)
+  pub screen-passes : numberIn r ≡ 0 → checkOf file (take (valueIn r) exit) ≡ Verdict.Passed
+  screen-passes e = printed-passes file entry exit (s .written) (s .solving) (valueIn r) (length-told (s .written) r (s .answer) bounded e)
 
   -- a refused file is told by its number and place, with every lent byte as before
-  pub screen-refused : (n p : ℕ) → lineFile file ≡ Parsed.bad n p → Tells r n p × (exit ≡ entry)
+  pub screen-refused : (n p : ℕ) → lineFile file ≡ Parsed.bad n p → Unpacks r n p × (exit ≡ entry)
   screen-refused n p e =
       let x = refused-so file entry exit (s .written) (s .solving) n p e in
       (written-tells (s .written) r n p (s .answer) (x .0) packs, x .1)
 
   module _ (l : Line) (c : Cursor) (accepted : lineFile file ≡ Parsed.got l c) where
     -- and is the best timetable
-    pub screen-best : numberOf r ≡ 0 → Printed l exit (valueOf r)
-    screen-best e = printed-best file entry exit (s .written) (s .solving) l c accepted (valueOf r) (length-told (s .written) r (s .answer) bounded e)
+    pub screen-best : numberIn r ≡ 0 → Printed l exit (valueIn r)
+    screen-best e = printed-best file entry exit (s .written) (s .solving) l c accepted (valueIn r) (length-told (s .written) r (s .answer) bounded e)
 
     -- 5 exactly when no timetable keeps every rule
-    pub screen-five-then : ((m : List ℕ) → Lawful l m → ⊥) → Tells r 5 0 × (exit ≡ entry)
+    pub screen-five-then : ((m : List ℕ) → Lawful l m → ⊥) → Unpacks r 5 0 × (exit ≡ entry)
     screen-five-then h =
         let x = five-then file entry exit (s .written) (s .solving) l c accepted h in
         (written-tells (s .written) r 5 0 (s .answer) (x .0) packs, x .1)
 
-    pub screen-five-only : Tells r 5 0 → (m : List ℕ) → Lawful l m → ⊥
+    pub screen-five-only : Unpacks r 5 0 → (m : List ℕ) → Lawful l m → ⊥
     screen-five-only t =
         five-only file entry exit (s .written) (s .solving) l c accepted (five-told (s .written) r (s .answer) bounded (t .0) (t .1))
 
     -- the best timetable is printed exactly where its text is no longer than the lent bytes, and 6 comes otherwise
     pub screen-printed : (m : List ℕ) → Best l m → length (timetableText l m) ≤ length entry →
-        Tells r 0 (length (timetableText l m)) × (exit ≡ timetableText l m ++ drop (length (timetableText l m)) entry)
+        Unpacks r 0 (length (timetableText l m)) × (exit ≡ timetableText l m ++ drop (length (timetableText l m)) entry)
     screen-printed m b h =
         let x = room-then file entry exit (s .written) (s .solving) l c accepted m b h in
         (packed-tells r 0 (length (timetableText l m)) (s .answer ∙ ap packedWritten (x .0)) (rw (x .0) at packs), x .1)
 
-    pub screen-six : (m : List ℕ) → Best l m → length entry < length (timetableText l m) → Tells r 6 0 × (exit ≡ entry)
+    pub screen-six : (m : List ℕ) → Best l m → length entry < length (timetableText l m) → Unpacks r 6 0 × (exit ≡ entry)
     screen-six m b h =
         let x = six-then file entry exit (s .written) (s .solving) l c accepted m b h in
         (written-tells (s .written) r 6 0 (s .answer) (x .0) packs, x .1)

@@ -16,11 +16,11 @@ PacksWritten (Written.Length n) = Packs n
 PacksWritten (Written.Refused n p) = Packs p
 
 -- the two parts of an answer
-abbrev pub numberOf : ℕ → ℕ
-numberOf r = r / 4294967296
+abbrev pub numberIn : ℕ → ℕ
+numberIn r = r / 4294967296
 
-abbrev pub valueOf : ℕ → ℕ
-valueOf r = r % 4294967296
+abbrev pub valueIn : ℕ → ℕ
+valueIn r = r % 4294967296
 
 -- of a reading: 0 where the file is accepted
 abbrev pub packedAnswer : Answer → ℕ

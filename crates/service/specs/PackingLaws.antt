@@ -12,26 +12,26 @@ use Rattle.timetable.specs.declared.checking.Verdict.{Verdict}
 use Rattle.timetable.specs.Check.{checkOf}
 use Rattle.timetable.specs.ExactCheckLaws.{PassedBy, passes, passed}
 use Rattle.timetable.specs.RefusalLaws.{check-refusal}
-use Rattle.service.specs.Packing.{packed, Packs, numberOf, valueOf, packedAnswer, packedVerdict}
+use Rattle.service.specs.Packing.{packed, Packs, numberIn, valueIn, packedAnswer, packedVerdict}
 
-pub unpacked-number : (n v : ℕ) → Packs v → numberOf (packed n v) ≡ n
+pub unpacked-number : (n v : ℕ) → Packs v → numberIn (packed n v) ≡ n
 unpacked-number n v h = omega arith
 
-pub unpacked-value : (n v : ℕ) → Packs v → valueOf (packed n v) ≡ v
+pub unpacked-value : (n v : ℕ) → Packs v → valueIn (packed n v) ≡ v
 unpacked-value n v h = omega arith
 
 -- number and value of an answer r are these
-abbrev pub Tells : ℕ → ℕ → ℕ → Type 0
-Tells r n p = (numberOf r ≡ n) × (valueOf r ≡ p)
+abbrev pub Unpacks : ℕ → ℕ → ℕ → Type 0
+Unpacks r n p = (numberIn r ≡ n) × (valueIn r ≡ p)
 
-pub packed-tells : (r n p : ℕ) → r ≡ packed n p → Packs p → Tells r n p
-packed-tells r n p e h = (ap numberOf e ∙ unpacked-number n p h, ap valueOf e ∙ unpacked-value n p h)
+pub packed-tells : (r n p : ℕ) → r ≡ packed n p → Packs p → Unpacks r n p
+packed-tells r n p e h = (ap numberIn e ∙ unpacked-number n p h, ap valueIn e ∙ unpacked-value n p h)
 
 -- ---- a reading
 
 module _ (file : List ℕ) (r : ℕ) (is : r ≡ packedAnswer (answered (lineFile file) .answer)) where
   -- a refused file is told by its number, from 1 to 4, and its place
-  pub read-refused : (n p : ℕ) → lineFile file ≡ Parsed.bad n p → Tells r n p × (1 ≤ n) × (n ≤ 4)
+  pub read-refused : (n p : ℕ) → lineFile file ≡ Parsed.bad n p → Unpacks r n p × (1 ≤ n) × (n ≤ 4)
   read-refused n p e =
       let x = file-refusal file n p e in
       (packed-tells r n p (is ∙ ap (λ (a : Parsed Line). packedAnswer (answered a .answer)) e) (omega (arith, x .place)), x .number .0, x .number .1)
@@ -45,8 +45,8 @@ module _ (file : List ℕ) (r : ℕ) (is : r ≡ packedAnswer (answered (lineFil
     pub end : Cursor
     pub got : lineFile file ≡ Parsed.got line end
 
-  pub accepted-read : numberOf r ≡ 0 → Accepted
-  accepted-read h = go (lineFile file) refl
+  pub zero-accepted : numberIn r ≡ 0 → Accepted
+  zero-accepted h = go (lineFile file) refl
     where
       go : (a : Parsed Line) → lineFile file ≡ a → Accepted
       go (Parsed.got l c) e = record { line = l; end = c; got = e }
@@ -55,13 +55,13 @@ module _ (file : List ℕ) (r : ℕ) (is : r ≡ packedAnswer (answered (lineFil
 -- ---- a check
 
 module _ (file s : List ℕ) (r : ℕ) (is : r ≡ packedVerdict (checkOf file s)) where
-  pub check-refused : (n p : ℕ) → checkOf file s ≡ Verdict.Refused n p → Tells r n p × (1 ≤ n) × (n ≤ 17)
+  pub check-refused : (n p : ℕ) → checkOf file s ≡ Verdict.Refused n p → Unpacks r n p × (1 ≤ n) × (n ≤ 17)
   check-refused n p e =
       let x = check-refusal file s n p e in
       (packed-tells r n p (is ∙ ap packedVerdict e) (omega (arith, x .place)), x .number .0, x .number .1)
 
   -- 0 exactly where the file is accepted and the text is that of minutes that keep every rule of its line
-  pub check-passes : numberOf r ≡ 0 → PassedBy file s
+  pub check-passes : numberIn r ≡ 0 → PassedBy file s
   check-passes h = go (checkOf file s) refl
     where
       go : (v : Verdict) → checkOf file s ≡ v → PassedBy file s
