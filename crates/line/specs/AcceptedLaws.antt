@@ -28,7 +28,7 @@ use Rattle.line.specs.declared.reading.Path.{Path}
 use Rattle.line.specs.declared.reading.Head.{Head}
 use Rattle.line.specs.Ranges.{In, stationCount, tracks, gap, trainCount, station, time, weight, run, stop}
 use Rattle.line.specs.Record.{noSegment, noTrain, lineWith, legsBetween, tidyTrain}
-use Rattle.line.specs.File.{number, stationLine, letterOf, onLetter, kindAt, segmentLine, pathAt, headAt, Journey, journeyAt, trainWith, trainLine, Section, sectionAt, stationSection, segmentSection, trainSection, joins, lineFrom, lineAt, fileFrom, lineFile}
+use Rattle.line.specs.File.{number, stationLine, letterOf, onLetter, kindAt, segmentLine, pathAt, headAt, Journey, journeyAt, trainWith, trainLine, Section, sectionAt, stationSection, segmentSection, trainSection, joins, lineFrom, lineAt, lineFile}
 use Rattle.line.specs.Spell.{field, stationText, letterByte, segmentText, journeyText, trainText}
 use Rattle.line.specs.RecordLaws.{path-legs}
 use Rattle.line.specs.FileLaws.{letter-byte, letter-inside}
@@ -349,5 +349,5 @@ line-spelt s l end e =
     (ltb-false (z .next .at) (length s) (done .0)))
 
 pub file-spelt : (s : List ℕ) (l : Line) (end : Cursor) → lineFile s ≡ Parsed.got l end → LineRead s l
-unfolding lineFile fileFrom
+unfolding lineFile
 file-spelt s l end e = line-spelt s l end (pick-got (ltb 4096 (length s)) 1 0 _ l end e .1)

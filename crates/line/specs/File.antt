@@ -27,6 +27,11 @@ use Rattle.line.specs.Record.{noSegment, noTrain, lineWith, emptyLine, l
 abbrev pub number : Limits → ℕ → List ℕ → Cursor → Parsed ℕ
 number r b s c = rangedAt 2 3 (r .min) (r .max) b s c
 
+-- the byte after a field with k more on its line
+abbrev pub afterField : ℕ → ℕ
+afterField zero = 10
+afterField (suc k) = 32
+
 -- ---- a section: "each after a line with its count", and then a line each
 
 -- its count, and an array that begins with what its lines gave
@@ -145,12 +150,9 @@ lineAt s c =
     thenRead (trainSection (stations .count) s c₂) (λ trains c₃.
     pick (ltb (c₃ .at) (length s)) (Parsed.bad 2 (c₃ .line)) (Parsed.got (lineFrom stations segments trains) c₃))))
 
--- "ASCII text of at most 4,096 bytes": over that is 1 at 0; else the sections are read from position i on, which is on line 1
-unfoldable pub fileFrom : List ℕ → ℕ → Parsed Line
-fileFrom s i = pick (ltb 4096 (length s)) (Parsed.bad 1 0) (lineAt s (record { at = i; line = 1 }))
-
+-- "ASCII text of at most 4,096 bytes": over that is 1 at 0; else the sections are read from the first byte on, which is on line 1
 unfoldable pub lineFile : List ℕ → Parsed Line
-lineFile s = fileFrom s 0
+lineFile s = pick (ltb 4096 (length s)) (Parsed.bad 1 0) (lineAt s (record { at = 0; line = 1 }))
 
 -- ---- the answer of `read`
 

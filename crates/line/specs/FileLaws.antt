@@ -2,24 +2,27 @@
 use Prim.Native.Nat.{ℕ, _<_}
 use mathlib.Core.Path.{_≡_, refl, ap, _∙_}
 use mathlib.Core.Bool.{Bool, true, false}
-use mathlib.Core.List.{List}
+use mathlib.Core.List.{List, [], _∷_}
 use native.Mathlib.Omega.{arith}
 use borrow.Author.Tests.{eqb-true, eq-eqb, ne-eqb}
 use lib.Dec.{eqb}
-use lib.ListN.{length}
+use lib.ListN.{length, getD, replicate}
+use lib.Seq.{sets}
 use Rattle.text.specs.declared.Cursor.{Cursor}
 use Rattle.text.specs.declared.Ending.{Ending}
 use Rattle.text.specs.Reading.Choice.{pick}
 use Rattle.text.specs.Reading.Bytes.{byteAt}
 use Rattle.text.specs.Reading.BytesLaws.{inside}
-use Rattle.text.specs.Reading.Parsed.{Parsed}
+use Rattle.text.specs.Reading.Parsed.{Parsed, thenRead, mapParsed, many}
+use Rattle.text.specs.Elements.LayLaws.{layMany}
 use Rattle.text.specs.Reading.Told.{toldEnding}
 use Rattle.line.specs.declared.Kind.{Kind}
+use Rattle.line.specs.declared.Segment.{Segment}
 use Rattle.line.specs.declared.reading.Letter.{Letter}
 use Rattle.line.specs.declared.reading.Path.{Path}
 use Rattle.line.specs.Ranges.{gap, station, time, weight}
 use Rattle.line.specs.Spell.{letterByte}
-use Rattle.line.specs.File.{number, letterOf, kindAt, segmentLine, pathAt, headAt}
+use Rattle.line.specs.File.{number, afterField, letterOf, kindAt, segmentLine, pathAt, headAt}
 
 -- what a part tells whose ending is known
 pub ended-told : {A : Type 0} {e y : Ending} (x : A) → e ≡ y → toldEnding e x ≡ toldEnding y x
@@ -48,25 +51,36 @@ letter-small Kind.D = omega arith
 pub letter-inside : (s : List ℕ) (c : Cursor) (k : Kind) → letterOf (byteAt s c) ≡ Letter.Found k → c .at < length s
 letter-inside s c k e = inside s (c .at) (omega (arith, letter-byte (byteAt s c) k e, letter-small k))
 
+-- a gap with `left` more on its line
+abbrev pub gapAt : ℕ → List ℕ → Cursor → Parsed ℕ
+gapAt left s c = number gap (afterField left) s c
+
+-- the segment of a kind and its two gaps
+abbrev pub segmentWith : Kind → List ℕ → Segment
+segmentWith k gs = record { kind = k; following = getD gs 0 0; opposing = getD gs 1 0 }
+
 module _ (s : List ℕ) (c : Cursor) where
   pub segment-no-kind : {n q : ℕ} → kindAt s c ≡ Parsed.bad n q → segmentLine s c ≡ Parsed.bad n q
   unfolding segmentLine
   segment-no-kind e = rw e refl
 
-  module _ {k : Kind} {c₁ : Cursor} (kind : kindAt s c ≡ Parsed.got k c₁) where
-    pub segment-no-following : {n q : ℕ} → number gap 32 s c₁ ≡ Parsed.bad n q → segmentLine s c ≡ Parsed.bad n q
-    unfolding segmentLine
-    segment-no-following e = rw (kind, e) refl
+  -- a segment from its kind and its gaps laid into an array
+  pub segment-from : (k : Kind) (c₁ : Cursor) (r : Parsed (List ℕ)) → kindAt s c ≡ Parsed.got k c₁ → r ≡ layMany 2 gapAt s c₁ (replicate 2 0) 0 →
+      segmentLine s c ≡ mapParsed (segmentWith k) r
+  unfolding segmentLine many
+  segment-from k c₁ r kind h = rw (kind, h) (following (number gap 32 s c₁))
+    where
+      opposing : (f : ℕ) (a : Parsed ℕ) → thenRead a (λ o c₃. Parsed.got (record { kind = k; following = f; opposing = o }) c₃)
+          ≡ mapParsed (segmentWith k) (mapParsed (λ ys. sets (replicate 2 0) 0 ys)
+          (thenRead (thenRead a (λ y c₃. thenRead (Parsed.got [] c₃) (λ xs end. Parsed.got (y ∷ xs) end))) (λ xs end. Parsed.got (f ∷ xs) end)))
+      opposing f (Parsed.got o c₃) = refl
+      opposing f (Parsed.bad n p) = refl
 
-    module _ {f : ℕ} {c₂ : Cursor} (following : number gap 32 s c₁ ≡ Parsed.got f c₂) where
-      pub segment-no-opposing : {n q : ℕ} → number gap 10 s c₂ ≡ Parsed.bad n q → segmentLine s c ≡ Parsed.bad n q
-      unfolding segmentLine
-      segment-no-opposing e = rw (kind, following, e) refl
-
-      pub segment-got : {o : ℕ} {c₃ : Cursor} → number gap 10 s c₂ ≡ Parsed.got o c₃ →
-          segmentLine s c ≡ Parsed.got (record { kind = k; following = f; opposing = o }) c₃
-      unfolding segmentLine
-      segment-got e = rw (kind, following, e) refl
+      following : (a : Parsed ℕ) → thenRead a (λ f c₂. thenRead (number gap 10 s c₂) (λ o c₃. Parsed.got (record { kind = k; following = f; opposing = o }) c₃))
+          ≡ mapParsed (segmentWith k) (mapParsed (λ ys. sets (replicate 2 0) 0 ys)
+          (thenRead a (λ f c₂. thenRead (thenRead (number gap 10 s c₂) (λ y c₃. thenRead (Parsed.got [] c₃) (λ xs end. Parsed.got (y ∷ xs) end))) (λ xs end. Parsed.got (f ∷ xs) end))))
+      following (Parsed.got f c₂) = opposing f (number gap 10 s c₂)
+      following (Parsed.bad n p) = refl
 
 -- ---- origin and destination on a train's line
 

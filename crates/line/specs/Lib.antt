@@ -2,6 +2,7 @@
 pub mod Ranges
 pub mod Record
 pub mod File
+pub mod Parts
 pub mod Spell
 pub mod Writing
 pub mod Within
@@ -12,6 +13,7 @@ pub mod FileLaws
 pub mod TrainLaws
 pub mod SectionLaws
 pub mod PlaceLaws
+pub mod PartsLaws
 pub mod FaultLaws
 pub mod WithinLaws
 pub mod SpellLaws

@@ -29,7 +29,7 @@ use Rattle.line.specs.Record.{noSegment, noTrain, legsBetween}
 use Rattle.line.specs.Spell.{letterByte}
 use Rattle.line.specs.File.{number, sectionAt, stationLine, stationSection, letterOf, onLetter, kindAt, toldKind, segmentLine, segmentSection, joins, pathAt, headAt, journeyAt, trainLine, trainSection, lineAt, lineFile, answered}
 use Rattle.line.specs.FileLaws.{letter-byte}
-use Rattle.line.specs.SectionLaws.{file-first, file-long, file-short}
+use Rattle.line.specs.SectionLaws.{file-long, file-short}
 
 -- a kind's letter is no line feed
 letter-other : (k : Kind) → letterByte k ≡ 10 → ⊥
@@ -146,7 +146,7 @@ field-numbers = record { form = (omega arith, omega arith); range = (omega arith
 refused-at : (s : List ℕ) (n p : ℕ) → length s ≤ 4096 → lineFile s ≡ Parsed.bad n p → Stood (LineAt s) FieldNumber n p
 refused-at s n p short e =
     let start : Cursor = record { at = 0; line = 1 } in
-    let whole : lineAt s start ≡ Parsed.bad n p = sym (file-short s 0 short) ∙ file-first s ∙ e in
+    let whole : lineAt s start ≡ Parsed.bad n p = sym (file-short s short) ∙ e in
     stands-bad (LineAt s) FieldNumber (lineAt s start) (stands-line s (LineAt s) (keeps-line s) FieldNumber field-numbers start (line-first s)) whole
 
 pub refused-on : (s : List ℕ) (n p : ℕ) → length s ≤ 4096 → lineFile s ≡ Parsed.bad n p → OnLine s p
@@ -163,7 +163,7 @@ file-refusal s n p e = elim (decLe (length s) 4096) [
       let w = refused-at s n p short e in
       record { number = (omega (arith, w .number), omega (arith, w .number)); place = omega (arith, line-most (stood-line w)) })
   | no long ↦ (
-      let q : _≡_ {A = Parsed Line} (Parsed.bad 1 0) (Parsed.bad n p) = sym (file-long s 0 (omega arith)) ∙ file-first s ∙ e in
+      let q : _≡_ {A = Parsed Line} (Parsed.bad 1 0) (Parsed.bad n p) = sym (file-long s (omega arith)) ∙ e in
       let one : 1 ≡ n = cc in
       let zero : 0 ≡ p = cc in
       record { number = (omega arith, omega arith); place = omega arith })

@@ -24,7 +24,7 @@ use Rattle.line.specs.declared.reading.Letter.{Letter}
 use Rattle.line.specs.declared.reading.Head.{Head}
 use Rattle.line.specs.Ranges.{In, stationCount, tracks, gap, trainCount, station, time, weight, run, stop}
 use Rattle.line.specs.Record.{noSegment, noTrain, legsOf, runsOf, stopsOf, tracksOf, segmentsOf, trainsOf, tidyTrain, tidyLine}
-use Rattle.line.specs.File.{number, stationLine, letterOf, kindAt, segmentLine, pathAt, headAt, journeyAt, trainLine, sectionAt, stationSection, segmentSection, trainSection, joins, lineAt, fileFrom, lineFile}
+use Rattle.line.specs.File.{number, stationLine, letterOf, kindAt, segmentLine, pathAt, headAt, journeyAt, trainLine, sectionAt, stationSection, segmentSection, trainSection, joins, lineAt, lineFile}
 use Rattle.line.specs.Spell.{field, stationText, letterByte, segmentText, journeyText, headText, trainText, textOf}
 use Rattle.line.specs.Within.{SegmentWithin, TrainWithin, Within, TrainArrays, Arrays}
 use Rattle.line.specs.RecordLaws.{train-path}
@@ -186,5 +186,5 @@ module _ (l : Line) (w : Within l) (a : Arrays l) (s : List ℕ) where
 
 -- the text of a line within the limits is read as that line
 pub text-reads : (l : Line) → Within l → Arrays l → length (textOf l) ≤ 4096 → Reads (lineFile (textOf l)) (tidyLine l) (textOf l) []
-unfolding lineFile fileFrom
+unfolding lineFile
 text-reads l w a h = rw (le-ltb 4096 (length (textOf l)) h) (line-reads l w a (textOf l) (record { at = 0; line = 1 }) refl)

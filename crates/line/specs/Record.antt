@@ -7,6 +7,8 @@ use Rattle.text.specs.Elements.Padded.{padded}
 use Rattle.line.specs.declared.Kind.{Kind}
 use Rattle.line.specs.declared.Segment.{Segment}
 use Rattle.line.specs.declared.Train.{Train}
+use Rattle.line.specs.declared.Track.{Track}
+use Rattle.line.specs.declared.Traffic.{Traffic}
 use Rattle.line.specs.declared.Line.{Line}
 
 -- "entries beyond a count are 0 (a kind is S)"
@@ -16,15 +18,21 @@ noSegment = record { kind = Kind.S; following = 0; opposing = 0 }
 abbrev pub noTrain : Train
 noTrain = record { origin = 0; destination = 0; earliest = 0; latest = 0; weight = 0; runs = replicate 11 0; stops = replicate 11 0 }
 
--- the line of these entries
+-- the track, the traffic and the line of these entries
+abbrev pub trackWith : ℕ → List ℕ → List Segment → Track
+trackWith n ts gs = record { «station_count» = n; tracks = ts; segments = gs }
+
+abbrev pub trafficWith : ℕ → List Train → Traffic
+trafficWith t trs = record { «train_count» = t; trains = trs }
+
 abbrev pub lineWith : ℕ → List ℕ → List Segment → ℕ → List Train → Line
-lineWith n ts gs t trs = record {
-  track = record { «station_count» = n; tracks = ts; segments = gs };
-  traffic = record { «train_count» = t; trains = trs };
-}
+lineWith n ts gs t trs = record { track = trackWith n ts gs; traffic = trafficWith t trs }
+
+abbrev pub emptyTrack : Track
+emptyTrack = trackWith 0 (replicate 12 0) (replicate 11 noSegment)
 
 abbrev pub emptyLine : Line
-emptyLine = lineWith 0 (replicate 12 0) (replicate 11 noSegment) 0 (replicate 12 noTrain)
+emptyLine = record { track = emptyTrack; traffic = trafficWith 0 (replicate 12 noTrain) }
 
 -- the segments of a train's path: as many as its origin and destination are apart
 abbrev pub legsBetween : ℕ → ℕ → ℕ

@@ -1,6 +1,6 @@
--- Laws of reading the sections: how each is refused, at its count or in its lines, and what the file is after each.
+-- Laws of reading the sections, how each is refused, at its count or in its lines; and of the file, by its length.
 use Prim.Native.Nat.{ℕ, _≤_, _<_}
-use mathlib.Core.Path.{_≡_, refl, sym, ap, _∙_}
+use mathlib.Core.Path.{_≡_, refl, ap, _∙_}
 use mathlib.Core.List.{List}
 use native.Mathlib.Omega.{arith}
 use borrow.Author.Tests.{lt-ltb, le-ltb}
@@ -12,13 +12,8 @@ use Rattle.text.specs.Reading.Parsed.{Parsed, mapParsed, lines}
 use Rattle.text.specs.Reading.ParsedLaws.{then-got, got-is, ranged-spelt}
 use Rattle.text.specs.Elements.Padded.{padded}
 use Rattle.text.specs.Reading.Told.{toldEnding}
-use Rattle.line.specs.declared.Segment.{Segment}
-use Rattle.line.specs.declared.Train.{Train}
-use Rattle.line.specs.declared.Line.{Line}
-use Rattle.line.specs.declared.ReadLine.{ReadLine}
 use Rattle.line.specs.Ranges.{In}
-use Rattle.line.specs.Record.{emptyLine}
-use Rattle.line.specs.File.{number, Section, sectionAt, stationSection, segmentSection, trainSection, lineFrom, lineAt, fileFrom, lineFile, answered}
+use Rattle.line.specs.File.{number, Section, sectionAt, lineAt, lineFile}
 
 -- ---- a section: its count, then its lines
 
@@ -54,43 +49,12 @@ module _ {A : Type 0} (r : Limits) (size : ℕ) (none : A) (line : List ℕ → 
       let count = ranged-spelt 2 3 (r .min) (r .max) 10 s c (n .value) (n .next) (omega arith) (n .first) in
       got-is (λ y end. In r (y .count)) (xs .after) (count .low, count .high)
 
--- ---- the sections in their order
-
-module _ (s : List ℕ) (c : Cursor) where
-  pub no-stations : {m q : ℕ} → stationSection s c ≡ Parsed.bad m q → lineAt s c ≡ Parsed.bad m q
-  unfolding lineAt
-  no-stations e = rw e refl
-
-  module _ {x : Section ℕ} {c₁ : Cursor} (stations : stationSection s c ≡ Parsed.got x c₁) where
-    pub no-segments : {m q : ℕ} → segmentSection (x .count) s c₁ ≡ Parsed.bad m q → lineAt s c ≡ Parsed.bad m q
-    unfolding lineAt
-    no-segments e = rw (stations, e) refl
-
-    module _ {y : Section Segment} {c₂ : Cursor} (segments : segmentSection (x .count) s c₁ ≡ Parsed.got y c₂) where
-      pub no-trains : {m q : ℕ} → trainSection (x .count) s c₂ ≡ Parsed.bad m q → lineAt s c ≡ Parsed.bad m q
-      unfolding lineAt
-      no-trains e = rw (stations, segments, e) refl
-
-      module _ {z : Section Train} {c₃ : Cursor} (trains : trainSection (x .count) s c₂ ≡ Parsed.got z c₃) where
-        pub bytes-after : c₃ .at < length s → lineAt s c ≡ Parsed.bad 2 (c₃ .line)
-        unfolding lineAt
-        bytes-after more = rw (stations, segments, trains, lt-ltb (c₃ .at) (length s) more) refl
-
-        pub line-read : length s ≤ c₃ .at → lineAt s c ≡ Parsed.got (lineFrom x y z) c₃
-        unfolding lineAt
-        line-read done = rw (stations, segments, trains, le-ltb (c₃ .at) (length s) done) refl
-
 -- ---- the file
 
-pub file-long : (s : List ℕ) (i : ℕ) → 4096 < length s → fileFrom s i ≡ Parsed.bad 1 0
-unfolding fileFrom
-file-long s i long = rw (lt-ltb 4096 (length s) long) refl
-
-pub file-short : (s : List ℕ) (i : ℕ) → length s ≤ 4096 → fileFrom s i ≡ lineAt s (record { at = i; line = 1 })
-unfolding fileFrom
-file-short s i short = rw (le-ltb 4096 (length s) short) refl
-
--- a file is read from its first byte on
-pub file-first : (s : List ℕ) → fileFrom s 0 ≡ lineFile s
+pub file-long : (s : List ℕ) → 4096 < length s → lineFile s ≡ Parsed.bad 1 0
 unfolding lineFile
-file-first s = refl
+file-long s long = rw (lt-ltb 4096 (length s) long) refl
+
+pub file-short : (s : List ℕ) → length s ≤ 4096 → lineFile s ≡ lineAt s (record { at = 0; line = 1 })
+unfolding lineFile
+file-short s short = rw (le-ltb 4096 (length s) short) refl

@@ -5,8 +5,9 @@ ghost use Rattle.text.specs.Places.Lines.{Counted};
 ghost use Rattle.text.specs.Reading.Parsed.{mapParsed, lines};
 ghost use Rattle.text.specs.Reading.Told.{toldEnding};
 ghost use Rattle.text.specs.Elements.Padded.{padded};
-ghost use Rattle.line.specs.Record.{noSegment, noTrain, lineWith, emptyLine};
-ghost use Rattle.line.specs.File.{toldKind, stationLine, stationSection, letterOf, kindAt, segmentLine, segmentSection, pathAt, headAt, trainWith, trainLine, trainSection, lineAt, fileFrom, lineFile, answered};
+ghost use Rattle.line.specs.Record.{noSegment, noTrain, trackWith, trafficWith, emptyTrack, emptyLine};
+ghost use Rattle.line.specs.File.{toldKind, stationLine, stationSection, letterOf, kindAt, afterField, segmentLine, segmentSection, pathAt, headAt, trainWith, trainLine, trainSection, lineFile, answered};
+ghost use Rattle.line.specs.Parts.{trackFrom, endOf, CanComplete, completedFrom};
 use crate::Answer;
 use crate::Kind;
 use crate::Line;
@@ -19,8 +20,10 @@ use crate::Track;
 use crate::Traffic;
 use crate::Train;
 use crate::legs_between;
+use crate::reader::complete;
+use crate::reader::moved;
 use crate::reader::open;
-use crate::reader::read_from;
+use crate::reader::read_track;
 use text::Cursor;
 use text::Ending;
 use text::Faults;
@@ -57,11 +60,6 @@ pub struct Head {
 }
 
 // Each part of the file with how it ended; refused, its value says nothing.
-pub struct SegmentPart {
-    pub ending: Ending,
-    pub segment: Segment,
-}
-
 pub struct PathPart {
     pub ending: Ending,
     pub path: Path,
@@ -106,10 +104,11 @@ pub struct TrainSection {
     pub trains: [Train; 12],
 }
 
-// The whole file.
-pub struct LinePart {
+// The stations and segments, and where the reader stands after them; where they are refused, where it stood before.
+pub struct TrackPart {
     pub ending: Ending,
-    pub line: Line,
+    pub at: usize,
+    pub track: Track,
 }
 
 // The numbers of a line file's refusals.
@@ -157,40 +156,11 @@ fn no_segment() -> Segment
     }
 }
 
-// A segment's line: kind, following gap, opposing gap.
-fn segment_line(s: &[u8], cursor: Cursor) -> SegmentPart
-    requires { ⌜ Counted cursor ⌝ }
-    ensures { λ r. ⌜ toldEnding (r .ending) (r .segment) ≡ segmentLine (now (s .entry)) cursor ⌝ }
+// The byte after a field with `left` more on its line.
+pub fn after_field(left: usize) -> u8
+    ensures { λ r. ⌜ r ≡ afterField left ⌝ }
 {
-    let none = no_segment();
-    let KindField::Value(kind, after_kind) = kind_field(s, cursor) else {
-        return SegmentPart {
-            ending: Ending::Refused(2, cursor.line),
-            segment: none,
-        };
-    };
-    let f = after_kind.ranged(s, SPACE, Segment::GAP, FAULTS);
-    let Field::Value(following, after_following) = f else {
-        return SegmentPart {
-            ending: ending_of(f),
-            segment: none,
-        };
-    };
-    let o = after_following.ranged(s, LINE_FEED, Segment::GAP, FAULTS);
-    let Field::Value(opposing, next) = o else {
-        return SegmentPart {
-            ending: ending_of(o),
-            segment: none,
-        };
-    };
-    SegmentPart {
-        ending: Ending::Done(next),
-        segment: Segment {
-            kind,
-            following,
-            opposing,
-        },
-    }
+    if left == 0 { LINE_FEED } else { SPACE }
 }
 
 // A path that was not read.
@@ -327,7 +297,7 @@ fn station_section(s: &[u8], start: Cursor) -> StationSection
     }
 }
 
-// The lines of segments.
+// The lines of segments. The inner loop goes through the gaps of a line, following and opposing.
 fn segment_lines(s: &[u8], start: Cursor, count: usize) -> SegmentLines
     requires { ⌜ (count ≤ 11) × Counted start ⌝ }
     ensures { λ r. ⌜ toldEnding (r .ending) (r .segments) ≡ mapParsed (padded 11 noSegment) (lines count segmentLine (now (s .entry)) start) ⌝ }
@@ -340,14 +310,26 @@ fn segment_lines(s: &[u8], start: Cursor, count: usize) -> SegmentLines
         if i == count {
             break 'lines Ending::Done(cursor);
         }
-        let part = segment_line(s, cursor);
-        let ended = part.ending;
-        let Ending::Done(next) = ended else {
-            break 'lines ended;
+        let KindField::Value(kind, after_kind) = kind_field(s, cursor) else {
+            break 'lines Ending::Refused(2, cursor.line);
         };
-        let g = part.segment;
-        segments[i] = g;
-        cursor = next;
+        cursor = after_kind;
+        let mut gaps = [0u16; 2];
+        let mut k: usize = 0;
+        while k < 2 {
+            let field = cursor.ranged(s, after_field(2 - (k + 1)), Segment::GAP, FAULTS);
+            let Field::Value(gap, next) = field else {
+                break 'lines ending_of(field);
+            };
+            gaps[k] = gap;
+            cursor = next;
+            k = k + 1;
+        }
+        segments[i] = Segment {
+            kind,
+            following: gaps[0],
+            opposing: gaps[1],
+        };
         i = i + 1;
     };
     SegmentLines { ending, segments }
@@ -479,22 +461,23 @@ fn train_section(s: &[u8], start: Cursor, stations: u16) -> TrainSection
     }
 }
 
-// The line of these entries; nothing else makes one.
-fn line_with(
-    stations: u16,
-    tracks: [u16; 12],
-    segments: [Segment; 11],
-    count: u16,
-    trains: [Train; 12],
-) -> Line
-    ensures { λ r. ⌜ r ≡ lineWith stations tracks segments count trains ⌝ }
+// The track of these entries; nothing else makes one.
+fn track_with(stations: u16, tracks: [u16; 12], segments: [Segment; 11]) -> Track
+    ensures { λ r. ⌜ r ≡ trackWith stations tracks segments ⌝ }
+{
+    Track {
+        station_count: stations,
+        tracks,
+        segments,
+    }
+}
+
+// The line of this track with these trains; nothing else makes one.
+fn line_with(track: Track, count: u16, trains: [Train; 12]) -> Line
+    ensures { λ r. ⌜ r ≡ record { track = track; traffic = trafficWith count trains } ⌝ }
 {
     Line {
-        track: Track {
-            station_count: stations,
-            tracks,
-            segments,
-        },
+        track,
         traffic: Traffic {
             train_count: count,
             trains,
@@ -502,57 +485,22 @@ fn line_with(
     }
 }
 
+fn empty_track() -> Track
+    ensures { λ r. ⌜ r ≡ emptyTrack ⌝ }
+{
+    let segment = no_segment();
+    let tracks = [0u16; 12];
+    let segments = [segment; 11];
+    track_with(0, tracks, segments)
+}
+
 fn empty_line() -> Line
     ensures { λ r. ⌜ r ≡ emptyLine ⌝ }
 {
-    let segment = no_segment();
+    let track = empty_track();
     let train = no_train();
-    let tracks = [0u16; 12];
-    let segments = [segment; 11];
     let trains = [train; 12];
-    line_with(0, tracks, segments, 0, trains)
-}
-
-// A line that was not read.
-fn no_line(ending: Ending) -> LinePart
-    ensures { λ r. ⌜ r .ending ≡ ending ⌝ }
-{
-    let line = empty_line();
-    LinePart { ending, line }
-}
-
-// The three sections in their order, and nothing after the last.
-fn line_from(s: &[u8], start: Cursor) -> LinePart
-    requires { ⌜ Counted start ⌝ }
-    ensures { λ r. ⌜ toldEnding (r .ending) (r .line) ≡ lineAt (now (s .entry)) start ⌝ }
-{
-    let first = station_section(s, start);
-    let stations_end = first.ending;
-    let Ending::Done(after_stations) = stations_end else {
-        return no_line(stations_end);
-    };
-    let stations = first.count;
-    let second = segment_section(s, after_stations, stations);
-    let segments_end = second.ending;
-    let Ending::Done(after_segments) = segments_end else {
-        return no_line(segments_end);
-    };
-    let third = train_section(s, after_segments, stations);
-    let trains_end = third.ending;
-    let Ending::Done(last) = trains_end else {
-        return no_line(trains_end);
-    };
-    if last.at < s.len() {
-        return no_line(Ending::Refused(2, last.line));
-    }
-    let tracks = first.tracks;
-    let segments = second.segments;
-    let trains = third.trains;
-    let line = line_with(stations, tracks, segments, third.count, trains);
-    LinePart {
-        ending: Ending::Done(last),
-        line,
-    }
+    line_with(track, 0, trains)
 }
 
 // What reading gives where it ended so: this line; or a refusal and the empty one.
@@ -574,22 +522,75 @@ fn answer_for(ending: Ending, line: Line) -> ReadLine
     }
 }
 
-// The line file from a position on, which is on line 1, where the text is not too long.
-pub fn file_from(s: &[u8], at: usize) -> ReadLine
-    ensures { λ r. ⌜ r ≡ answered (fileFrom (now (s .entry)) at) ⌝ }
+// A track that was not read: the reader stays where it stood.
+fn no_track(ending: Ending, at: usize) -> TrackPart
+    ensures { λ r. ⌜ (r .ending ≡ ending) × (r .at ≡ at) ⌝ }
+{
+    let track = empty_track();
+    TrackPart { ending, at, track }
+}
+
+// The stations and segments from a position on, which is on line 1, where the text is not too long.
+pub fn track_from(s: &[u8], at: usize) -> TrackPart
+    ensures { λ r. ⌜ (toldEnding (r .ending) (r .track) ≡ trackFrom (now (s .entry)) at) × (r .at ≡ endOf at (trackFrom (now (s .entry)) at)) ⌝ }
 {
     if MAX_BYTES < s.len() {
-        return answer_for(Ending::Refused(1, 0), empty_line());
+        return no_track(Ending::Refused(1, 0), at);
     }
-    let part = line_from(s, Cursor { at, line: 1 });
-    let ending = part.ending;
-    let line = part.line;
-    answer_for(ending, line)
+    let first = station_section(s, Cursor { at, line: 1 });
+    let stations_end = first.ending;
+    let Ending::Done(after_stations) = stations_end else {
+        return no_track(stations_end, at);
+    };
+    let stations = first.count;
+    let second = segment_section(s, after_stations, stations);
+    let segments_end = second.ending;
+    let Ending::Done(next) = segments_end else {
+        return no_track(segments_end, at);
+    };
+    let tracks = first.tracks;
+    let segments = second.segments;
+    let track = track_with(stations, tracks, segments);
+    TrackPart {
+        ending: Ending::Done(next),
+        at: next.at,
+        track,
+    }
+}
+
+// This track completed to a line: the trains from a position on, and nothing after the last; or the first refusal.
+pub fn complete_from(s: &[u8], at: usize, part: TrackPart) -> ReadLine
+    requires { ⌜ CanComplete at (toldEnding (part .ending) (part .track)) ⌝ }
+    ensures { λ r. ⌜ r ≡ answered (completedFrom (now (s .entry)) at (toldEnding (part .ending) (part .track))) ⌝ }
+{
+    let empty = empty_line();
+    let track_end = part.ending;
+    let Ending::Done(after_track) = track_end else {
+        return answer_for(track_end, empty);
+    };
+    let track = part.track;
+    let start = Cursor {
+        at,
+        line: after_track.line,
+    };
+    let third = train_section(s, start, track.station_count);
+    let trains_end = third.ending;
+    let Ending::Done(last) = trains_end else {
+        return answer_for(trains_end, empty);
+    };
+    if last.at < s.len() {
+        return answer_for(Ending::Refused(2, last.line), empty);
+    }
+    let trains = third.trains;
+    let line = line_with(track, third.count, trains);
+    answer_for(Ending::Done(last), line)
 }
 
 // Reads a line file: its line, or the number and place of its first fault.
 pub fn read(file: &[u8]) -> ReadLine
     ensures { λ r. ⌜ r ≡ answered (lineFile (now (file .entry))) ⌝ }
 {
-    read_from(open(file))
+    let r = open(file);
+    let part = read_track(r);
+    complete(moved(r, part), part)
 }

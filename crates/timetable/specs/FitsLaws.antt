@@ -17,6 +17,7 @@ use Rattle.line.specs.Within.{Within}
 use Rattle.line.specs.RunnableLaws.{within-runnable}
 use Rattle.line.specs.Spell.{field}
 use Rattle.line.specs.LengthLaws.{field-length, each-length}
+use Rattle.line.specs.File.{afterField}
 use Rattle.rules.specs.Statement.Paths.{train, legs, EachTrain}
 use Rattle.rules.specs.Statement.Rules.{InDays}
 use Rattle.rules.specs.Check.Tests.{departureOf, arrivalOf}
@@ -25,7 +26,6 @@ use Rattle.rules.specs.Lists.Orders.{listCount, orderLists}
 use Rattle.rules.specs.Lists.OrdersLaws.{lists-few, lists-count, TrainsOnly, lists-trains}
 use Rattle.rules.specs.StatementLaws.PathsLaws.{legs-most}
 use Rattle.rules.specs.Check.RulesLaws.{cost-most}
-use Rattle.timetable.specs.Reading.{afterField}
 use Rattle.timetable.specs.Spell.{legsText, trainsText, minutesText, namesText, listText, restText, numbers, listNumbers, timetableText}
 use Rattle.timetable.specs.SpeltLaws.{DaysAt}
 use Rattle.timetable.specs.ReadsLaws.{ListWithin}

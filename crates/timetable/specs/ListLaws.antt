@@ -2,13 +2,12 @@
 use Prim.Native.Nat.{ℕ, _+_, _-_, _<_, _≤_}
 use mathlib.Core.Path.{_≡_, refl, sym, ap, _∙_}
 use mathlib.Core.Bool.{cond}
-use mathlib.Core.List.{List, [], _∷_, _++_, map, map-append}
-use native.Mathlib.Numerals.{add-one}
+use mathlib.Core.List.{List, [], _∷_, _++_}
 use native.Mathlib.Omega.{arith}
 use borrow.Author.Tests.{eq-eqb, ne-eqb}
 use lib.Dec.{eqb}
 use lib.ListN.{length, set, take}
-use lib.Seq.{take-suc-set}
+use Rattle.text.specs.Elements.PaddedLaws.{stored-more}
 use Rattle.text.specs.declared.Cursor.{Cursor}
 use Rattle.text.specs.declared.Number.{Number}
 use Rattle.text.specs.declared.Step.{Step}
@@ -19,7 +18,8 @@ use Rattle.text.specs.Reading.Numbers.{numberAt}
 use Rattle.text.specs.Reading.Limits.{boundedOf}
 use Rattle.text.specs.Reading.Parsed.{Parsed, many}
 use Rattle.text.specs.Reading.ParsedLaws.{bounded-within, ranged-spelt}
-use Rattle.timetable.specs.Reading.{afterField, ownCountAt, nameAt, listAt}
+use Rattle.line.specs.File.{afterField}
+use Rattle.timetable.specs.Reading.{ownCountAt, nameAt, listAt}
 use Rattle.timetable.specs.ReadingLaws.{after-byte}
 use Rattle.timetable.specs.Spell.{numbers}
 
@@ -79,10 +79,6 @@ own-within n s c v next e = number (numberAt 4 s c) e
     number Number.Malformed g = let z : _≡_ {A = ℕ} 0 1 = cc in absurd (omega arith)
 
 -- ---- the trains of a list
-
--- one more entry stored at the end of the first k
-pub stored-more : {A B : Type 0} (f : A → B) (at : List A) (k : ℕ) (x : A) → k < length at → map f (take (k + 1) (set at k x)) ≡ map f (take k at) ++ (f x ∷ [])
-stored-more f at k x h = rw add-one (ap (map f) (take-suc-set at k x h) ∙ map-append f (take k at) (x ∷ []))
 
 -- one more train, with the number x, stored by index
 pub number-more : (at : List ℕ) (k x : ℕ) → k < length at → 1 ≤ x → numbers (take (k + 1) (set at k (x - 1))) ≡ numbers (take k at) ++ (x ∷ [])

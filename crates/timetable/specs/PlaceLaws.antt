@@ -24,9 +24,10 @@ use Rattle.text.specs.Places.Lines.{LineAt, Counted, Stood, HoldsOn, AnyNumber,
 use Rattle.text.specs.Places.LinesLaws.{KeepsPassing, keeps-line, keeps-counted, line-first, stood-line, line-most, stands-got, stands-bad, stands-then, stands-test, past-keeps, number-keeps, field-keeps, stands-ranged, stands-many}
 use Rattle.line.specs.declared.Train.{Train}
 use Rattle.line.specs.declared.Line.{Line}
+use Rattle.line.specs.File.{afterField}
 use Rattle.rules.specs.Statement.Paths.{train, legs}
 use Rattle.rules.specs.Lists.Orders.{listCount}
-use Rattle.timetable.specs.Reading.{afterField, timeAt, countAt, withLeg, legsAt, trainsAt, minutesAt, ownCountAt, nameAt, listAt, totalAt, restAt, timetableFile}
+use Rattle.timetable.specs.Reading.{timeAt, countAt, withLeg, legsAt, trainsAt, minutesAt, ownCountAt, nameAt, listAt, totalAt, restAt, timetableFile}
 use Rattle.timetable.specs.RestLaws.{file-short, file-long}
 
 -- Q holds of the numbers by which a part of the timetable's text can be refused

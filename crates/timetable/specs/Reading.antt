@@ -13,14 +13,10 @@ use Rattle.text.specs.Reading.Limits.{boundedOf}
 use Rattle.text.specs.Reading.Parsed.{Parsed, thenRead, many, lines, rangedAt}
 use Rattle.line.specs.declared.Train.{Train}
 use Rattle.line.specs.declared.Line.{Line}
+use Rattle.line.specs.File.{afterField}
 use Rattle.rules.specs.Statement.Paths.{train, legs, segmentOf}
 use Rattle.rules.specs.Statement.Minutes.{departs, arrives}
 use Rattle.rules.specs.Lists.Orders.{listCount}
-
--- the byte after a field with k more on its line
-abbrev pub afterField : ℕ → ℕ
-afterField zero = 10
-afterField (suc k) = 32
 
 -- "a time over 2,879" is 9
 abbrev pub timeAt : ℕ → List ℕ → Cursor → Parsed ℕ
@@ -53,7 +49,8 @@ trainsAt (suc k) l i m s c = thenRead (legsAt (legs l i) (train l i) i 0 m s c) 
 unfoldable pub minutesAt : Line → List ℕ → Cursor → Parsed (List ℕ)
 minutesAt l s c = thenRead (countAt (l .traffic .«train_count») s c) (λ n c₁. trainsAt n l 0 (replicate 352 0) s c₁)
 
--- ---- "Then the count of order lists, one for S or F and two for D, by segment; each line has the number of trains in it and then their numbers"
+-- ---- "Then the count of order lists, one for S or F and two for D (outbound, then inbound), by segment; each line has the number of trains in it and
+-- then their numbers by departure minute"
 
 -- a list's own count: a line feed after 0, a space after any other; "over the trains" is 9
 unfoldable pub ownCountAt : ℕ → List ℕ → Cursor → Parsed ℕ

@@ -9,8 +9,9 @@ use Rattle.text.specs.Reading.Parsed.{Parsed}
 use Rattle.text.specs.Reading.ParsedLaws.{ranged-spelt}
 use Rattle.line.specs.declared.Train.{Train}
 use Rattle.line.specs.declared.Line.{Line}
+use Rattle.line.specs.File.{afterField}
 use Rattle.rules.specs.Statement.Paths.{train, legs, segmentOf}
-use Rattle.timetable.specs.Reading.{afterField, timeAt, countAt, legsAt, trainsAt, minutesAt}
+use Rattle.timetable.specs.Reading.{timeAt, countAt, legsAt, trainsAt, minutesAt}
 
 pub after-byte : (k : ℕ) → afterField k < 256
 after-byte zero = omega arith

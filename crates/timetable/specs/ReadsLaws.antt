@@ -25,6 +25,7 @@ use Rattle.line.specs.Record.{legsOf}
 use Rattle.line.specs.Within.{Within}
 use Rattle.line.specs.RunnableLaws.{within-runnable}
 use Rattle.line.specs.Spell.{field}
+use Rattle.line.specs.File.{afterField}
 use Rattle.rules.specs.Statement.Paths.{train, legs, segmentOf, Routed, EachTrain, EachLeg}
 use Rattle.rules.specs.Statement.Minutes.{departs, arrives, departure, arrival}
 use Rattle.rules.specs.Check.Tests.{departureOf, arrivalOf}
@@ -33,7 +34,7 @@ use Rattle.rules.specs.Statement.Delay.{Same}
 use Rattle.rules.specs.Lists.Orders.{listCount}
 use Rattle.rules.specs.Lists.OrdersLaws.{lists-few}
 use Rattle.rules.specs.StatementLaws.PathsLaws.{routed-leg}
-use Rattle.timetable.specs.Reading.{afterField, withLeg, legsAt, trainsAt, minutesAt, ownCountAt, nameAt, listAt, totalAt, restAt, timetableFile}
+use Rattle.timetable.specs.Reading.{withLeg, legsAt, trainsAt, minutesAt, ownCountAt, nameAt, listAt, totalAt, restAt, timetableFile}
 use Rattle.timetable.specs.ReadingLaws.{legs-step, trains-step, minutes-counted}
 use Rattle.timetable.specs.ListLaws.{own-value}
 use Rattle.timetable.specs.Spell.{legsText, trainsText, minutesText, namesText, listText, restText}

@@ -8,11 +8,11 @@ use Rattle.text.specs.Elements.EachThen.{eachThen}
 use Rattle.line.specs.declared.Train.{Train}
 use Rattle.line.specs.declared.Line.{Line}
 use Rattle.line.specs.Spell.{field}
+use Rattle.line.specs.File.{afterField}
 use Rattle.rules.specs.Statement.Paths.{train, legs}
 use Rattle.rules.specs.Check.Tests.{departureOf, arrivalOf}
 use Rattle.rules.specs.Statement.Delay.{weightedDelay}
 use Rattle.rules.specs.Lists.Orders.{listCount, orderLists}
-use Rattle.timetable.specs.Reading.{afterField}
 
 -- ---- "Train count, then a line for each train: departure and arrival for each segment in travel order"
 
@@ -30,7 +30,8 @@ trainsText (suc k) l m i rest = legsText (legs l i) (train l i) m i 0 (trainsTex
 unfoldable pub minutesText : Line → List ℕ → List ℕ → List ℕ
 minutesText l m rest = field (l .traffic .«train_count») 10 (trainsText (l .traffic .«train_count») l m 0 rest)
 
--- ---- "Then the count of order lists; each line has the number of trains in it and then their numbers. Last, the total weighted delay."
+-- ---- "Then the count of order lists ..; each line has the number of trains in it and then their numbers by departure minute. Last, the total
+-- weighted delay."
 
 -- the numbers of the trains of a list, a line feed after the last
 unfoldable pub namesText : List ℕ → List ℕ → List ℕ

@@ -31,13 +31,14 @@ use Rattle.line.specs.Record.{legsOf}
 use Rattle.line.specs.Within.{Within}
 use Rattle.line.specs.RunnableLaws.{within-runnable}
 use Rattle.line.specs.Spell.{field}
+use Rattle.line.specs.File.{afterField}
 use Rattle.rules.specs.Statement.Paths.{train, legs, segmentOf, Routed, EachTrain}
 use Rattle.rules.specs.Statement.Minutes.{departs, arrives}
 use Rattle.rules.specs.Check.Tests.{departureOf, arrivalOf}
 use Rattle.rules.specs.Statement.Rules.{InDays}
 use Rattle.rules.specs.Lists.Orders.{listCount}
 use Rattle.rules.specs.StatementLaws.PathsLaws.{routed-leg}
-use Rattle.timetable.specs.Reading.{afterField, timeAt, countAt, withLeg, legsAt, trainsAt, minutesAt, ownCountAt, nameAt, listAt, totalAt, Rest, restAt, Timetable, timetableFile}
+use Rattle.timetable.specs.Reading.{timeAt, countAt, withLeg, legsAt, trainsAt, minutesAt, ownCountAt, nameAt, listAt, totalAt, Rest, restAt, Timetable, timetableFile}
 use Rattle.timetable.specs.ReadingLaws.{after-byte, count-is, minutes-counted}
 use Rattle.timetable.specs.ListLaws.{own-malformed, own-unended, own-over, own-value}
 use Rattle.timetable.specs.Spell.{legsText, trainsText, minutesText, namesText, listText, restText}

@@ -12,11 +12,12 @@ use Rattle.text.specs.Reading.ParsedLaws.{then-got, got-is}
 use Rattle.line.specs.declared.Train.{Train}
 use Rattle.line.specs.declared.Line.{Line}
 use Rattle.line.specs.Record.{legsOf}
+use Rattle.line.specs.File.{afterField}
 use Rattle.rules.specs.Statement.Paths.{train, legs, segmentOf, Routed}
 use Rattle.rules.specs.Statement.Minutes.{departs, arrives}
 use Rattle.rules.specs.Check.Tests.{departureOf, arrivalOf}
 use Rattle.rules.specs.StatementLaws.PathsLaws.{segment-below, segment-apart}
-use Rattle.timetable.specs.Reading.{afterField, timeAt, withLeg, legsAt, trainsAt}
+use Rattle.timetable.specs.Reading.{timeAt, withLeg, legsAt, trainsAt}
 
 -- ---- the legs of a train, which is train i
 

@@ -30,13 +30,13 @@ use Rattle.line.specs.Record.{legsOf}
 use Rattle.line.specs.Spell.{field}
 use Rattle.line.specs.Writing.{faultOf}
 use Rattle.line.specs.SpellLaws.{each-then}
+use Rattle.line.specs.File.{afterField}
 use Rattle.rules.specs.Statement.Paths.{train, legs, EachTrain}
 use Rattle.rules.specs.Check.Tests.{departureOf, arrivalOf}
 use Rattle.rules.specs.Statement.Rules.{InDays}
 use Rattle.rules.specs.Statement.Delay.{weightedDelay}
 use Rattle.rules.specs.declared.orders.OrderList.{OrderList}
 use Rattle.rules.specs.Lists.Orders.{listCount, listed}
-use Rattle.timetable.specs.Reading.{afterField}
 use Rattle.timetable.specs.Spell.{legsText, trainsText, minutesText, namesText, listText, restText, numbers, listNumbers, timetableText}
 use Rattle.timetable.specs.Writing.{timesRight, onLine, minutesFault, minutesSpelling, spelling}
 use Rattle.timetable.specs.CheckLoopLaws.{number-at}

@@ -9,13 +9,14 @@ ghost use Rattle.text.specs.Reading.Told.{toldField, toldEnding};
 ghost use Rattle.line.specs.Record.{legsOf};
 ghost use Rattle.line.specs.Within.{Within};
 ghost use Rattle.rules.specs.Statement.Paths.{Routed};
-ghost use Rattle.timetable.specs.Reading.{afterField, legsAt, trainsAt, minutesAt, ownCountAt, listAt, restAt, timetableFile};
+ghost use Rattle.timetable.specs.Reading.{legsAt, trainsAt, minutesAt, ownCountAt, listAt, restAt, timetableFile};
 ghost use Rattle.timetable.specs.Told.{named, blank, Blank, restOf, timetableOf};
 use line::Line;
 use line::MAX_BYTES;
 use line::Time;
 use line::Train;
 use line::legs_between;
+use line::reading::after_field;
 use rules::orders::OrderList;
 use rules::orders::list_count;
 use rules::orders::no_list;
@@ -68,13 +69,6 @@ pub struct TimetablePart {
 
 // The numbers of a timetable's refusals.
 const FAULTS: Faults = Faults { form: 8, range: 9 };
-
-// The byte after a field with `left` more on its line.
-pub fn after_field(left: usize) -> u8
-    ensures { λ r. ⌜ r ≡ afterField left ⌝ }
-{
-    if left == 0 { LINE_FEED } else { SPACE }
-}
 
 // The line of a train, which is train i: departure and arrival for each leg.
 fn train_line(s: &[u8], start: Cursor, train: Train, i: usize, minutes: [u16; 352]) -> MinutesPart

@@ -6,6 +6,7 @@ use native.Mathlib.Omega.{arith}
 use native.Mathlib.Nat.{sub-zero}
 use borrow.Author.Needs.{needs}
 use lib.ListN.{length, take, length-set}
+use Rattle.text.specs.Elements.PaddedLaws.{stored-more}
 use Rattle.text.specs.Reading.Parsed.{Parsed, lines}
 use Rattle.text.specs.Places.Lines.{Counted, AnyNumber}
 use Rattle.text.specs.Places.LinesLaws.{keeps-counted}
@@ -13,7 +14,6 @@ use Rattle.line.specs.PlaceLaws.{part-counted}
 use Rattle.line.specs.FileLaws.{ended-told}
 use Rattle.timetable.specs.Reading.{listAt}
 use Rattle.timetable.specs.Told.{named}
-use Rattle.timetable.specs.ListLaws.{stored-more}
 use Rattle.timetable.specs.PlaceLaws.{any-timetable-number, stands-list}
 use Rattle.timetable.specs.RestLaws.{after, after-none, after-done, after-step, after-stop}
 use Rattle.timetable.proofs.reading.list_lines.Statement.{statement}

@@ -11,7 +11,8 @@ use Rattle.text.specs.Places.LinesLaws.{field-counted}
 use Rattle.text.specs.Reading.ToldLaws.{ranged-told}
 use Rattle.line.specs.Record.{legsOf}
 use Rattle.line.specs.FileLaws.{ended-told}
-use Rattle.timetable.specs.Reading.{afterField, legsAt}
+use Rattle.line.specs.File.{afterField}
+use Rattle.timetable.specs.Reading.{legsAt}
 use Rattle.timetable.specs.ReadingLaws.{legs-done, legs-no-departure, legs-no-arrival, legs-step}
 use borrow.Author.Needs.{needs}
 use Rattle.timetable.proofs.reading.train_line.Statement.{statement}

@@ -1,10 +1,10 @@
--- `timetable::reading::after_field` meets its contract: a number that is not 0 has one before it. Assumes nothing.
+-- `line::reading::after_field` meets its contract: a number that is not 0 has one before it. Assumes nothing.
 use Prim.Native.Nat.{ℕ, zero, suc}
 use mathlib.Core.Path.{_≡_, refl}
-use Rattle.timetable.specs.Reading.{afterField}
+use Rattle.line.specs.File.{afterField}
 use borrow.Author.Needs.{needs}
-use Rattle.timetable.proofs.reading.after_field.Statement.{statement}
-use Rattle.timetable.proofs.reading.after_field.Tie as tie
+use Rattle.line.proofs.reading.after_field.Statement.{statement}
+use Rattle.line.proofs.reading.after_field.Tie as tie
 
 -- with more on its line, a space
 more : (k : ℕ) → (k ≡ 0 → ⊥) → 32 ≡ afterField k

@@ -1,5 +1,5 @@
--- `line::reader::read_from` meets its contract: a walk of its MIR, by hand. The reader is taken apart, and `file_from` is called on the lent bytes
--- and the position. All that the proof knows of `file_from` is that it meets its contract.
+-- `line::reader::read_track` meets its contract: a walk of its MIR, by hand. The reader is taken apart, and `track_from` is called on the lent bytes
+-- and the position. All that the proof knows of `track_from` is that it meets its contract.
 -- The struct is Copy: what it owns is had twice. One copy is kept whole for the exit, and of the other what src owns goes to the callee, beside the
 -- lifetime's token, which comes back. Assumes nothing.
 use mathlib.Core.Path.{_≡_, refl}
@@ -45,21 +45,22 @@ use denote.Triple.Table.{entered, cited}
 use denote.Triple.Walked.{says, Stays, stay-none, walkOf, goes-none, Walks, ends-at, walked, walk-meets}
 use denote.Exit.{yes}
 use denote.Triple.Clauses.{ensured, lasts}
-use Rattle.line.specs.File.{fileFrom, answered}
+use Rattle.text.specs.Reading.Told.{toldEnding}
+use Rattle.line.specs.Parts.{trackFrom, endOf}
 use Rattle.line.specs.declared.reader.Reader.{Reader}
-use Rattle.line.specs.declared.ReadLine.{ReadLine}
+use Rattle.line.specs.declared.reading.TrackPart.{TrackPart}
 use Rattle.line.proofs.reader.Reader as T
 use Rattle.line.proofs.reader.Reader.Laws as T′
-use Rattle.line.proofs.ReadLine as R
-use Rattle.line.proofs.ReadLine.Laws as R′
-use Rattle.line.proofs.reading.file_from as file
-use Rattle.line.proofs.reading.file_from.Symbol as file-def
-use Rattle.line.proofs.reading.file_from.Symbol.{name as #file-from}
-use Rattle.line.proofs.reading.file_from.Met as file-thm
-use Rattle.line.proofs.reader.read_from.Key.{name as #read-from}
-use Rattle.line.proofs.reader.read_from as reads
-use Rattle.line.proofs.reader.read_from.Statement as stated
-use Rattle.line.proofs.reader.read_from.Code as code
+use Rattle.line.proofs.reading.TrackPart as R
+use Rattle.line.proofs.reading.TrackPart.Laws as R′
+use Rattle.line.proofs.reading.track_from as track
+use Rattle.line.proofs.reading.track_from.Symbol as track-def
+use Rattle.line.proofs.reading.track_from.Symbol.{name as #track-from}
+use Rattle.line.proofs.reading.track_from.Met as track-thm
+use Rattle.line.proofs.reader.read_track.Key.{name as #read-track}
+use Rattle.line.proofs.reader.read_track as reads
+use Rattle.line.proofs.reader.read_track.Statement as stated
+use Rattle.line.proofs.reader.read_track.Code as code
 
 -- the struct's type and laws, over the signature's lifetimes
 abbrev D : Lfts 1 → Declared
@@ -76,8 +77,8 @@ stayed = (stay-none B yes, tt)
 
 module _ {M : Type 1} (𝓤 : URA M) (H : Heap 𝓤) (A : Atoms 𝓤) (mem : Memory → SProp 𝓤) (run : Routine → Fun 𝓤) where
   -- the contract that the proof cites
-  abbrev FileFrom : Contract 𝓤
-  FileFrom = tripleOf 𝓤 H A file.signature (file.spec 𝓤 H A mem run)
+  abbrev TrackFrom : Contract 𝓤
+  TrackFrom = tripleOf 𝓤 H A track.signature (track.spec 𝓤 H A mem run)
 
 module _ {M : Type 1} (𝓤 : URA M) (H : Heap 𝓤) (A : Atoms 𝓤) (W : Given 𝓤 H A) (mem : Memory → SProp 𝓤) (run : Routine → Fun 𝓤) where
   module _ (κ : Lft) (q : Share) (d : Reader) where
@@ -88,8 +89,10 @@ module _ {M : Type 1} (𝓤 : URA M) (H : Heap 𝓤) (A : Atoms 𝓤) (W : Given
     abbrev v : Val
     v = sliceVal (d .src .ptr) (length (d .src .now))
 
-    abbrev read : ReadLine
-    read = answered (fileFrom (now (d .src)) (d .at))
+    -- what the contract says of the result
+    abbrev Says : TrackPart → Type 0
+    Says p =
+        (toldEnding (p .ending) (p .track) ≡ trackFrom (now (d .src)) (d .at)) × (p .at ≡ endOf (d .at) (trackFrom (now (d .src)) (d .at)))
 
     abbrev Post : Val → SProp 𝓤
     Post = walkOf 𝓤 H A reads.ended stayed (reads.clauses 𝓤 H A mem run) .post (((κ, tt), (q, tt), tt, (d, tt), (mach ∷ [], tt)), tt)
@@ -102,20 +105,20 @@ module _ {M : Type 1} (𝓤 : URA M) (H : Heap 𝓤) (A : Atoms 𝓤) (W : Given
     vd = (d .src, (d .at, tt))
 
     -- what the callee is passed
-    abbrev passed : Vals file.signature (κ, tt)
+    abbrev passed : Vals track.signature (κ, tt)
     passed = (v ∷ [], (vint w64 (d .at) ∷ [], tt))
 
-    abbrev to : FileFrom 𝓤 H A mem run .Ghost
+    abbrev to : TrackFrom 𝓤 H A mem run .Ghost
     to = (((κ, tt), (q, tt), tt, (d .src, (d .at, tt)), passed), tt)
 
-    asked : ent 𝓤 (onEntry 𝓤 H A file.signature (κ, tt) (q, tt) (d .src, (d .at, tt)) passed) (FileFrom 𝓤 H A mem run .pre to)
+    asked : ent 𝓤 (onEntry 𝓤 H A track.signature (κ, tt) (q, tt) (d .src, (d .at, tt)) passed) (TrackFrom 𝓤 H A mem run .pre to)
     asked =
         qed W ((‵ (flft κ q) ⊛ ‵ ftrue) ∷ ‵ (owns (ShrSlice (named 0) κ u8 ∷ usize ∷ []) (d .src, (d .at, tt)) passed) ∷ []) ∵
         join ! $ frame ! $ done !
 
     -- what the struct owns gives what the callee asks, and is kept
     apart : d .at < 2 ^ 64 → ent 𝓤 (onEntry 𝓤 H A reads.signature (κ, tt) (q, tt) (d, tt) (mach ∷ [], tt))
-        (sep 𝓤 (FileFrom 𝓤 H A mem run .pre to) (sem 𝓤 H A Own))
+        (sep 𝓤 (TrackFrom 𝓤 H A mem run .pre to) (sem 𝓤 H A Own))
     apart fits =
         qed W ((‵ (flft κ q) ⊛ ‵ ftrue) ∷ ‵ (owns (B (κ, tt) ∷ []) (d, tt) (mach ∷ [], tt)) ∷ []) ∵
         move ! (1 ∷ []) $ fsplit ! $ move ! (1 ∷ []) $ drop ! $
@@ -125,16 +128,16 @@ module _ {M : Type 1} (𝓤 : URA M) (H : Heap 𝓤) (A : Atoms 𝓤) (W : Given
         (own-out 𝓤 H A W (D (κ, tt) .parts) (L (κ, tt)) 0 vd) $ split ! $
         -- [what src owns; what at owns; what the struct owns; the token]
         move ! (1 ∷ []) $ drop ! $ nothing ! $ owned ! usize (Is usize) (uint-makes 𝓤 H A W w64) (d .at) _ (refl, fits) $ fjoin ! $
-        move ! (1 ∷ 0 ∷ []) $ fjoin ! $ move ! (2 ∷ 0 ∷ []) $ use2 W (raw (FileFrom 𝓤 H A mem run .pre to)) asked $ frame ! $ done !)
+        move ! (1 ∷ 0 ∷ []) $ fjoin ! $ move ! (2 ∷ 0 ∷ []) $ use2 W (raw (TrackFrom 𝓤 H A mem run .pre to)) asked $ frame ! $ done !)
 
     -- what is known of the callee's result: it has no `&mut`, so what is said of last values is dropped
-    abbrev Ensured : ReadLine → SProp 𝓤
-    Ensured r = ensured 𝓤 H A file.ended (file.clauses 𝓤 H A mem run) (κ, tt) (d .src, (d .at, tt)) tt r
+    abbrev Ensured : TrackPart → SProp 𝓤
+    Ensured r = ensured 𝓤 H A track.ended (track.clauses 𝓤 H A mem run) (κ, tt) (d .src, (d .at, tt)) tt r
 
-    said : (r : ReadLine) → ent 𝓤 (Ensured r) (fact 𝓤 (r ≡ read))
-    said r = exE 𝓤 _ (λ ws. snd∗ 𝓤 (sem 𝓤 H A (lasts file.ended (κ, tt) (d .src, (d .at, tt)) ws)) (fact 𝓤 (r ≡ read)))
+    said : (r : TrackPart) → ent 𝓤 (Ensured r) (fact 𝓤 (Says r))
+    said r = exE 𝓤 _ (λ ws. snd∗ 𝓤 (sem 𝓤 H A (lasts track.ended (κ, tt) (d .src, (d .at, tt)) ws)) (fact 𝓤 (Says r)))
 
-    exits : (r : ReadLine) (u : Val) → r ≡ read → ent 𝓤 (⋆ 𝓤 H A (‵ (R.the-row .own r (u ∷ [])) ∷ (‵ (flft κ q) ⊛ ‵ ftrue) ∷ ‵ Own ∷ [])) (Post u)
+    exits : (r : TrackPart) (u : Val) → Says r → ent 𝓤 (⋆ 𝓤 H A (‵ (R.the-row .own r (u ∷ [])) ∷ (‵ (flft κ q) ⊛ ‵ ftrue) ∷ ‵ Own ∷ [])) (Post u)
     exits r u e =
         qed W (‵ (R.the-row .own r (u ∷ [])) ∷ (‵ (flft κ q) ⊛ ‵ ftrue) ∷ ‵ Own ∷ []) ∵
         suffices ! _
@@ -142,7 +145,7 @@ module _ {M : Type 1} (𝓤 : URA M) (H : Heap 𝓤) (A : Atoms 𝓤) (W : Given
         (tt, tt) (tt, tt)) $ says ! e $
         move ! (1 ∷ []) $ frame ! $ nothing ! $ move ! (2 ∷ 0 ∷ []) $ fjoin ! $ frame ! $ done !
 
-    module _ (C : Calls 𝓤 H) (Λ : Loops 𝓤 H) (fm : FmC 𝓤 H (W .laws) C) (known : Triple 𝓤 (C #file-from) (FileFrom 𝓤 H A mem run)) where
+    module _ (C : Calls 𝓤 H) (Λ : Loops 𝓤 H) (fm : FmC 𝓤 H (W .laws) C) (known : Triple 𝓤 (C #track-from) (TrackFrom 𝓤 H A mem run)) where
       walk : Holds (hasTy (T′.mir (named 0)) mach) × WT mach → ent 𝓤 (onEntry 𝓤 H A reads.signature (κ, tt) (q, tt) (d, tt) (mach ∷ [], tt))
           (WpFn 𝓤 H C Λ code.function (mach ∷ []) Post)
       walk wt =
@@ -152,12 +155,12 @@ module _ {M : Type 1} (𝓤 : URA M) (H : Heap 𝓤) (A : Atoms 𝓤) (W : Given
           (init ! 2 refl (tt, wt .1 .0)) $
           assigns ! (of-opd ! (load ! (from ! (fld ! refl (stop !))) (look-in ! 4 (sub ! 1 refl (whole !))))) (from ! (stop !))
           (init ! 0 refl (tt, wt .1 .1 .0)) $
-          move ! (8 ∷ []) $ use1 W (raw (FileFrom 𝓤 H A mem run .pre to) ⊛ ‵ Own) (apart (wt .1 .1 .0 .fits)) $ split ! $
-          calls-at ! fm (FileFrom 𝓤 H A mem run) known to
+          move ! (8 ∷ []) $ use1 W (raw (TrackFrom 𝓤 H A mem run .pre to) ⊛ ‵ Own) (apart (wt .1 .1 .0 .fits)) $ split ! $
+          calls-at ! fm (TrackFrom 𝓤 H A mem run) known to
           (and-then ! (load ! (from ! (stop !)) (look ! 4 refl)) (and-then ! (load ! (from ! (stop !)) (look ! 2 refl)) (no-more !))) (λ u.
-          use1 W (later (some (λ (r : ReadLine). ((‵ (flft κ q) ⊛ ‵ ftrue) ⊛ ‵ (R.the-row .own r (u ∷ []))) ⊛ raw (Ensured r)))) (id⊢ 𝓤 _) $
+          use1 W (later (some (λ (r : TrackPart). ((‵ (flft κ q) ⊛ ‵ ftrue) ⊛ ‵ (R.the-row .own r (u ∷ []))) ⊛ raw (Ensured r)))) (id⊢ 𝓤 _) $
           await ! tt $ pick ! (λ r. split ! $ move ! (1 ∷ []) $
-          use1 W (raw (fact 𝓤 (r ≡ read))) (said r) $ heard ! (r ≡ read) (λ e. split ! $ move ! (1 ∷ []) $
+          use1 W (raw (fact 𝓤 (Says r))) (said r) $ heard ! (Says r) (λ e. split ! $ move ! (1 ∷ []) $
           -- [the result; the token; what the struct owns; _3; …; _2; …; _1; …; room for _0; …]
           peeks ! R.the-row (Is R.the-row) (shows 𝓤 H A R.the-row) r (u ∷ []) (λ is.
           land ! (from ! (stop !)) (init ! 9 refl (LL.lawful R.the-type R′.the-laws 𝓤 H A W .typed r _ is .0)) $
@@ -165,26 +168,26 @@ module _ {M : Type 1} (𝓤 : URA M) (H : Heap 𝓤) (A : Atoms 𝓤) (W : Given
           move ! (9 ∷ 10 ∷ []) $ free1 ! $ move ! (7 ∷ 8 ∷ []) $ free1 ! $ move ! (5 ∷ 6 ∷ []) $ free1 ! $ move ! (3 ∷ 4 ∷ []) $ free1 ! $ free0 ! $
           by ! (exits r u e)))))))))
 
-  read-from-walks : (C : Calls 𝓤 H) (Λ : Loops 𝓤 H) → FmC 𝓤 H (W .laws) C → Triple 𝓤 (C #file-from) (FileFrom 𝓤 H A mem run)
+  read-track-walks : (C : Calls 𝓤 H) (Λ : Loops 𝓤 H) → FmC 𝓤 H (W .laws) C → Triple 𝓤 (C #track-from) (TrackFrom 𝓤 H A mem run)
       → Walks 𝓤 H A reads.ended stayed (WpFn 𝓤 H C Λ code.function) (reads.clauses 𝓤 H A mem run)
-  read-from-walks C Λ fm known =
+  read-track-walks C Λ fm known =
       walked 𝓤 H A reads.ended stayed (reads.clauses 𝓤 H A mem run) (WpFn 𝓤 H C Λ code.function)
       (λ κs. (LL.vals (D κs) (L κs), tt)) (λ κs. (LL.tells (D κs) (L κs), tt))
       (λ κs qs bounds a g are. via 𝓤 _ (fst∗ 𝓤 _ (emp 𝓤))
       (walk (κs .0) (qs .0) (a .0) C Λ fm known (LL.lawful (D κs) (L κs) 𝓤 H A W .typed (a .0) _ (are .0) .0)))
 
-  read-from-meets : (𝓣 : Tables 𝓤 H) → Triple 𝓤 (𝓣 .C #file-from) (FileFrom 𝓤 H A mem run)
+  read-track-meets : (𝓣 : Tables 𝓤 H) → Triple 𝓤 (𝓣 .C #track-from) (TrackFrom 𝓤 H A mem run)
       → Meets 𝓤 H A reads.signature (WpFn 𝓤 H (𝓣 .C) (𝓣 .Λ) code.function) (reads.spec 𝓤 H A mem run)
-  read-from-meets 𝓣 known =
+  read-track-meets 𝓣 known =
       walk-meets 𝓤 H A reads.ended stayed W (goes-none 𝓤 H A W 1 B yes (λ κs x f. refl), tt) (reads.clauses 𝓤 H A mem run)
       (WpFn 𝓤 H (𝓣 .C) (𝓣 .Λ) code.function) (WpFn-mono 𝓤 H (W .laws) 𝓣 code.function)
-      (read-from-walks (𝓣 .C) (𝓣 .Λ) (fmOf 𝓤 H (W .laws) 𝓣) known)
+      (read-track-walks (𝓣 .C) (𝓣 .Λ) (fmOf 𝓤 H (W .laws) 𝓣) known)
 
-pub read-from-spec : {M : Type 1} → stated.statement M
+pub read-track-spec : {M : Type 1} → stated.statement M
 unfolding code.routine tablesOf
-read-from-spec 𝓤 H 𝓜 𝓖 𝓡 =
+read-track-spec 𝓤 H 𝓜 𝓖 𝓡 =
     entered 𝓤 H (tripleOf 𝓤 H (𝓖 .A) reads.signature (reads.spec 𝓤 H (𝓖 .A) (𝓜 .mem) (𝓡 .run)))
-    (tables 𝓤 H 𝓜 𝓡 code.env .C) (tables 𝓤 H 𝓜 𝓡 code.env .Λ) #read-from code.function (code.unfolded 𝓤 H 𝓜 𝓡)
-    (read-from-meets 𝓤 H (𝓖 .A) (givenOf 𝓤 H 𝓜 𝓖) (𝓜 .mem) (𝓡 .run) (tablesOf 𝓤 H 𝓜 (tables 𝓤 H 𝓜 𝓡 code.env))
-    (cited 𝓤 H (FileFrom 𝓤 H (𝓖 .A) (𝓜 .mem) (𝓡 .run)) 𝓜 𝓡 code.env #file-from file-def.routine code.calls-line·reading·file-from
-    (file-thm.met 𝓤 H 𝓜 𝓖 𝓡)))
+    (tables 𝓤 H 𝓜 𝓡 code.env .C) (tables 𝓤 H 𝓜 𝓡 code.env .Λ) #read-track code.function (code.unfolded 𝓤 H 𝓜 𝓡)
+    (read-track-meets 𝓤 H (𝓖 .A) (givenOf 𝓤 H 𝓜 𝓖) (𝓜 .mem) (𝓡 .run) (tablesOf 𝓤 H 𝓜 (tables 𝓤 H 𝓜 𝓡 code.env))
+    (cited 𝓤 H (TrackFrom 𝓤 H (𝓖 .A) (𝓜 .mem) (𝓡 .run)) 𝓜 𝓡 code.env #track-from track-def.routine code.calls-line·reading·track-from
+    (track-thm.met 𝓤 H 𝓜 𝓖 𝓡)))
