@@ -1,5 +1,5 @@
 -- The contracts of the code that both searches use: the key by which minutes are compared (`Keys`), the best so far (`Tallies`), a way out as the code has it
--- (`WaysTold`), raising for a choice (`Choosing`), each with its laws.
+-- (`WaysTold`), raising for a choice (`Choosing`), what a search found (`FoundBest`), each with its laws.
 pub mod Keys
 pub mod Tallies
 pub mod KeysLaws

@@ -1,4 +1,5 @@
--- The check of rules: each rule as a test (`Tests`), the first breach (`Breaches`), and that there is none exactly when the timetable is lawful (`ExactLaws`).
+-- The check of rules: each rule as a test (`Tests`), the first breach (`Breaches`), that there is none exactly when the
+-- timetable is lawful (`ExactLaws`), and that it is the first rule that is broken (`FirstBrokenLaws`).
 pub mod Tests
 pub mod Breaches
 pub mod RulesLaws

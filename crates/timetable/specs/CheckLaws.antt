@@ -1,12 +1,12 @@
 -- What the answers of the check mean: no breach of lists and total says that they are those of the minutes, and no breach at all that the rules are kept
 -- too; and each of these the other way.
-use Prim.Native.Nat.{ℕ, zero, suc, _+_, _<_}
+use Prim.Native.Nat.{ℕ, _+_}
 use mathlib.Core.Path.{_≡_, refl, sym, _∙_, ap}
 use mathlib.Core.Bool.{Bool, true, false, cond, not}
 use mathlib.Core.Option.{Option, some, none}
-use mathlib.Core.List.{List, [], _∷_, map}
+use mathlib.Core.List.{List, [], map}
 use native.Mathlib.Omega.{arith}
-use lib.ListN.{length, getD, length-map, List·getD-map}
+use lib.ListN.{length, length-map, List·getD-map}
 use lib.Seq.{ext-getD}
 use lib.Dec.{eqb}
 use borrow.Author.Tests.{not-false}
@@ -27,7 +27,7 @@ use Rattle.timetable.specs.Check.{sameList, atList, listsBreach, totalBr
 
 -- ---- lists
 
-decides-list : (xs is : List ℕ) → Decides (xs ≡ numbers is) (sameList xs is)
+pub decides-list : (xs is : List ℕ) → Decides (xs ≡ numbers is) (sameList xs is)
 unfolding sameList
 decides-list xs is =
     decides-as

@@ -19,3 +19,4 @@ pub mod WritingLaws
 pub mod FaultPlaceLaws
 pub mod ExactCheckLaws
 pub mod RefusalLaws
+pub mod RefusedForLaws

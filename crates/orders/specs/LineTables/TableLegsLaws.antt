@@ -12,13 +12,13 @@ use Rattle.finite.specs.BelowLaws.{table-at, table-size}
 use Rattle.line.specs.declared.Train.{Train}
 use Rattle.line.specs.declared.Line.{Line}
 use Rattle.line.specs.Ranges.{In, run}
-use Rattle.line.specs.Record.{noSegment, legsBetween, legsOf}
-use Rattle.line.specs.Within.{SegmentWithin, TrainArrays, Arrays}
+use Rattle.line.specs.Record.{legsBetween, legsOf}
+use Rattle.line.specs.Within.{TrainArrays, Arrays}
 use Rattle.line.specs.Runnable.{heldStop, Runnable}
 use Rattle.rules.specs.Statement.Paths.{pastTrain, train, segmentCount, segment, legs, runOf, stopOf, segmentOf, Routed}
 use Rattle.rules.specs.Statement.Minutes.{departs}
 use Rattle.rules.specs.Statement.Delay.{freeArrival}
-use Rattle.rules.specs.StatementLaws.PathsLaws.{train-runnable, routed, legs-few, segment-out, segment-in, uses-leg, leg-uses}
+use Rattle.rules.specs.StatementLaws.PathsLaws.{segment-within, train-runnable, routed, legs-few, segment-out, segment-in, uses-leg, leg-uses}
 use Rattle.orders.specs.Graph.LegsLaws.{Leg, leg-test, train-leg}
 use Rattle.orders.specs.LineTables.Tables.{legTable, tableSize, runIn, stopIn, nextIn, limitIn, weightIn, freeIn, restIn, lastIn, sharedIn, followingIn, opposingIn, legOn, isLast, restAfter, limitOf, legValue, noLegValue, shares, segmentValue, onLeg, legEntry, segmentEntry, tablesOf}
 use Rattle.orders.specs.LineTables.TablesLaws.{no-segment-is, segments-first, legs-later}
@@ -114,9 +114,6 @@ module _ (l : Line) (w : Runnable l) (r : Arrays l) where
   stop-in i k n h =
       each-at (In heldStop) (legs l i - 1) (train l i .stops) k 0 (omega (arith, arrays i n .1, legs-few (train l i) (routed l i w (r .trains) n) .1)) h
       (train-runnable l i w (r .trains) n .stops)
-
-  gaps-in : (p : ℕ) → p < segmentCount l → SegmentWithin (segment l p)
-  gaps-in p h = each-at SegmentWithin (segmentCount l) (l .track .segments) p noSegment (omega (arith, r .segments, w .stations .1)) h (w .segments)
 
   -- ---- at leg k of train i
 
@@ -223,7 +220,7 @@ module _ (l : Line) (w : Runnable l) (r : Arrays l) where
   pub gap-most : (p : ℕ) → p < 11 → (followingIn (tablesOf l) p ≤ 60) × (opposingIn (tablesOf l) p ≤ 60)
   gap-most p b = elim (decLt p (segmentCount l)) [
     | yes h ↦
-        let g = gaps-in p h in
+        let g = segment-within l p w (r .segments) h in
         (omega (arith, following-at p h, g .following .1), omega (arith, opposing-at p h, g .opposing .1))
     | no h ↦
         let none : (n : ℕ) → 0 ≡ segmentEntry l n p = λ n. no-segment-is l n p (omega arith) in (

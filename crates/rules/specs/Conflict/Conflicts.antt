@@ -126,7 +126,8 @@ crowdOn tracks ds m stations n s =
 unfoldable pub stationConflict : List ℕ → List ℕ → List ℕ → ℕ → ℕ → Conflict
 stationConflict tracks ds m stations n = firstConflict (crowdOn tracks ds m stations n) stations
 
--- ---- "lowest segment with lowest pair, failing that lowest station, earliest minute and the lowest trains there"
+-- ---- document 02, K9: "the conflict on the lowest segment with the lowest pair (lower train, then the other) ..; failing that the one at the lowest
+-- station and earliest minute among the lowest trains, by leaving train and then arriving train"
 
 unfoldable pub conflictOf : Line → List ℕ → Conflict
 conflictOf l m =

@@ -1,4 +1,4 @@
--- Laws of paths: each train that can be run has one, with bounds of its runs and stops; its legs are the segments that it uses, and a middle
+-- Laws of paths: each segment of a line that can be run has its gaps; each train that can be run has one, with bounds of its runs and stops; its legs are the segments that it uses, and a middle
 -- station lies between two legs in a row.
 use Prim.Native.Nat.{ℕ, _+_, _-_, _≤_, _<_, min, max}
 use mathlib.Core.Path.{_≡_, refl, sym, _∙_, ap}
@@ -15,12 +15,16 @@ use Rattle.finite.specs.EachLaws.{each-at, each-or}
 use Rattle.line.specs.declared.Train.{Train}
 use Rattle.line.specs.declared.Line.{Line}
 use Rattle.line.specs.Ranges.{In, run}
-use Rattle.line.specs.Record.{legsBetween, legsOf}
+use Rattle.line.specs.Record.{noSegment, legsBetween, legsOf}
+use Rattle.line.specs.Within.{SegmentWithin}
 use Rattle.line.specs.Runnable.{heldStop, TrainRunnable, Runnable}
-use Rattle.rules.specs.Statement.Paths.{pastTrain, train, runOf, stopOf, legs, Uses, segmentBetween, segmentOf, Middle, into, outOf, Routed}
+use Rattle.rules.specs.Statement.Paths.{segmentCount, segment, pastTrain, train, runOf, stopOf, legs, Uses, segmentBetween, segmentOf, Middle, into, outOf, Routed}
 use Rattle.rules.specs.Statement.Rules.{middle}
 
--- ---- the train of an index
+-- ---- the segment and the train of an index
+
+pub segment-within : (l : Line) (p : ℕ) → Runnable l → length (l .track .segments) ≡ 11 → p < segmentCount l → SegmentWithin (segment l p)
+segment-within l p w size h = each-at SegmentWithin (segmentCount l) (l .track .segments) p noSegment (omega (arith, w .stations .1)) h (w .segments)
 
 pub train-runnable : (l : Line) (i : ℕ) → Runnable l → length (l .traffic .trains) ≡ 12 → i < l .traffic .«train_count» → TrainRunnable (l .track .«station_count») (train l i)
 train-runnable l i w size h =

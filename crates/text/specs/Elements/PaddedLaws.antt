@@ -1,10 +1,11 @@
--- Laws of an array that begins with the elements of a list: its length, its first entries, and what holds of each entry.
-use Prim.Native.Nat.{ℕ, zero, suc, _+_, _≤_}
+-- Laws of an array that begins with the elements of a list: its length, its first entries, one more of them, and what holds of each entry.
+use Prim.Native.Nat.{ℕ, zero, suc, _+_, _≤_, _<_}
 use mathlib.Core.Path.{_≡_, ap, _∙_}
-use mathlib.Core.List.{List, [], _∷_}
+use mathlib.Core.List.{List, [], _∷_, _++_, map, map-append}
+use native.Mathlib.Numerals.{add-one}
 use native.Mathlib.Omega.{arith}
 use lib.ListN.{length, set, replicate, take, drop, length-replicate}
-use lib.Seq.{sets, sets-eq, length-sets, take-append-seam}
+use lib.Seq.{sets, sets-eq, length-sets, take-append-seam, take-suc-set}
 use Rattle.finite.specs.Each.{Each}
 use Rattle.text.specs.Elements.Padded.{padded}
 
@@ -18,6 +19,10 @@ take-padded n z ys h =
 pub padded-length : {A : Type 0} (n : ℕ) (z : A) (ys : List A) → length (padded n z ys) ≡ n
 unfolding padded
 padded-length n z ys = length-sets (replicate n z) 0 ys ∙ length-replicate n z
+
+-- one more entry stored at the end of the first k
+pub stored-more : {A B : Type 0} (f : A → B) (at : List A) (k : ℕ) (x : A) → k < length at → map f (take (k + 1) (set at k x)) ≡ map f (take k at) ++ (f x ∷ [])
+stored-more f at k x h = rw add-one (ap (map f) (take-suc-set at k x h) ∙ map-append f (take k at) (x ∷ []))
 
 -- ---- what holds of the elements and of the entries beyond them holds of each entry
 
