@@ -40,7 +40,7 @@ impl Planner {
     /// The text of the best timetable, or of the refusal.
     fn plan(self, file: &[u8]) -> String {
         let timetable = match self {
-            Planner::Library => solved(file).map_err(|refusal| refusal.to_string()),
+            Planner::Library => solved(file).map_err(|refusal| refusal.in_numbers()),
             Planner::Search => plan_by_search(file).map_err(|refusal| refusal.to_string()),
             Planner::Walk => plan_by_walk(file).map_err(|refusal| refusal.to_string()),
         };
@@ -51,7 +51,7 @@ impl Planner {
 
 fn solved(file: &[u8]) -> Result<Vec<u8>, gaugeviolet::Refusal> {
     let mut lent = [0; gaugeviolet::TIMETABLE_BYTES];
-    let length = gaugeviolet::solve(file, &mut lent)?;
+    let length = gaugeviolet::on_callers_stack::solve(file, &mut lent)?;
     Ok(lent[..length].to_vec())
 }
 
@@ -111,7 +111,7 @@ pub fn plan_here(planner: Planner) {
     let mut input = std::io::stdin().lock();
     input.read_to_end(&mut file).expect("a line file");
     let planning = std::thread::Builder::new()
-        .stack_size(gaugeviolet::SOLVE_STACK)
+        .stack_size(gaugeviolet::on_callers_stack::SOLVE_STACK)
         .spawn(move || {
             let start = Instant::now();
             let answer = planner.plan(&file);

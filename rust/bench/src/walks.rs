@@ -60,7 +60,7 @@ fn walking(file: &[u8], plans: u64) -> Beside {
     let (mut library, mut independent) = (Times::default(), Times::default());
     for _ in 0..ROUNDS {
         library.round(1, || {
-            let length = gaugeviolet::walk_length(black_box(file));
+            let length = gaugeviolet::on_callers_stack::walk_length(black_box(file));
             assert_eq!(length.map(u64::from), Ok(plans));
         });
         independent.round(1, || {
@@ -78,7 +78,8 @@ fn solving(file: &[u8]) -> Beside {
     for _ in 0..ROUNDS {
         let (mut length, mut timetable) = (None, None);
         library.round(1, || {
-            length = gaugeviolet::solve(black_box(file), black_box(&mut lent)).ok();
+            length =
+                gaugeviolet::on_callers_stack::solve(black_box(file), black_box(&mut lent)).ok();
         });
         independent.round(1, || timetable = plan_by_search(black_box(file)).ok());
         assert_eq!(timetable.as_deref(), length.map(|length| &lent[..length]));

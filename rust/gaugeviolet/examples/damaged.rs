@@ -8,7 +8,7 @@
 use std::collections::BTreeMap;
 use std::process::ExitCode;
 
-use gaugeviolet::{Refusal, FILE_BYTES};
+use gaugeviolet::{on_callers_stack, Refusal, FILE_BYTES};
 use inputs::{damage_bytes, damaged, planned, small_line, Damage, Pair, Planned, Random, Traffic};
 
 /// How many lines there are to damage.
@@ -94,9 +94,9 @@ fn lend(random: &mut Random, pair: &Pair, solved: bool, numbers: &mut Numbers) {
         let room = random.below(2 * timetable.len() + 20);
         count(
             numbers,
-            written(room, |lent| gaugeviolet::solve(&file, lent)),
+            written(room, |lent| on_callers_stack::solve(&file, lent)),
         );
-        count(numbers, gaugeviolet::walk_length(&file));
+        count(numbers, on_callers_stack::walk_length(&file));
     }
 }
 

@@ -1,72 +1,31 @@
-//! The example program `graph`: what it draws, held against the texts of line file and timetable, and
-//! that it draws nothing where either is refused. `cargo test` builds the program too.
+//! The train graph that the program draws, held against the texts of line file and timetable, and that it
+//! draws nothing where either is refused.
 
 mod picture;
+#[allow(dead_code, reason = "other tests use the rest of it")]
+mod run;
 mod xml;
 
 use std::collections::BTreeSet;
-use std::path::{Path, PathBuf};
-use std::process::{Command, Output};
+use std::path::Path;
 
 use gaugeviolet::{Refusal, TIMETABLE_BYTES};
-use inputs::{damaged, planned, sizes, Damage, Pair, Random, Traffic};
+use inputs::{damaged, planned, saturday, sizes, Damage, Fields, Pair, Random, Style, Traffic};
 use picture::{hold, numbers};
+use run::{run, sample, sample_text, samples_with, written};
 use xml::well_formed;
-
-fn samples() -> PathBuf {
-    Path::new(env!("CARGO_MANIFEST_DIR")).join("../../samples")
-}
-
-/// The line files of the samples, in order, with a file of another ending beside them.
-fn samples_with(ending: &str) -> Vec<(PathBuf, PathBuf)> {
-    let entries = std::fs::read_dir(samples()).expect("the samples");
-    let mut found: Vec<(PathBuf, PathBuf)> = entries
-        .map(|entry| entry.expect("a sample").path())
-        .filter(|path| path.extension().is_some_and(|end| end == "line"))
-        .map(|line| (line.clone(), line.with_extension(ending)))
-        .filter(|(_, beside)| beside.exists())
-        .collect();
-    found.sort();
-    found
-}
-
-/// Runs the program, which stands in the folder `examples` beside that of this test.
-fn graph(arguments: &[&Path]) -> Output {
-    let test = std::env::current_exe().expect("the program of this test");
-    let built = test
-        .ancestors()
-        .nth(2)
-        .expect("the folder of what is built");
-    let program = built.join("examples").join("graph");
-    Command::new(program)
-        .args(arguments)
-        .output()
-        .expect("the example program; `cargo build --release --examples` builds it")
-}
 
 /// What it draws, where all is in order.
 fn drawn(arguments: &[&Path]) -> String {
-    let output = graph(arguments);
-    let told = String::from_utf8_lossy(&output.stderr);
-    assert!(output.status.success(), "{arguments:?}: {told}");
-    assert_eq!(told, "");
-    String::from_utf8(output.stdout).expect("a text")
+    run(&[&[Path::new("graph")], arguments].concat()).answer()
 }
 
-/// Holds that it draws nothing and says why.
-fn not_drawn(arguments: &[&Path], why: &str) {
-    let output = graph(arguments);
-    assert_eq!(output.status.code(), Some(1), "{arguments:?}");
-    assert_eq!(output.stdout, b"", "{arguments:?}");
-    let told = String::from_utf8_lossy(&output.stderr);
-    assert_eq!(told, format!("graph: {why}\n"), "{arguments:?}");
-}
-
-/// Writes a text where the tests may, for the program to read.
-fn written(name: &str, text: &[u8]) -> PathBuf {
-    let path = Path::new(env!("CARGO_TARGET_TMPDIR")).join(name);
-    std::fs::write(&path, text).expect("a file for the program");
-    path
+/// Holds that it draws nothing, and says in numbers and in words why.
+fn not_drawn(arguments: &[&Path], refusal: Refusal) {
+    let ran = run(&[&[Path::new("graph")], arguments].concat());
+    assert_eq!(ran.status, Some(1), "{arguments:?}");
+    assert_eq!(ran.out, refusal.in_numbers() + "\n", "{arguments:?}");
+    assert!(ran.told.contains(&refusal.sentence()), "{}", ran.told);
 }
 
 #[test]
@@ -106,6 +65,38 @@ fn planned_lines_of_every_size() {
     }
 }
 
+/// Saturdays of the greatest size: many waits, many trains at both ends of the line.
+#[test]
+fn saturdays_of_the_greatest_size() {
+    let mut random = Random::new(79);
+    for style in [Style::PeakTight, Style::Day, Style::DayTight] {
+        for _ in 0..4 {
+            let line = saturday(&mut random, 12, 12, style);
+            let file = Fields::of(&line).text();
+            let Ok(timetable) = gaugeviolet::plan(&file) else {
+                continue;
+            };
+            let picture = drawn(&[&written("saturday.line", &file)]);
+            hold(&picture, &file, &timetable);
+        }
+    }
+}
+
+/// Trains before and after midnight at the first station, and a day that is all of it the second.
+#[test]
+fn the_second_day() {
+    let night = "4\n2\n2\n2\n2\n3\nD 4 3\nF 4 3\nS 4 3\n5\n1 4 1380 2000 3 20 0 20 0 20\n\
+                 1 4 1440 2000 3 20 0 20 0 20\n1 4 1435 2000 3 20 0 20 0 20\n\
+                 4 1 1400 2000 5 20 0 20 0 20\n1 2 1445 2000 9 30\n";
+    let second = "2\n1\n1\n1\nS 5 4\n1\n1 2 1503 2879 1 5\n";
+    for file in [night, second] {
+        let timetable = gaugeviolet::plan(file.as_bytes()).expect("a timetable");
+        let picture = drawn(&[&written("night.line", file.as_bytes())]);
+        hold(&picture, file.as_bytes(), &timetable);
+        assert!(picture.contains(">day 2<"));
+    }
+}
+
 #[test]
 fn a_sample_that_is_refused_is_not_drawn() {
     let mut found = samples_with("refused");
@@ -121,7 +112,7 @@ fn a_sample_that_is_refused_is_not_drawn() {
             number: number as u32,
             place: place as u32,
         };
-        not_drawn(&[file], &refusal.sentence());
+        not_drawn(&[file], refusal);
     }
 }
 
@@ -139,7 +130,7 @@ fn a_timetable_that_is_refused_is_not_drawn() {
             };
             let file = written("refused.line", &file);
             let timetable = written("refused.timetable", &timetable);
-            not_drawn(&[&file, &timetable], &refusal.sentence());
+            not_drawn(&[&file, &timetable], refusal);
             numbers.insert(refusal.number);
         }
     }
@@ -150,23 +141,13 @@ fn a_timetable_that_is_refused_is_not_drawn() {
 /// A lawful timetable with a total of its own is refused too: the check comes before the picture.
 #[test]
 fn a_wrong_total_is_not_drawn() {
-    let file = samples().join("a.line");
-    let timetable = std::fs::read_to_string(samples().join("a.timetable")).expect("a sample");
-    let wrong = written("wrong.timetable", timetable.replace("18", "17").as_bytes());
-    let why = "the total is not the weighted delay of the minutes";
-    not_drawn(&[&file, &wrong], why);
+    let file = sample("a.line");
+    let refusal = |number| Refusal { number, place: 0 };
+    let text = sample_text("a.timetable").replace("18", "17");
+    let wrong = written("wrong.timetable", text.as_bytes());
+    not_drawn(&[&file, &wrong], refusal(17));
     let long = written("long.timetable", &[b'0'; TIMETABLE_BYTES + 1]);
-    not_drawn(&[&file, &long], "the timetable has more than 4,096 bytes");
-}
-
-#[test]
-fn arguments_that_name_too_little_or_too_much() {
-    let file = samples().join("a.line");
-    let why = "give the name of one line file and at most one timetable";
-    not_drawn(&[], why);
-    not_drawn(&[&file, &file, &file], why);
-    let output = graph(&[&samples().join("no-such.line")]);
-    assert_eq!((output.status.code(), output.stdout), (Some(1), Vec::new()));
+    not_drawn(&[&file, &long], refusal(7));
 }
 
 #[test]

@@ -4,35 +4,38 @@
 use std::collections::BTreeMap;
 use std::path::Path;
 
-use gaugeviolet::{check, read, rewrite, solve, Refusal, FILE_BYTES, TIMETABLE_BYTES};
+use gaugeviolet::{check, plan, read, rewrite, Cause, Refusal, FILE_BYTES};
 use inputs::{damage_bytes, damage_lines, damaged, planned, sizes, Damage, Random, Traffic};
 
-/// Every number of the scope document, told for place 7 where it has a place, else for 0.
-const LIST: [(u32, u32, &str); 17] = [
-    (1, 0, "the line file has more than 4,096 bytes"),
+/// Every number of the scope document, told for place 7 where it has a place, else for 0; and its cause.
+const LIST: [(u32, u32, &str, Cause); 17] = [
+    (1, 0, "the line file has more than 4,096 bytes", Cause::FileLength),
     (
         2,
         7,
         "line 7: a field has the wrong form (a number is one to four digits without a leading zero, \
          a kind is S, F or D), the wrong byte follows it, the file ends early, or bytes follow its \
          last line",
+        Cause::FileForm,
     ),
     (
         3,
         7,
         "line 7: a number is outside its range, or the number of segments is not that of the \
          stations less 1",
+        Cause::FileRange,
     ),
-    (4, 7, "line 7: the destination equals the origin"),
-    (5, 0, "no timetable keeps every rule"),
-    (6, 0, "the text has more bytes than were lent for it"),
-    (7, 0, "the timetable has more than 4,096 bytes"),
+    (4, 7, "line 7: the destination equals the origin", Cause::SameStation),
+    (5, 0, "no timetable keeps every rule", Cause::NoTimetable),
+    (6, 0, "the text has more bytes than were lent for it", Cause::LentBytes),
+    (7, 0, "the timetable has more than 4,096 bytes", Cause::TimetableLength),
     (
         8,
         7,
         "line 7 of the timetable: a field has the wrong form (a number is one to four digits without \
          a leading zero, the total up to seven), the wrong byte follows it, the text ends early, or \
          bytes follow its last line",
+        Cause::TimetableForm,
     ),
     (
         9,
@@ -40,39 +43,46 @@ const LIST: [(u32, u32, &str); 17] = [
         "line 7 of the timetable: a time is over 2,879, the number of trains or of order lists is \
          not the line's, a list's own count is over the number of trains, or a train's number is not \
          one of the line's",
+        Cause::TimetableRange,
     ),
     (
         10,
         7,
         "train 7: its first departure is before its earliest minute",
+        Cause::Earliest,
     ),
     (
         11,
         7,
         "train 7: on one of its segments arrival less departure is not its run",
+        Cause::Run,
     ),
     (
         12,
         7,
         "train 7: at a middle station it departs before its arrival plus its stop",
+        Cause::Stop,
     ),
     (
         13,
         7,
         "train 7: its last arrival is after its latest minute",
+        Cause::Latest,
     ),
-    (14, 7, "segment 7: two trains on it do not keep their gap"),
+    (14, 7, "segment 7: two trains on it do not keep their gap", Cause::Gap),
     (
         15,
         7,
         "station 7: at some minute more trains stand there than it has tracks",
+        Cause::Tracks,
     ),
     (
         16,
         7,
         "order list 7: it is not the trains of its segment and lane by departure minute",
+        Cause::OrderList,
     ),
-    (17, 0, "the total is not the weighted delay of the minutes"),
+    (17, 0, "the total is not the weighted delay of the minutes", Cause::Total),
 ];
 
 fn sentence(number: u32, place: u32) -> String {
@@ -81,7 +91,7 @@ fn sentence(number: u32, place: u32) -> String {
 
 #[test]
 fn every_number_has_its_sentence() {
-    for (at, (number, place, expected)) in LIST.into_iter().enumerate() {
+    for (at, (number, place, expected, _)) in LIST.into_iter().enumerate() {
         assert_eq!(number as usize, at + 1, "a number is missing in the list");
         assert_eq!(sentence(number, place), expected);
     }
@@ -110,12 +120,23 @@ fn another_number_is_told_plainly() {
 }
 
 #[test]
-fn display_keeps_number_and_place() {
-    let refusal = Refusal {
-        number: 16,
-        place: 22,
-    };
-    assert_eq!(refusal.to_string(), "refused 16 22");
+fn as_an_error_it_shows_its_sentence() {
+    let (number, place) = (16, 22);
+    let refusal = Refusal { number, place };
+    assert_eq!(refusal.in_numbers(), "refused 16 22");
+    let error: Box<dyn std::error::Error> = refusal.into();
+    assert_eq!(error.to_string(), sentence(16, 22));
+}
+
+#[test]
+fn every_number_of_the_list_has_its_cause() {
+    let cause = |number| Refusal { number, place: 0 }.cause();
+    for (number, _, _, expected) in LIST {
+        assert_eq!(cause(number), Some(expected));
+        assert_eq!(expected.number(), number);
+    }
+    assert_eq!(Cause::ALL, LIST.map(|(.., cause)| cause));
+    assert_eq!((cause(0), cause(18)), (None, None));
 }
 
 /// How often the library refused with each number.
@@ -129,7 +150,7 @@ impl Refused {
     fn note<T>(&mut self, answer: Result<T, Refusal>) {
         let Err(refusal) = answer else { return };
         let listed = LIST.iter().find(|&&(number, ..)| number == refusal.number);
-        let &(_, listed_place, sentence) = listed.expect("a number of the scope document");
+        let &(_, listed_place, sentence, _) = listed.expect("a number of the scope document");
         let expected = match sentence.split_once(": ") {
             Some((place, cause)) => {
                 format!(
@@ -167,7 +188,7 @@ fn what_is_refused_of_the_samples() {
         if path.extension().is_some_and(|end| end == "line") {
             let file = std::fs::read(&path).expect("a line file");
             refused.file(&file);
-            refused.note(solve(&file, &mut [0; TIMETABLE_BYTES]));
+            refused.note(plan(&file));
             refused.note(check(&file, b""));
         }
     }

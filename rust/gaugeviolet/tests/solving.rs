@@ -3,8 +3,10 @@
 //! passes the check, and a refusal changes no lent byte.
 
 use std::cell::Cell;
+use std::path::Path;
 
-use gaugeviolet::{check, solve, TIMETABLE_BYTES};
+use gaugeviolet::on_callers_stack::solve;
+use gaugeviolet::{check, TIMETABLE_BYTES};
 use independent::search::search_within;
 use independent::walk::solve_within;
 use independent::{Line, Refusal};
@@ -105,4 +107,25 @@ fn six_where_a_byte_is_missing() {
     let mut lent = vec![7; text.len()];
     assert_eq!(solve(file, &mut lent), Ok(text.len()));
     assert_eq!(lent, text);
+}
+
+/// The samples of a real size, one with its stored timetable and one without any, beside the search.
+#[test]
+fn the_sample_saturdays() {
+    let samples = Path::new(env!("CARGO_MANIFEST_DIR")).join("../../samples");
+    let bytes = |name: &str| std::fs::read(samples.join(name)).expect("a sample");
+    let lines = ["saturday.line", "saturday-full.line"].map(|name| {
+        let line = independent::read(&bytes(name));
+        line.expect("a line file")
+    });
+    let search = |line: &Line| search_within(line, 300_000).ok();
+    let outcomes = beside_another(lines.into_iter(), search, solved);
+    assert_eq!(
+        (outcomes.lines, outcomes.without, outcomes.delayed),
+        (2, 1, 1)
+    );
+    assert_eq!(
+        solved(&bytes("saturday.line")),
+        Ok(bytes("saturday.timetable"))
+    );
 }

@@ -8,7 +8,8 @@
 use std::process::{Command, ExitStatus};
 use std::time::Duration;
 
-use gaugeviolet::{SOLVE_STACK, TIMETABLE_BYTES};
+use gaugeviolet::on_callers_stack::{self, SOLVE_STACK};
+use gaugeviolet::TIMETABLE_BYTES;
 
 /// How many bytes of stack the process is to give to its thread.
 const STACK: &str = "GAUGEVIOLET_STACK";
@@ -33,12 +34,20 @@ fn a_fraction_of_it_does_not() {
     }
 }
 
+/// Also where threads that say nothing of their stack get too little.
+#[test]
+fn planning_takes_a_stack_of_its_own() {
+    assert!(run_within("plans", SOLVE_STACK / 8).success());
+}
+
 /// What becomes of a process that does this in a thread of so many bytes of stack.
 fn run_within(deep: &str, stack: usize) -> ExitStatus {
     let this = std::env::current_exe().expect("the program of these tests");
     Command::new(this)
         .args(["--exact", deep, "--ignored"])
         .env(STACK, stack.to_string())
+        // What Rust gives to threads that are not told how much to take.
+        .env("RUST_MIN_STACK", stack.to_string())
         .output()
         .expect("it can be started again")
         .status
@@ -57,7 +66,16 @@ fn in_thread(deep: impl FnOnce() + Send + 'static) {
 fn searches() {
     let deepest = include_bytes!("deepest_search.line");
     in_thread(|| {
-        gaugeviolet::solve(deepest, &mut [0; TIMETABLE_BYTES]).expect("a timetable");
+        on_callers_stack::solve(deepest, &mut [0; TIMETABLE_BYTES]).expect("a timetable");
+    });
+}
+
+#[test]
+#[ignore = "a process that the others start"]
+fn plans() {
+    let deepest = include_bytes!("deepest_search.line");
+    in_thread(|| {
+        gaugeviolet::plan(deepest).expect("a timetable");
     });
 }
 
@@ -66,6 +84,6 @@ fn searches() {
 fn walks() {
     let deepest = include_bytes!("deepest_walk.line");
     in_thread(|| {
-        gaugeviolet::walk_length(deepest).expect("a line file");
+        on_callers_stack::walk_length(deepest).expect("a line file");
     });
 }

@@ -1,6 +1,6 @@
 //! The length of the library's walk beside the independent walk: both take up the same plans.
 
-use gaugeviolet::walk_length;
+use gaugeviolet::on_callers_stack::walk_length;
 use inputs::{dense_walk, short_walks, shown, Corners, LineWalk, Random};
 
 fn compare(walk: &LineWalk) {

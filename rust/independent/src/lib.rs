@@ -4,7 +4,7 @@
 //!
 //! Nothing here comes from the proved crates or calls them: the tests compare the two, so a mistake
 //! has to be made twice to pass. The readers, the writers and the check allocate nothing (only
-//! [`write`] and [`timetable::write`] hand out a vector), so the benchmark can compare times as well.
+//! [`write()`] and [`timetable::write`] hand out a vector), so the benchmark can compare times as well.
 //! The planner of [`exhaustive`] is made to be believed, not to be fast. Those of [`walk`] and [`search`]
 //! are made to be fast; the walk takes up the same plans as the proved one.
 

@@ -101,7 +101,7 @@ pub fn write(line: &Line, minutes: &Minutes) -> Vec<u8> {
     lent[..length].to_vec()
 }
 
-/// Writes the text of [`write`] to the front of `lent` and returns its length, or 6 where `lent` has
+/// Writes the text of [`write()`] to the front of `lent` and returns its length, or 6 where `lent` has
 /// fewer bytes than the text. A refusal changes no lent byte.
 pub fn write_into(line: &Line, minutes: &Minutes, lent: &mut [u8]) -> Result<usize, Refusal> {
     let mut text = Text::<{ LONGEST + SPARE }>::new();

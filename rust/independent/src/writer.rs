@@ -14,7 +14,7 @@ pub fn write(line: &Line) -> Result<Vec<u8>, Refusal> {
     Ok(lent[..length].to_vec())
 }
 
-/// Writes `line` to the front of `lent` and returns the text's length; 3 or 4 as in [`write`], then
+/// Writes `line` to the front of `lent` and returns the text's length; 3 or 4 as in [`write()`], then
 /// 6 where `lent` has fewer bytes than the text. A refusal changes no lent byte.
 pub fn write_into(line: &Line, lent: &mut [u8]) -> Result<usize, Refusal> {
     check(line)?;

@@ -1,0 +1,59 @@
+//! The sheet for the signallers: the trains of each segment and lane in order.
+
+use gaugeviolet::{time_of_day, OrderList, Timetable};
+
+use crate::arguments::Arguments;
+use crate::command::{Command, Failure};
+use crate::given;
+
+pub const COMMAND: Command = Command {
+    name: "lists",
+    arguments: "LINE [TIMETABLE]",
+    files: (1, 2),
+    options: &[],
+    summary: "the sheet for the signallers: the trains of each segment",
+    help: "\
+For each segment, and on double track for each lane, the trains in the order in which
+they set out, with direction, departure and arrival as times of day. What falls on
+the second day is marked.
+
+example: gaugeviolet lists samples/saturday.line samples/saturday.timetable
+",
+    run,
+};
+
+fn run(arguments: &Arguments) -> Result<Vec<u8>, Failure> {
+    let timetable = given::timetable(arguments)?;
+    let lists = timetable.order_lists().iter();
+    let sheets: Vec<String> = lists.map(|list| sheet(&timetable, list)).collect();
+    Ok(sheets.join("\n").into())
+}
+
+fn sheet(timetable: &Timetable, list: &OrderList) -> String {
+    let segment = list.segment;
+    let kind = timetable.line().segment(segment).kind;
+    let lane = list.lane.after_segment();
+    let mut words = format!(
+        "segment {segment}, stations {segment} to {} ({}){lane}\n",
+        segment + 1,
+        kind.letter()
+    );
+    if list.trains.is_empty() {
+        words += "  no train\n";
+    }
+    for &train in &list.trains {
+        words += &row(timetable, train, segment);
+    }
+    words
+}
+
+fn row(timetable: &Timetable, train: u32, segment: u32) -> String {
+    let direction = timetable.line().train(train).direction();
+    let leg = timetable.leg_on(train, segment);
+    let leg = leg.expect("a train of the segment's list goes there");
+    format!(
+        "  train {train:>2}  {direction:<8}  departs {:<11}  arrives {}\n",
+        time_of_day(leg.departure),
+        time_of_day(leg.arrival)
+    )
+}

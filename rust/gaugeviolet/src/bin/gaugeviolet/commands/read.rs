@@ -1,0 +1,116 @@
+//! The line in words.
+
+use gaugeviolet::{counted, time_of_day, Kind, Line, Segment, Train};
+
+use crate::arguments::Arguments;
+use crate::command::{Command, Failure};
+use crate::given;
+
+pub const COMMAND: Command = Command {
+    name: "read",
+    arguments: "LINE",
+    files: (1, 1),
+    options: &[],
+    summary: "the line in words, or what is wrong with its file",
+    help: "\
+Reads a line file and says in words what it describes: the stations with their
+tracks, the segments with their gaps, and the trains with their times of day. So
+what was typed can be read over. A file with a mistake is refused; standard error
+then quotes the line, marks the fault and says what is allowed there.
+
+example: gaugeviolet read samples/saturday.line
+",
+    run,
+};
+
+fn run(arguments: &Arguments) -> Result<Vec<u8>, Failure> {
+    let line = given::line(&given::bytes(arguments.file(0))?)?;
+    Ok(in_words(&line).into())
+}
+
+fn in_words(line: &Line) -> String {
+    let mut words = format!(
+        "{}, {}, {}\n\n",
+        counted(line.tracks().len() as u32, "station"),
+        counted(line.segments().len() as u32, "segment"),
+        counted(line.trains().len() as u32, "train")
+    );
+    let station = |(number, &tracks): (u32, &u32)| {
+        format!("station {number}: {}\n", counted(tracks, "track"))
+    };
+    words.extend((1..).zip(line.tracks()).map(station));
+    words.push('\n');
+    let segments = (1..).zip(line.segments());
+    words.extend(segments.map(|(number, segment)| segment_in_words(number, segment)));
+    let trains = (1..).zip(line.trains());
+    words.extend(trains.map(|(number, train)| train_in_words(number, train)));
+    words
+}
+
+fn segment_in_words(number: u32, segment: &Segment) -> String {
+    let (letter, gap) = (segment.kind.letter(), segment.following);
+    let track = match segment.kind {
+        Kind::S => "single track, one train at a time",
+        Kind::F => "single track, trains of one direction follow each other",
+        Kind::D => "double track",
+    };
+    let opposing = match segment.kind {
+        Kind::D => String::new(),
+        _ => format!(", opposing gap {}", segment.opposing),
+    };
+    format!(
+        "segment {number}, stations {number} to {}: {letter}, {track}; following gap {gap}{opposing}\n",
+        number + 1
+    )
+}
+
+fn train_in_words(number: u32, train: &Train) -> String {
+    let free = train.free_arrival();
+    let spare = match train.latest.checked_sub(free) {
+        Some(spare) => format!("{} to spare", counted(spare, "minute")),
+        None => "which is too late".to_string(),
+    };
+    format!(
+        "\ntrain {number}, {}, station {} to station {}, weight {}\n  \
+         departs {} or later, arrives {} or earlier\n  \
+         alone on the line it takes {}, {spare}:\n{}",
+        train.direction(),
+        train.origin,
+        train.destination,
+        train.weight,
+        minute(train.earliest),
+        minute(train.latest),
+        counted(free - train.earliest, "minute"),
+        free_journey(train)
+    )
+}
+
+/// A time of day with its minute, as the file has it.
+fn minute(minute: u32) -> String {
+    format!("{} (minute {minute})", time_of_day(minute))
+}
+
+/// The journey of a train that is alone on the line, a row for each of its legs.
+fn free_journey(train: &Train) -> String {
+    let mut departure = train.earliest;
+    let mut rows = String::new();
+    for leg in 0..train.legs() {
+        let arrival = departure + train.run(leg);
+        rows += &format!(
+            "    {} from station {}, {} over segment {}, {} at station {}",
+            time_of_day(departure),
+            train.station(leg),
+            train.run(leg),
+            train.segment(leg),
+            time_of_day(arrival),
+            train.station(leg + 1)
+        );
+        if leg + 1 < train.legs() {
+            let stop = train.stop(leg + 1);
+            rows += &format!(", stop {stop}");
+            departure = arrival + stop;
+        }
+        rows.push('\n');
+    }
+    rows
+}

@@ -1,0 +1,114 @@
+//! What the text before a fault asks for on its line: how many fields, and what stands there by the counts
+//! before it. A fault may come from there.
+
+use super::field::Field;
+use super::line_file::Known;
+use super::walker::{Fault, Wrong};
+use crate::timetable::list_places;
+use crate::{counted, Line};
+
+/// How many fields the fault's line has. Nothing where that is not clear: a comma may stand between two
+/// numbers or in one, and so may a byte that cannot be printed.
+fn fields_on_line(text: &[u8], fault: &Fault) -> Option<usize> {
+    let row = text.split(|&byte| byte == b'\n').nth(fault.line - 1)?;
+    let row = row.strip_suffix(b"\r").unwrap_or(row);
+    let clear = |byte: &u8| (b' '..=b'~').contains(byte) && !b",;".contains(byte);
+    let fields = row.split(|&byte| byte == b' ');
+    let fields = fields.filter(|field| !field.is_empty());
+    row.iter().all(clear).then(|| fields.count())
+}
+
+/// What is needed on the fault's line of a line file.
+pub(super) fn in_file(file: &[u8], fault: &Fault, known: &Known) -> Option<String> {
+    match fault.field {
+        Field::Earliest { train }
+        | Field::Latest { train }
+        | Field::Weight { train }
+        | Field::Run { train, .. }
+        | Field::Stop { train, .. } => runs_and_stops(file, fault, train, known.path?),
+        _ => by_counts(file, fault, known),
+    }
+}
+
+/// How many runs and stops the path of a train needs, where its line has more or fewer.
+fn runs_and_stops(file: &[u8], fault: &Fault, train: u32, path: (u32, u32)) -> Option<String> {
+    let (origin, destination) = path;
+    let legs = origin.abs_diff(destination);
+    // Origin, destination, earliest, latest and weight stand before them.
+    let (needed, has) = (2 * legs as usize + 4, fields_on_line(file, fault)?);
+    (needed != has).then(|| {
+        format!(
+            "from station {origin} to station {destination} train {train} goes over {}, so it needs {} \
+             and {} after its weight (run stop run .. run), {needed} fields in all; the line has {has}",
+            counted(legs, "segment"),
+            counted(legs, "run"),
+            counted(legs - 1, "stop"),
+        )
+    })
+}
+
+/// What the counts before the fault say of its line.
+fn by_counts(file: &[u8], fault: &Fault, known: &Known) -> Option<String> {
+    let stations = known.stations?;
+    let (segment_count, train_count) = (stations + 2, 2 * stations + 2);
+    let by_stations = |line: u32, what: &str| {
+        format!("line 1 says {stations} stations, so line {line} is {what}")
+    };
+    match fault.field {
+        Field::SegmentCount => Some(by_stations(segment_count, "the number of segments")),
+        Field::TrainCount => Some(by_stations(train_count, "the number of trains")),
+        Field::SegmentKind { segment } if fault.wrong == Wrong::Form => {
+            let line = segment_count + segment;
+            Some(by_stations(line, &format!("segment {segment}")))
+        }
+        Field::Origin { train } if fault.from == file.len() => Some(format!(
+            "line {train_count} says {}, and there are only {}",
+            counted(known.trains?, "train"),
+            train - 1
+        )),
+        Field::End => Some(format!(
+            "line {train_count} says {}, so the file ends after line {}",
+            counted(known.trains?, "train"),
+            fault.line - 1
+        )),
+        _ => None,
+    }
+}
+
+/// What is needed on the fault's line of a timetable.
+pub(super) fn in_timetable(line: &Line, text: &[u8], fault: &Fault) -> Option<String> {
+    let trains = line.trains().len() as u32;
+    match fault.field {
+        Field::TrainCount => Some(format!("the line file has {}", counted(trains, "train"))),
+        Field::Departure { train, .. } | Field::Arrival { train, .. } => {
+            times(line, text, fault, train)
+        }
+        Field::ListCount => Some("there is a list for each segment, on D two".into()),
+        Field::ListLength { list } | Field::Listed { list, .. } => of_list(line, fault, list),
+        _ => None,
+    }
+}
+
+/// How many times a train's line of the timetable needs, where it has more or fewer.
+fn times(line: &Line, text: &[u8], fault: &Fault, train: u32) -> Option<String> {
+    let legs = line.train(train).legs();
+    let has = fields_on_line(text, fault)?;
+    (has != 2 * legs).then(|| {
+        format!(
+            "train {train} goes over {}: it needs a departure and an arrival for each, {} numbers; \
+             the line has {has}",
+            counted(legs as u32, "segment"),
+            2 * legs
+        )
+    })
+}
+
+/// Which list a line is for, and what stands in it.
+fn of_list(line: &Line, fault: &Fault, list: u32) -> Option<String> {
+    let (segment, lane) = list_places(line).nth(list as usize - 1)?;
+    let lane = lane.after_segment();
+    Some(format!(
+        "line {} is the list of segment {segment}{lane}: how many trains it has, then their numbers",
+        fault.line
+    ))
+}

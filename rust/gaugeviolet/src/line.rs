@@ -1,0 +1,352 @@
+//! A line with its fields as numbers: read from an accepted file, or built and then accepted.
+//!
+//! Stations, segments and trains are numbered from 1, as in the files. The legs of a train are counted
+//! from 0, as the entries of a list.
+
+use crate::Refusal;
+
+/// What kind of track a segment has.
+#[derive(Clone, Copy, Debug, PartialEq, Eq, PartialOrd, Ord, Hash)]
+pub enum Kind {
+    /// Single track with one train at a time.
+    S,
+    /// Single track on which trains of one direction may follow each other.
+    F,
+    /// Double track.
+    D,
+}
+
+impl Kind {
+    /// All of them.
+    pub const ALL: [Kind; 3] = [Kind::S, Kind::F, Kind::D];
+
+    /// Its letter in the file.
+    pub const fn letter(self) -> char {
+        match self {
+            Kind::S => 'S',
+            Kind::F => 'F',
+            Kind::D => 'D',
+        }
+    }
+}
+
+/// The track between a station and the next.
+#[derive(Clone, Copy, Debug, PartialEq, Eq, Hash)]
+pub struct Segment {
+    /// The kind of track.
+    pub kind: Kind,
+    /// Minutes between trains of one direction.
+    pub following: u32,
+    /// Minutes between trains of opposite directions; there, and not used, on kind D.
+    pub opposing: u32,
+}
+
+impl Segment {
+    /// Its line in the file.
+    fn text(&self) -> String {
+        let letter = self.kind.letter();
+        format!("{letter} {} {}\n", self.following, self.opposing)
+    }
+}
+
+/// What a train asks for.
+#[derive(Clone, Debug, PartialEq, Eq, Hash)]
+pub struct Train {
+    /// The station that it starts from.
+    pub origin: u32,
+    /// The station that it goes to.
+    pub destination: u32,
+    /// The earliest minute of its first departure.
+    pub earliest: u32,
+    /// The latest minute of its last arrival.
+    pub latest: u32,
+    /// What a minute of its delay costs.
+    pub weight: u32,
+    /// Its minutes in travel order, as in the file: run, stop, run, stop, .., run.
+    pub journey: Vec<u32>,
+}
+
+impl Train {
+    /// Whether it runs towards the higher stations.
+    pub fn outbound(&self) -> bool {
+        self.origin < self.destination
+    }
+
+    /// `outbound` or `inbound`.
+    pub fn direction(&self) -> &'static str {
+        match self.outbound() {
+            true => "outbound",
+            false => "inbound",
+        }
+    }
+
+    /// How many segments its path has. It needs as many runs, and one stop fewer.
+    pub fn legs(&self) -> usize {
+        self.origin.abs_diff(self.destination) as usize
+    }
+
+    /// The station that a leg begins at; after the last leg comes the destination.
+    pub fn station(&self, leg: usize) -> u32 {
+        if self.outbound() {
+            self.origin + leg as u32
+        } else {
+            self.origin - leg as u32
+        }
+    }
+
+    /// The segment of a leg. An inbound train's first segment is the one below its origin.
+    pub fn segment(&self, leg: usize) -> u32 {
+        self.station(leg).min(self.station(leg + 1))
+    }
+
+    /// The minutes that a leg takes.
+    pub fn run(&self, leg: usize) -> u32 {
+        self.journey[2 * leg]
+    }
+
+    /// The minutes of its stop before a leg, at a middle station of its path. Before the first leg
+    /// there is none.
+    pub fn stop(&self, leg: usize) -> u32 {
+        match leg {
+            0 => 0,
+            _ => self.journey[2 * leg - 1],
+        }
+    }
+
+    /// When it would be at its destination were it alone on the line.
+    pub fn free_arrival(&self) -> u32 {
+        self.earliest + self.journey.iter().sum::<u32>()
+    }
+
+    /// Its line in the file.
+    fn text(&self) -> String {
+        let head = [
+            self.origin,
+            self.destination,
+            self.earliest,
+            self.latest,
+            self.weight,
+        ];
+        let fields = head.iter().chain(&self.journey).map(u32::to_string);
+        fields.collect::<Vec<String>>().join(" ") + "\n"
+    }
+}
+
+/// A line that the library has accepted, with typed access to what its file says.
+///
+/// ```
+/// use gaugeviolet::{Kind, Line};
+///
+/// let file = b"3\n2\n2\n2\n2\nS 5 4\nD 5 4\n1\n3 1 360 600 2 15 1 20\n";
+/// let line = Line::read(file)?;
+/// assert_eq!(line.tracks(), [2, 2, 2]);
+/// assert_eq!(line.segments()[1].kind, Kind::D);
+/// let train = &line.trains()[0];
+/// assert_eq!((train.segment(0), train.run(0), train.stop(1)), (2, 15, 1));
+/// assert_eq!(train.free_arrival(), 396);
+/// assert_eq!(line.file(), file);
+/// # Ok::<(), gaugeviolet::Refusal>(())
+/// ```
+#[derive(Clone, Debug, PartialEq, Eq)]
+pub struct Line {
+    parts: LineBuilder,
+    file: Vec<u8>,
+}
+
+impl Line {
+    /// The line of a file, refused as [`crate::read`] refuses it.
+    pub fn read(file: &[u8]) -> Result<Line, Refusal> {
+        crate::read(file)?;
+        Ok(Line {
+            parts: parts_of_accepted(file),
+            file: file.to_vec(),
+        })
+    }
+
+    /// The tracks of each station.
+    pub fn tracks(&self) -> &[u32] {
+        &self.parts.tracks
+    }
+
+    /// The segments; segment p joins stations p and p + 1.
+    pub fn segments(&self) -> &[Segment] {
+        &self.parts.segments
+    }
+
+    /// The trains.
+    pub fn trains(&self) -> &[Train] {
+        &self.parts.trains
+    }
+
+    /// The tracks of a station, by its number.
+    ///
+    /// # Panics
+    /// Where there is none.
+    pub fn tracks_at(&self, station: u32) -> u32 {
+        self.parts.tracks[station as usize - 1]
+    }
+
+    /// A segment, by its number.
+    ///
+    /// # Panics
+    /// Where there is none.
+    pub fn segment(&self, number: u32) -> &Segment {
+        &self.parts.segments[number as usize - 1]
+    }
+
+    /// A train, by its number.
+    ///
+    /// # Panics
+    /// Where there is none.
+    pub fn train(&self, number: u32) -> &Train {
+        &self.parts.trains[number as usize - 1]
+    }
+
+    /// The bytes of its file.
+    pub fn file(&self) -> &[u8] {
+        &self.file
+    }
+
+    /// The same stations and segments with these of its trains alone, by number and in this order.
+    ///
+    /// ```
+    /// let file = b"2\n1\n1\n1\nS 5 4\n2\n1 2 0 9 1 5\n2 1 0 9 1 6\n";
+    /// let second = gaugeviolet::Line::read(file)?.with_trains(&[2]);
+    /// assert_eq!(second.file(), b"2\n1\n1\n1\nS 5 4\n1\n2 1 0 9 1 6\n");
+    /// # Ok::<(), gaugeviolet::Refusal>(())
+    /// ```
+    ///
+    /// # Panics
+    /// Where there is no train of such a number, or more than twelve numbers are given.
+    pub fn with_trains(&self, numbers: &[u32]) -> Line {
+        let train = |&number: &u32| self.train(number).clone();
+        let fewer = LineBuilder {
+            trains: numbers.iter().map(train).collect(),
+            ..self.parts.clone()
+        };
+        fewer.build().expect("parts of an accepted line")
+    }
+}
+
+/// The fields of an accepted file, found by splitting at line feeds and spaces.
+fn parts_of_accepted(file: &[u8]) -> LineBuilder {
+    let text = std::str::from_utf8(file).expect("what is accepted is ASCII");
+    let rows: Vec<Vec<&str>> = text.lines().map(|row| row.split(' ').collect()).collect();
+    let stations = number(rows[0][0]) as usize;
+    // Before the segments and before the trains stands a line with their count.
+    let (segments, trains) = (stations + 2..2 * stations + 1, 2 * stations + 2..);
+    LineBuilder {
+        tracks: rows[1..=stations]
+            .iter()
+            .map(|row| number(row[0]))
+            .collect(),
+        segments: rows[segments].iter().map(|row| segment(row)).collect(),
+        trains: rows[trains].iter().map(|row| train(row)).collect(),
+    }
+}
+
+fn segment(row: &[&str]) -> Segment {
+    let kind = Kind::ALL
+        .into_iter()
+        .find(|kind| row[0].starts_with(kind.letter()));
+    Segment {
+        kind: kind.expect("the letter of a kind"),
+        following: number(row[1]),
+        opposing: number(row[2]),
+    }
+}
+
+fn train(row: &[&str]) -> Train {
+    Train {
+        origin: number(row[0]),
+        destination: number(row[1]),
+        earliest: number(row[2]),
+        latest: number(row[3]),
+        weight: number(row[4]),
+        journey: row[5..].iter().map(|field| number(field)).collect(),
+    }
+}
+
+pub(crate) fn number(field: &str) -> u32 {
+    field.parse().expect("a number, as it was accepted")
+}
+
+/// Builds a line file, which the library then accepts or refuses.
+///
+/// ```
+/// use gaugeviolet::{Kind, LineBuilder, Train};
+///
+/// let mut train = Train {
+///     origin: 1,
+///     destination: 3,
+///     earliest: 360,
+///     latest: 600,
+///     weight: 2,
+///     journey: vec![15, 1, 20],
+/// };
+/// let line = LineBuilder::new()
+///     .station(2)
+///     .segment(Kind::S, 5, 4)
+///     .station(2)
+///     .segment(Kind::S, 5, 4)
+///     .station(2)
+///     .train(train.clone());
+/// assert_eq!(line.build()?.file(), b"3\n2\n2\n2\n2\nS 5 4\nS 5 4\n1\n1 3 360 600 2 15 1 20\n");
+///
+/// // Over two segments a train has two runs and a stop between them.
+/// train.journey.push(0);
+/// let refusal = line.train(train).build().unwrap_err();
+/// assert_eq!((refusal.number, refusal.place), (2, 10));
+/// # Ok::<(), gaugeviolet::Refusal>(())
+/// ```
+#[derive(Clone, Debug, Default, PartialEq, Eq)]
+pub struct LineBuilder {
+    tracks: Vec<u32>,
+    segments: Vec<Segment>,
+    trains: Vec<Train>,
+}
+
+impl LineBuilder {
+    /// A line without stations as yet.
+    pub fn new() -> LineBuilder {
+        LineBuilder::default()
+    }
+
+    /// Adds a station with so many tracks.
+    pub fn station(mut self, tracks: u32) -> LineBuilder {
+        self.tracks.push(tracks);
+        self
+    }
+
+    /// Adds the next segment: its kind, following gap and opposing gap.
+    pub fn segment(mut self, kind: Kind, following: u32, opposing: u32) -> LineBuilder {
+        self.segments.push(Segment {
+            kind,
+            following,
+            opposing,
+        });
+        self
+    }
+
+    /// Adds a train.
+    pub fn train(mut self, train: Train) -> LineBuilder {
+        self.trains.push(train);
+        self
+    }
+
+    /// What its file would be. [`Refusal::explanation`] takes it where `build` is refused.
+    pub fn text(&self) -> Vec<u8> {
+        let mut text = format!("{}\n", self.tracks.len());
+        text.extend(self.tracks.iter().map(|tracks| format!("{tracks}\n")));
+        text += &format!("{}\n", self.segments.len());
+        text.extend(self.segments.iter().map(Segment::text));
+        text += &format!("{}\n", self.trains.len());
+        text.extend(self.trains.iter().map(Train::text));
+        text.into_bytes()
+    }
+
+    /// The line, or why the library refuses its file (numbers 1 to 4).
+    pub fn build(&self) -> Result<Line, Refusal> {
+        Line::read(&self.text())
+    }
+}

@@ -1,0 +1,184 @@
+//! How the program ends and what it shows meanwhile: closed pipes, a full disk, an interrupt, a terminal.
+
+#[allow(dead_code, reason = "other tests use the rest of it")]
+mod run;
+
+use std::ffi::OsStr;
+use std::io::Read;
+use std::os::unix::process::ExitStatusExt;
+use std::process::{Child, Command, Output, Stdio};
+use std::time::{Duration, Instant};
+
+use run::{sample, written, Ran, LONG, PROGRAM};
+
+/// More time than the start of a program takes on a busy machine.
+const LONG_ENOUGH: Duration = Duration::from_secs(30);
+
+/// A reader who goes away ends it quietly, with the status of its answer.
+#[test]
+fn a_closed_pipe() {
+    for (arguments, status) in [
+        (vec!["graph".into(), sample("a.line")], 0),
+        (vec!["plan".into(), sample("e5.line")], 1),
+    ] {
+        let mut child = Command::new(PROGRAM)
+            .args(&arguments)
+            .stdout(Stdio::piped())
+            .stderr(Stdio::piped())
+            .spawn()
+            .expect("the program runs");
+        drop(child.stdout.take());
+        let ran = Ran::of(child.wait_with_output().expect("it ends"));
+        assert_eq!(ran.status, Some(status), "{}", ran.told);
+        assert!(
+            !ran.told.contains("pipe") && !ran.told.contains("panic"),
+            "{}",
+            ran.told
+        );
+        assert_eq!(ran.told.is_empty(), status == 0);
+    }
+}
+
+/// An answer that cannot be written is no answer.
+#[test]
+fn a_full_disk() {
+    let full = std::fs::File::create("/dev/full").expect("the device that is always full");
+    let output = Command::new(PROGRAM)
+        .arg("plan")
+        .arg(sample("a.line"))
+        .stdout(full)
+        .output();
+    let ran = Ran::of(output.expect("the program runs"));
+    assert_eq!(ran.status, Some(2));
+    assert!(
+        ran.told.starts_with("gaugeviolet: standard output: "),
+        "{}",
+        ran.told
+    );
+}
+
+/// Starts it so that it does not ignore interrupts, as it would where these tests run in the background.
+fn interruptible(arguments: &[&OsStr]) -> Child {
+    Command::new("env")
+        .arg("--default-signal=INT")
+        .arg(PROGRAM)
+        .args(arguments)
+        .stdin(Stdio::piped())
+        .stdout(Stdio::piped())
+        .stderr(Stdio::piped())
+        .spawn()
+        .expect("the program runs")
+}
+
+#[test]
+fn an_interrupt_says_what_was_going_on() {
+    let long = written("long.line", LONG.as_bytes());
+    let planning = ["plan".as_ref(), long.as_os_str()];
+    let reading = ["read".as_ref(), "-".as_ref()];
+    // Beside the main thread there is one that watches; planning has two more.
+    hold_interrupted(&planning, 4, "looking for the best timetable");
+    hold_interrupted(&reading, 2, "reading standard input");
+}
+
+/// Holds what an interrupt makes it say, once it has so many threads.
+fn hold_interrupted(arguments: &[&OsStr], threads: u32, doing: &str) {
+    let mut child = interruptible(arguments);
+    let stdin = child.stdin.take();
+    wait_until_it_watches(child.id(), threads);
+    let kill = Command::new("kill")
+        .args(["-INT", &child.id().to_string()])
+        .status();
+    assert!(kill.expect("kill runs").success());
+    let output = ended(child);
+    drop(stdin);
+    assert_eq!(output.status.signal(), Some(2), "{output:?}");
+    let ran = Ran::of(output);
+    assert_eq!(ran.out, "");
+    let begins = format!("\ngaugeviolet: interrupted while {doing}, after ");
+    assert!(ran.told.starts_with(&begins), "{}", ran.told);
+    let ends = " s; there is no answer\n";
+    assert!(ran.told.ends_with(ends), "{}", ran.told);
+}
+
+/// A value of a process that the system tells.
+fn told_by_system(process: u32, name: &str) -> Option<String> {
+    let status = std::fs::read_to_string(format!("/proc/{process}/status")).ok()?;
+    let mut lines = status.lines();
+    let value = lines.find_map(|line| line.strip_prefix(name))?;
+    Some(value.trim().to_string())
+}
+
+/// Waits until a process catches interrupts and has so many threads, and a moment more.
+fn wait_until_it_watches(process: u32, threads: u32) {
+    let end = Instant::now() + LONG_ENOUGH;
+    let watches = || {
+        let caught = told_by_system(process, "SigCgt:")?;
+        let caught = u64::from_str_radix(&caught, 16).ok()?;
+        let running: u32 = told_by_system(process, "Threads:")?.parse().ok()?;
+        Some(caught & 1 << (2 - 1) != 0 && running >= threads)
+    };
+    while watches() != Some(true) {
+        assert!(Instant::now() < end, "it does not watch for interrupts");
+        std::thread::sleep(Duration::from_millis(20));
+    }
+    std::thread::sleep(Duration::from_millis(500));
+}
+
+/// What came of a process that is to end now. One that goes on is stopped.
+fn ended(mut child: Child) -> Output {
+    let end = Instant::now() + LONG_ENOUGH;
+    while child.try_wait().expect("its state").is_none() && Instant::now() < end {
+        std::thread::sleep(Duration::from_millis(20));
+    }
+    // This does nothing to a process that has ended.
+    child.kill().expect("it can be stopped");
+    child.wait_with_output().expect("its output")
+}
+
+/// Where standard error is a terminal, which `script` makes, the time gone is shown; elsewhere it is not.
+#[test]
+fn long_work_shows_that_it_lives() {
+    let long = written("lives.line", LONG.as_bytes());
+    // Where nothing is shown, it ends without what is waited for.
+    let command = format!(
+        "exec timeout --foreground 60 '{PROGRAM}' plan '{}'",
+        long.display()
+    );
+    let mut terminal = Command::new("script");
+    let shown = written_until(terminal.args(["-qec", &command, "/dev/null"]), ": 2 s");
+    assert!(
+        shown.contains("\rlooking for the best timetable: 1 s"),
+        "{shown}"
+    );
+    let mut quiet = started(Command::new(PROGRAM).arg("plan").arg(&long));
+    std::thread::sleep(Duration::from_millis(2500));
+    assert_eq!(quiet.try_wait().expect("its state"), None, "it has ended");
+    quiet.kill().expect("it can be stopped");
+    let ran = Ran::of(quiet.wait_with_output().expect("it ends"));
+    assert_eq!((ran.status, &ran.out[..], &ran.told[..]), (None, "", ""));
+}
+
+fn started(command: &mut Command) -> Child {
+    command
+        .stdin(Stdio::null())
+        .stdout(Stdio::piped())
+        .stderr(Stdio::piped())
+        .spawn()
+        .expect("it runs")
+}
+
+/// What a command writes up to some words. Then it is stopped.
+fn written_until(command: &mut Command, words: &str) -> String {
+    let mut child = started(command);
+    let mut out = child.stdout.take().expect("a pipe");
+    let mut written = String::new();
+    let mut part = [0; 100];
+    while !written.contains(words) {
+        let length = out.read(&mut part).expect("a pipe");
+        assert!(length > 0, "it has ended: {written}");
+        written += &String::from_utf8_lossy(&part[..length]);
+    }
+    child.kill().expect("it can be stopped");
+    child.wait().expect("it ends");
+    written
+}

@@ -1,0 +1,323 @@
+//! What explanations say in words: hints for the mistakes that people make, what was found, and each rule
+//! that a timetable breaks.
+
+mod refused;
+
+use gaugeviolet::{check, read, Explanation};
+use refused::{explained, FILE, TIMETABLE};
+
+/// Holds that an explanation gives exactly these hints, each told by some of its words.
+fn hold_hints(explanation: &Explanation, hints: &[&str]) {
+    let told = &explanation.hints;
+    let right = told
+        .iter()
+        .zip(hints)
+        .all(|(told, hint)| told.contains(hint));
+    assert!(
+        right && told.len() == hints.len(),
+        "{told:?}, not {hints:?}"
+    );
+}
+
+/// The file with something else in it, which is then refused with these hints.
+fn hinted(from: &str, to: &str, hints: &[&str]) {
+    hinted_bytes(FILE.replacen(from, to, 1).as_bytes(), hints);
+}
+
+fn hinted_bytes(file: &[u8], hints: &[&str]) {
+    let refusal = read(file).expect_err("a mistake");
+    hold_hints(&explained(refusal, file, None), hints);
+}
+
+/// The same for the timetable.
+fn hinted_in_timetable(from: &str, to: &str, hints: &[&str]) {
+    let timetable = TIMETABLE.replacen(from, to, 1);
+    let refusal = check(FILE.as_bytes(), timetable.as_bytes()).expect_err(to);
+    let explanation = explained(refusal, FILE.as_bytes(), Some(timetable.as_bytes()));
+    hold_hints(&explanation, hints);
+}
+
+#[test]
+fn how_people_save() {
+    let segments = "line 1 says 3 stations, so line 5 is the number of segments";
+    hinted("3\n", "3\r\n", &["CR LF"]);
+    hinted("S 5 4\n", "S 5 4\r\n", &["CR LF"]);
+    hinted("2\n2\nS", "2\n2\r\nS", &["CR LF", segments]);
+    hinted_bytes(
+        FILE.replace('\n', "\r").as_bytes(),
+        &["carriage returns alone"],
+    );
+    hinted("3\n", "\u{feff}3\n", &["byte-order mark"]);
+    let wide = |first: &[u8], order: fn(u16) -> [u8; 2]| {
+        let bytes = FILE.encode_utf16().flat_map(order);
+        first.iter().copied().chain(bytes).collect::<Vec<u8>>()
+    };
+    hinted_bytes(&wide(b"\xff\xfe", u16::to_le_bytes), &["UTF-16"]);
+    hinted_bytes(&wide(b"\xfe\xff", u16::to_be_bytes), &["UTF-16"]);
+    hinted_bytes(&wide(b"", u16::to_le_bytes), &["UTF-16"]);
+    hinted_bytes(&wide(b"", u16::to_be_bytes), &["UTF-16"]);
+    hinted_bytes(b"", &["the file is empty"]);
+    hinted_bytes(b"refused 5 0\n", &["a refusal"]);
+    hinted("15 0 15\n", "15 0 15", &["press Enter"]);
+    hinted("15 0 15\n", "15 0 15\r", &["cannot be printed"]);
+    let end = "line 8 says 2 trains, so the file ends after line 10";
+    hinted("15 0 15\n", "15 0 15\n\n", &["blank line at the end", end]);
+    hinted(
+        "15 0 15\n",
+        "15 0 15\n \r\n",
+        &["blank line at the end", end],
+    );
+    hinted("20 0 20\n", "20 0 20\n\n", &["the line is empty"]);
+}
+
+#[test]
+fn what_people_type_between_fields() {
+    hinted("1 3 0", "1\t3 0", &["there is a tab; fields"]);
+    hinted("S 5 4\n", "S 5 4\t\n", &["a tab at the end of the line"]);
+    hinted("5 4\nD", "5  4\nD", &["two spaces"]);
+    hinted("S 5 4", "S 5 4 ", &["space at the end"]);
+    hinted("S 5 4\n", "S 5 4 \r\n", &["space at the end"]);
+    hinted("15 0 15", "15 0 15  ", &["space at the end"]);
+    hinted("200 1 20", " 200 1 20", &["two spaces"]);
+    let segment = "line 1 says 3 stations, so line 6 is segment 1";
+    hinted("S 5 4", " S 5 4", &["space at the beginning", segment]);
+    hinted("3 0 200", "3 0,200", &["there is a comma"]);
+    hinted("3 0 200", "3 0 1,200", &["there is a comma"]);
+    hinted("3 0 200", "3 0; 200", &["there is a semicolon"]);
+    hinted("3 0 200", "3 0\t200", &["there is a tab; fields"]);
+    hinted("20 0 20", "20\u{a0}0 20", &["not ASCII"]);
+    hinted("20 0 20", "2\u{0}0 0 20", &["cannot be printed"]);
+    hinted("20 0 20", "20\u{b}0 20", &["cannot be printed"]);
+}
+
+#[test]
+fn times_as_people_type_them() {
+    let midnight = "times are minutes from midnight; ";
+    for (typed, meant) in [
+        ("6:00", 360),
+        ("06:30", 390),
+        ("6.30", 390),
+        ("25h10", 1510),
+    ] {
+        let hint = format!("{midnight}write {meant}");
+        hinted("3 0 200", &format!("3 {typed} 200"), &[&hint]);
+        hinted_in_timetable("24 39", &format!("{typed} 39"), &[&hint]);
+    }
+    for typed in ["6:5", "6:00am", "49:00", "6:60", ":"] {
+        let hint = format!("{midnight}6:00 is written 360");
+        hinted("3 0 200", &format!("3 {typed} 200"), &[&hint]);
+    }
+    // As a number it would be another time.
+    let hint = "no leading zero; if a time of day is meant, write 390";
+    hinted("3 0 200", "3 0630 700", &[hint]);
+    hinted(
+        "3 0 200",
+        "3 0 3000",
+        &["minutes from midnight; those of the second day"],
+    );
+    hinted("20 0 20", "0:20 0 20", &["times are minutes; write 20"]);
+    hinted("20 0 20", "20.00 0 20", &["numbers are whole"]);
+    // A weight is no time.
+    hinted("200 1 20", "200 1:00 20", &[]);
+}
+
+#[test]
+fn what_people_type_for_a_field() {
+    hinted("20 0 20", "020 0 20", &["leading zero"]);
+    hinted("3 0 200", "3 00 200", &["leading zero"]);
+    hinted("20 0 20", "20000 0 20", &["too many digits"]);
+    hinted("20 0 20", "20 0 -20", &["no sign"]);
+    hinted("20 0 20", "20 O 20", &["a letter that looks like a digit"]);
+    hinted("1 3 0", "l 3 0", &["a letter that looks like a digit"]);
+    hinted("1 3 0", "Ascot 3 0", &[]);
+    hinted("1 3 0", "# 1 3 0", &["comments"]);
+    let segment = |line: u32, segment: u32| {
+        format!("line 1 says 3 stations, so line {line} is segment {segment}")
+    };
+    hinted("S 5", "s 5", &["capital letter", &segment(6, 1)]);
+    hinted(
+        "S 5",
+        "X 5",
+        &["a segment's line is its kind", &segment(6, 1)],
+    );
+    hinted(
+        "D 5 4\n",
+        "",
+        &["a segment's line is its kind", &segment(7, 2)],
+    );
+    hinted("S 5 4", "S 5", &["fewer fields"]);
+    hinted("S 5 4", "S 5 4 3", &["more fields"]);
+}
+
+#[test]
+fn too_many_and_too_few() {
+    let fields = |has: u32| {
+        format!("needs 2 runs and 1 stop after its weight (run stop run .. run), 8 fields in all; the line has {has}")
+    };
+    hinted("20 0 20", "20 0", &["fewer fields", &fields(7)]);
+    hinted("20 0 20", "20 0 20 0 20", &["more fields", &fields(10)]);
+    hinted("20 0 20", "", &["fewer fields", &fields(5)]);
+    // Where the weight was left out a stop is taken for a run.
+    hinted("200 1 20 0 20", "200 20 0 20", &[&fields(7)]);
+    hinted(
+        "3 1 0 200 2 15 0 15\n",
+        "3 1 0",
+        &["the text ends within", &fields(3)],
+    );
+    let before = "the text ends before the field `train 2: latest`";
+    hinted("3 1 0 200 2 15 0 15\n", "3 1 0 ", &[before, &fields(3)]);
+    hinted("3\n2", "4\n2", &["line 1 says 4 stations, so line 6"]);
+    let before = "the text ends before the field `train 3: origin`";
+    hinted(
+        "4\n2\n1",
+        "4\n3\n1",
+        &[before, "line 8 says 3 trains, and there are only 2"],
+    );
+    let end = "line 8 says 1 train, so the file ends after line 9";
+    hinted("4\n2\n1", "4\n1\n1", &[end]);
+}
+
+#[test]
+fn what_people_type_in_a_timetable() {
+    let times =
+        |has: u32| format!("a departure and an arrival for each, 4 numbers; the line has {has}");
+    hinted_in_timetable("20 40\n", "20 40\r\n", &["CR LF"]);
+    hinted_in_timetable("20 40", "20", &["fewer fields", &times(3)]);
+    hinted_in_timetable("20 40", "20 40 50", &["more fields", &times(5)]);
+    hinted_in_timetable("2\n0", "3\n0", &["the line file has 2 trains"]);
+    hinted_in_timetable("\n3\n", "\n2\n", &["a list for each segment, on D two"]);
+    let list = "line 6 is the list of segment 2, outbound";
+    hinted_in_timetable("1 1\n", "2 1\n", &["fewer fields", list]);
+    hinted_in_timetable("1 1\n", "1 1 2\n", &["more fields", list]);
+    hinted_in_timetable("1 1\n", "1 3\n", &[list]);
+    hinted_in_timetable("18\n", "1,018\n", &["there is a comma"]);
+    hinted_in_timetable("18\n", "18", &["press Enter"]);
+    hinted_in_timetable("18\n", "18\n\n", &["blank line at the end"]);
+}
+
+/// A line with one track at station 2, and a timetable for it that keeps every rule.
+const CLOSE: &str = "3\n2\n1\n2\n2\nS 5 4\nD 6 4\n3\n1 3 10 200 1 20 5 20\n3 1 10 200 2 15 0 15\n\
+                     1 3 10 300 1 20 0 20\n";
+const KEPT: &str = "3\n10 30 35 55\n25 40 40 55\n59 79 79 99\n3\n3 1 2 3\n2 1 3\n1 2\n79\n";
+
+/// Holds what is said of that timetable with something else in it: number and place, then the line, the
+/// marked bytes, what was found and what is allowed.
+fn broken(from: &str, to: &str, refused: (u32, u32), marked: (usize, &str), told: [&str; 2]) {
+    let timetable = KEPT.replacen(from, to, 1);
+    let refusal = check(CLOSE.as_bytes(), timetable.as_bytes()).expect_err(to);
+    assert_eq!((refusal.number, refusal.place), refused, "{to}");
+    let explanation = explained(refusal, CLOSE.as_bytes(), Some(timetable.as_bytes()));
+    let quotation = explanation.quotation.as_ref().expect("a line");
+    let begin = quotation.column - 1;
+    let part = &quotation.bytes[begin..begin + quotation.width];
+    assert_eq!(
+        (quotation.line, part),
+        (marked.0, marked.1.as_bytes()),
+        "{to}"
+    );
+    assert_eq!([&explanation.found[..], &explanation.allowed], told, "{to}");
+    hold_hints(&explanation, &[]);
+}
+
+#[test]
+fn broken_rules_of_a_train() {
+    assert_eq!(check(CLOSE.as_bytes(), KEPT.as_bytes()), Ok(()));
+    let told = ["minute 9 (00:09)", "at or after minute 10 (00:10)"];
+    broken("10 30", "9 29", (10, 1), (2, "9"), told);
+    let told = [
+        "minute 98 (01:38)",
+        "minute 99 (01:39): departure plus the run of 20 minutes",
+    ];
+    broken("79 99", "79 98", (11, 3), (4, "98"), told);
+    let told = [
+        "minute 34 (00:34)",
+        "at or after minute 35 (00:35): arrival plus the stop of 5",
+    ];
+    broken("35 55", "34 54", (12, 1), (2, "34"), told);
+    let told = ["minute 201 (03:21)", "at or before minute 200 (03:20)"];
+    broken("40 55", "186 201", (13, 2), (3, "201"), told);
+}
+
+#[test]
+fn broken_rules_between_trains() {
+    let told = [
+        "on segment 1 train 1 from 00:10 to 00:30 and train 3 from 00:34 to 00:54",
+        "one departs 5 minutes or more after the other's arrival",
+    ];
+    broken("59 79 79 99", "34 54 54 74", (14, 1), (4, "34"), told);
+    // The train that departs later is marked, although its number is the lower.
+    let told = [
+        "on segment 1 train 1 from 00:58 to 01:18 and train 2 from 00:40 to 00:55",
+        "one departs 4 minutes or more after the other's arrival",
+    ];
+    broken("10 30 35 55", "58 78 83 103", (14, 1), (2, "58"), told);
+    let told = [
+        "on segment 2 train 1 from 01:15 to 01:35 and train 3 from 01:19 to 01:39",
+        "one departs and arrives 6 minutes or more after the other",
+    ];
+    broken("35 55", "75 95", (14, 2), (4, "79"), told);
+    let told = [
+        "at minute 38 (00:38) trains 1, 2 stand at station 2",
+        "1 train, as the station has 1 track",
+    ];
+    broken("35 55\n25 40", "38 58\n23 38", (15, 2), (3, "38"), told);
+}
+
+#[test]
+fn wrong_lists_and_totals() {
+    let told = [
+        "trains 2, 1, 3",
+        "trains 1, 2, 3, by departure on segment 1",
+    ];
+    broken("3 1 2 3", "3 2 1 3", (16, 1), (6, "2"), told);
+    let told = [
+        "train 1",
+        "trains 1, 3, by departure on segment 2, outbound",
+    ];
+    broken("2 1 3", "1 1", (16, 2), (7, "1"), told);
+    let told = ["no train", "train 2, by departure on segment 2, inbound"];
+    broken("1 2\n79", "0\n79", (16, 3), (8, "0"), told);
+    let told = ["78", "79, the sum of weight times delay"];
+    broken("79\n", "78\n", (17, 0), (9, "78"), told);
+}
+
+/// What was found is told with an escape for what cannot be printed, and is cut where it is long.
+#[test]
+fn what_was_found() {
+    let found = |to: &str| {
+        let file = FILE.replacen("20 0 20", to, 1);
+        let refusal = read(file.as_bytes()).expect_err(to);
+        explained(refusal, file.as_bytes(), None).found
+    };
+    assert_eq!(found("20\t0 20"), "`20\\t0`");
+    assert_eq!(found("2\u{0}0 0 20"), "`2\\x000`");
+    assert_eq!(found("\"20\" 0 20"), "`\"20\"`");
+    assert_eq!(found(&"7".repeat(40)), format!("`{}`", "7".repeat(40)));
+    assert_eq!(found(&"7".repeat(41)), format!("`{}...`", "7".repeat(40)));
+    assert_eq!(found("20 0"), "the end of the line");
+    assert_eq!(found(""), "the end of the line");
+    assert_eq!(found(" 20 0 20"), "a space");
+}
+
+#[test]
+fn a_long_line_is_cut_around_the_mark() {
+    let file = format!("{}x\n", "1 ".repeat(200));
+    let refusal = read(file.as_bytes()).expect_err("no number of stations");
+    let told = explained(refusal, file.as_bytes(), None).to_string();
+    assert!(told.lines().all(|line| line.len() <= 90), "{told}");
+    let file = "7".repeat(3000);
+    let refusal = read(file.as_bytes()).expect_err("no number of stations");
+    let told = explained(refusal, file.as_bytes(), None).to_string();
+    assert!(told.lines().all(|line| line.len() <= 90), "{told}");
+    let row = format!("2\n1\n1\n1\nS 5 4\n1\n1 2 0 9 1 {}\n", "10 ".repeat(60));
+    let refusal = read(row.as_bytes()).expect_err("too many runs");
+    let explanation = explained(refusal, row.as_bytes(), None);
+    let told = explanation.to_string();
+    let (quoted, mark) = (told.lines().nth(1).unwrap(), told.lines().nth(2).unwrap());
+    assert!(quoted.ends_with("...") && mark.ends_with('^'), "{told}");
+    assert_eq!(
+        quoted.as_bytes()[mark.len() - 1],
+        b' ',
+        "the mark is under a space: {told}"
+    );
+}

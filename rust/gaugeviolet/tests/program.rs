@@ -1,0 +1,217 @@
+//! The answers and refusals of the subcommands, as a user gets them.
+
+#[allow(dead_code, reason = "other tests use the rest of it")]
+mod run;
+
+use std::ffi::OsStr;
+use std::path::Path;
+
+use independent::rules::{lists, Lane};
+use inputs::{planned, sizes, Pair, Random, Traffic};
+use run::{on, run, run_with, sample, sample_text, samples_with, written, COMMANDS};
+
+fn text(path: &Path) -> String {
+    std::fs::read_to_string(path).expect("a sample")
+}
+
+#[test]
+fn the_library_s_bytes_on_every_sample() {
+    let timetables = samples_with("timetable");
+    assert!(timetables.len() >= 13);
+    for (line, timetable) in &timetables {
+        let expected = text(timetable);
+        assert_eq!(run(&["plan".as_ref(), line.as_os_str()]).answer(), expected);
+        assert_eq!(
+            run(&["rewrite".as_ref(), line.as_os_str()]).answer(),
+            text(line)
+        );
+        let check = ["check".as_ref(), line.as_os_str(), timetable.as_os_str()];
+        assert_eq!(run(&check).answer(), "passed\n");
+    }
+}
+
+/// Holds that a command gives the stored refusal of a line file, by its status too, and names the file.
+fn hold_refused(command: &str, files: &[&OsStr], refused: &Path, told: &str) {
+    let ran = run(&[&[command.as_ref()], files].concat());
+    let expected = (Some(1), text(refused));
+    assert_eq!((ran.status, ran.out), expected, "{command}");
+    let name = format!("gaugeviolet: {}: ", files[0].display());
+    assert!(ran.told.starts_with(&name), "{}", ran.told);
+    assert!(ran.told.contains(told), "{}", ran.told);
+}
+
+#[test]
+fn every_command_refuses_what_the_library_refuses() {
+    for (line, refused) in samples_with("refused") {
+        for (command, least, _) in COMMANDS {
+            let files = [line.as_os_str(); 2];
+            hold_refused(command, &files[..least], &refused, "\nfound: ");
+        }
+    }
+}
+
+#[test]
+fn a_line_without_a_timetable() {
+    for (line, refused) in samples_with("plan-refused") {
+        let told = "no timetable keeps every rule\n";
+        for command in ["plan", "lists", "graph"] {
+            hold_refused(command, &[line.as_os_str()], &refused, told);
+        }
+        for command in ["read", "rewrite", "why"] {
+            run(&[command.as_ref(), line.as_os_str()]).answer();
+        }
+    }
+}
+
+/// What comes after `&&` is not done for a timetable that is refused.
+#[test]
+fn a_refused_timetable_is_not_published() {
+    let wrong = sample_text("a.timetable").replace("24 39", "24 38");
+    let wrong = written("wrong-run.timetable", wrong.as_bytes());
+    let line = sample("a.line");
+    for (command, ..) in COMMANDS.iter().filter(|(_, _, most)| *most == 2) {
+        let ran = run(&[command.as_ref(), line.as_os_str(), wrong.as_os_str()]);
+        assert_eq!(
+            (ran.status, &ran.out[..]),
+            (Some(1), "refused 11 2\n"),
+            "{command}"
+        );
+        let told = format!(
+            "gaugeviolet: {}: train 2: on one of its segments arrival less departure is not its run\n\
+             line 3 of the timetable, column 9, train 2: arrival on segment 1\n    \
+                 0 15 24 38\n            \
+                         ^^\n\
+             found: minute 38 (00:38)\n\
+             allowed: minute 39 (00:39): departure plus the run of 15 minutes\n",
+            wrong.display()
+        );
+        assert_eq!(ran.told, told);
+    }
+}
+
+#[test]
+fn a_line_in_words() {
+    let file = "2\n1\n12\n1\nF 5 4\n2\n1 2 360 1500 2 15\n2 1 1430 1440 0 20\n";
+    let words = "\
+2 stations, 1 segment, 2 trains
+
+station 1: 1 track
+station 2: 12 tracks
+
+segment 1, stations 1 to 2: F, single track, trains of one direction follow each other; \
+following gap 5, opposing gap 4
+
+train 1, outbound, station 1 to station 2, weight 2
+  departs 06:00 (minute 360) or later, arrives 01:00 day 2 (minute 1500) or earlier
+  alone on the line it takes 15 minutes, 1125 minutes to spare:
+    06:00 from station 1, 15 over segment 1, 06:15 at station 2
+
+train 2, inbound, station 2 to station 1, weight 0
+  departs 23:50 (minute 1430) or later, arrives 00:00 day 2 (minute 1440) or earlier
+  alone on the line it takes 20 minutes, which is too late:
+    23:50 from station 2, 20 over segment 1, 00:10 day 2 at station 1
+";
+    assert_eq!(run_with(&["read", "-"], file.as_bytes()).answer(), words);
+    let middle = on("read", &["saturday.line"]).answer();
+    let rows = "    \
+    10:15 from station 5, 8 over segment 4, 10:23 at station 4, stop 1
+    10:24 from station 4, 14 over segment 3, 10:38 at station 3, stop 1
+";
+    assert!(middle.contains(rows), "{middle}");
+}
+
+#[test]
+fn the_sheet_for_the_signallers() {
+    let file = "2\n1\n1\n1\nD 5 4\n3\n1 2 1430 2000 2 15\n1 2 1420 2000 0 5\n1 2 1439 2000 0 5\n";
+    let sheet = "\
+segment 1, stations 1 to 2 (D), outbound
+  train  2  outbound  departs 23:40        arrives 23:45
+  train  1  outbound  departs 23:50        arrives 00:05 day 2
+  train  3  outbound  departs 00:05 day 2  arrives 00:10 day 2
+
+segment 1, stations 1 to 2 (D), inbound
+  no train
+";
+    assert_eq!(run_with(&["lists", "-"], file.as_bytes()).answer(), sheet);
+    let given = on("lists", &["a.line", "a.timetable"]).answer();
+    assert_eq!(given, on("lists", &["a.line"]).answer());
+    assert!(given.contains("  train  2  inbound   departs 00:24        arrives 00:39\n"));
+}
+
+/// A minute as a time of day, apart from the crate's.
+fn clock(minute: u16) -> String {
+    let day = if minute < 1440 { "" } else { " day 2" };
+    format!("{:02}:{:02}{day}", minute / 60 % 24, minute % 60)
+}
+
+/// The numbers of each line of a timetable's text.
+fn rows(timetable: &[u8]) -> Vec<Vec<u16>> {
+    let text = std::str::from_utf8(timetable).expect("a text");
+    let row = |line: &str| {
+        line.split(' ')
+            .filter_map(|field| field.parse().ok())
+            .collect()
+    };
+    text.lines().map(row).collect()
+}
+
+/// The sheet of one order list as it is to be, worked from the texts.
+fn expected_sheet(
+    line: &independent::Line,
+    (p, lane): (usize, Lane),
+    rows: &[Vec<u16>],
+    list: usize,
+) -> String {
+    let lane = match lane {
+        Lane::Both => "",
+        Lane::Outbound => ", outbound",
+        Lane::Inbound => ", inbound",
+    };
+    let kind = char::from(line.segments[p].kind.letter());
+    let mut sheet = format!(
+        "segment {}, stations {} to {} ({kind}){lane}\n",
+        p + 1,
+        p + 1,
+        p + 2
+    );
+    let listed = &rows[2 + usize::from(line.train_count) + list][1..];
+    for &number in listed {
+        let train = &line.trains[usize::from(number) - 1];
+        let leg = (0..train.legs()).find(|&leg| train.segment(leg) == p);
+        let at = 2 * leg.expect("it goes there");
+        let minutes = &rows[usize::from(number)];
+        let direction = if train.outbound() {
+            "outbound"
+        } else {
+            "inbound "
+        };
+        let (departs, arrives) = (clock(minutes[at]), clock(minutes[at + 1]));
+        sheet += &format!(
+            "  train {number:>2}  {direction}  departs {departs:<11}  arrives {arrives}\n"
+        );
+    }
+    if listed.is_empty() {
+        sheet += "  no train\n";
+    }
+    sheet
+}
+
+#[test]
+fn sheets_of_every_size() {
+    let mut random = Random::new(61);
+    for (stations, trains) in sizes() {
+        let planned = planned(&mut random, stations, trains, Traffic::Mixed);
+        let Pair { file, timetable } = planned.pair();
+        let (line, rows) = (&planned.line, rows(&timetable));
+        let lists = lists(line).enumerate();
+        let expected: Vec<String> = lists
+            .map(|(at, list)| expected_sheet(line, list, &rows, at))
+            .collect();
+        let (file, timetable) = (
+            written("sheet.line", &file),
+            written("sheet.timetable", &timetable),
+        );
+        let lists = run(&["lists".as_ref(), file.as_os_str(), timetable.as_os_str()]);
+        assert_eq!(lists.answer(), expected.join("\n"));
+    }
+}

@@ -1,0 +1,168 @@
+//! The subcommand `why`: where trains wait, and which trains have no timetable.
+
+#[allow(dead_code, reason = "other tests use the rest of it")]
+mod run;
+
+use gaugeviolet::Line;
+use independent::rules::{free_arrival, last_arrival};
+use inputs::{planned, saturday, sizes, Pair, Random, Style, Traffic};
+use run::{on, run, run_with, sample_text, written, LONG};
+
+#[test]
+fn why_a_timetable_costs_what_it_does() {
+    let words = "\
+total weighted delay 18
+
+train 1 arrives 00:40, no delay
+
+train 2 arrives 00:39, delay 9 minutes, weight 2: 18
+  train 2 waits 9 minutes at station 2, from 00:15 to 00:24, for train 1 on segment 1
+";
+    assert_eq!(on("why", &["a.line"]).answer(), words);
+    assert_eq!(on("why", &["a.line", "a.timetable"]).answer(), words);
+}
+
+/// The delay of each train, worked apart; its waits are held elsewhere.
+#[test]
+fn delays_of_every_size() {
+    let mut random = Random::new(62);
+    for (stations, trains) in sizes() {
+        let planned = planned(&mut random, stations, trains, Traffic::Mixed);
+        let (line, minutes) = (&planned.line, &planned.minutes);
+        let delays = line.used_trains().iter().enumerate().map(|(i, train)| {
+            let late = u32::from(last_arrival(minutes, i, train)) - free_arrival(train);
+            (late, late * u32::from(train.weight))
+        });
+        let (delays, costs): (Vec<u32>, Vec<u32>) = delays.unzip();
+        let Pair { file, timetable } = planned.pair();
+        let (file, timetable) = (
+            written("why.line", &file),
+            written("why.timetable", &timetable),
+        );
+        let told = run(&["why".as_ref(), file.as_os_str(), timetable.as_os_str()]).answer();
+        let heads = told.lines().filter(|row| row.starts_with("train "));
+        let told_delays: Vec<(u32, u32)> = heads.map(told_delay).collect();
+        assert_eq!(
+            told_delays,
+            delays.into_iter().zip(costs.clone()).collect::<Vec<_>>()
+        );
+        let total = format!("total weighted delay {}\n", costs.iter().sum::<u32>());
+        assert!(told.starts_with(&total), "{told}");
+    }
+}
+
+/// The delay of a train and what it costs, as its row tells them.
+fn told_delay(row: &str) -> (u32, u32) {
+    let Some((_, delay)) = row.split_once(", delay ") else {
+        assert!(row.ends_with(", no delay"), "{row}");
+        return (0, 0);
+    };
+    let number = |text: &str| text.parse().expect("a number");
+    let (minutes, _) = delay.split_once(' ').expect("minutes");
+    let (_, cost) = delay.rsplit_once(": ").expect("a cost");
+    (number(minutes), number(cost))
+}
+
+/// Four trains: the first cannot be in time alone, the second and third not together; the fourth is in
+/// nobody's way.
+const WITHOUT: &str = "\
+2\n1\n1\n1\nS 5 4\n4\n1 2 0 9 1 10\n1 2 0 12 1 10\n2 1 0 12 1 10\n1 2 600 700 1 10\n";
+
+#[test]
+fn why_there_is_no_timetable() {
+    let words = "\
+no timetable keeps every rule
+
+train 1 cannot be in time even alone:
+  train 1: station 1 to station 2, departs 00:00 or later, alone it arrives 00:10, latest 00:09
+
+of the others, these 2 trains have no timetable together, and without any one of them there is one:
+  train 2: station 1 to station 2, departs 00:00 or later, alone it arrives 00:10, latest 00:12
+  train 3: station 2 to station 1, departs 00:00 or later, alone it arrives 00:10, latest 00:12
+";
+    assert_eq!(run_with(&["why", "-"], WITHOUT.as_bytes()).answer(), words);
+    let alone = WITHOUT
+        .replace("\n4\n", "\n2\n")
+        .replace("2 1 0 12 1 10\n1 2 600 700 1 10\n", "");
+    let told = run_with(&["why", "-"], alone.as_bytes()).answer();
+    assert!(
+        told.ends_with("\nwithout such trains there is a timetable\n"),
+        "{told}"
+    );
+}
+
+/// The trains that the rows of an answer begin with.
+fn named(rows: &str) -> Vec<u32> {
+    let rows = rows.lines().filter_map(|row| row.strip_prefix("  train "));
+    let numbers = rows.filter_map(|row| row.split_once(':'));
+    numbers
+        .map(|(number, _)| number.parse().expect("a number"))
+        .collect()
+}
+
+/// Drawn Saturdays without a timetable: the set has none, and without any one of its trains there is one.
+#[test]
+fn the_set_that_why_names() {
+    let mut random = Random::new(51);
+    let mut sizes = std::collections::BTreeSet::new();
+    for _ in 0..60 {
+        let line = saturday(&mut random, 8, 10, Style::PeakTight);
+        let file = independent::write(&line).expect("a line within the limits");
+        if gaugeviolet::plan(&file).is_ok() {
+            continue;
+        }
+        let told = run_with(&["why", "-"], &file).answer();
+        let (before, set) = told.split_once("these ").expect("a set");
+        assert_eq!(named(before), [], "each can be in time alone");
+        let set = named(set);
+        let line = Line::read(&file).expect("an accepted file");
+        let possible = |trains: &[u32]| gaugeviolet::plan(line.with_trains(trains).file()).is_ok();
+        assert!(!possible(&set), "{told}");
+        for left_out in &set {
+            let rest: Vec<u32> = set
+                .iter()
+                .copied()
+                .filter(|train| train != left_out)
+                .collect();
+            assert!(possible(&rest), "without train {left_out}: {told}");
+        }
+        sizes.insert(set.len());
+    }
+    println!("sets of {sizes:?} trains");
+    assert!(sizes.len() >= 2, "{sizes:?}");
+}
+
+#[test]
+fn why_says_that_it_was_cut_short() {
+    let within = |file: &str| run_with(&["why", "--within", "0", "-"], file.as_bytes()).answer();
+    let told = within(WITHOUT);
+    assert!(told.contains("train 1 cannot be in time even alone"));
+    let unknown =
+        "whether there is a timetable without such trains was not known within 0 seconds\n";
+    assert!(told.ends_with(unknown), "{told}");
+    let told = within(&sample_text("e5.line"));
+    assert!(
+        told.contains("these 2 trains have no timetable together:\n"),
+        "{told}"
+    );
+    let short =
+        "cut short: whether they have one without train 1 or without train 2 was not known \
+                 within 0 seconds\n";
+    assert!(told.ends_with(short), "{told}");
+}
+
+/// It ends in time although the search of a trial goes on.
+#[test]
+fn why_ends_while_a_search_goes_on() {
+    let (before, last) = LONG.trim_end().rsplit_once('\n').expect("lines");
+    let mut fields: Vec<&str> = last.split(' ').collect();
+    // Its latest arrival.
+    fields[3] = "0";
+    let file = format!("{before}\n{}\n", fields.join(" "));
+    let told = run_with(&["why", "--within", "1", "-"], file.as_bytes()).answer();
+    assert!(
+        told.contains("\ntrain 12 cannot be in time even alone:\n"),
+        "{told}"
+    );
+    assert!(told.ends_with("was not known within 1 second\n"), "{told}");
+}
