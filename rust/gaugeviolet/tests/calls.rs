@@ -67,10 +67,13 @@ fn files_that_cannot_be_read() {
             hold_unread(ran, &file.display().to_string());
         }
     }
-    let (line, missing) = (sample("a.line"), sample("no-such.timetable"));
-    for command in ["check", "lists", "graph", "why"] {
-        let ran = run(&[command.as_ref(), line.as_os_str(), missing.as_os_str()]);
-        hold_unread(ran, &missing.display().to_string());
+    // Also where the line file would be refused.
+    let missing = sample("no-such.timetable");
+    for line in [sample("a.line"), sample("e13-13.line")] {
+        for command in ["check", "lists", "graph", "why"] {
+            let ran = run(&[command.as_ref(), line.as_os_str(), missing.as_os_str()]);
+            hold_unread(ran, &missing.display().to_string());
+        }
     }
 }
 
@@ -96,6 +99,7 @@ fn usage_that_is_wrong() {
     wrong_usage(&["publish"], "there is no command publish");
     wrong_usage(&["help", "publish"], "there is no command publish");
     wrong_usage(&["help", "read", "plan"], "help takes one command");
+    wrong_usage(&["--version", "a.line"], "--version stands alone");
     for (command, least, most) in COMMANDS {
         let files = ["a.line"; 3];
         wrong_usage(&[&[command], &files[..least - 1]].concat(), " needs LINE");

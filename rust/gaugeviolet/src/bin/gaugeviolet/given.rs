@@ -48,16 +48,15 @@ pub fn line(file: &Named) -> Result<Line, Failure> {
     Line::read(&file.bytes).map_err(|refusal| Failure::refused(refusal, file, None))
 }
 
-/// The timetable that the arguments name after the line file, or the best one of the line.
+/// The timetable that the arguments name after the line file, or the best one of the line. Both files are
+/// read before either is judged.
 pub fn timetable(arguments: &Arguments) -> Result<Timetable, Failure> {
     let file = bytes(arguments.file(0))?;
+    let given = arguments.optional_file(1).map(bytes).transpose()?;
     let line = line(&file)?;
-    match arguments.optional_file(1) {
-        Some(name) => {
-            let given = bytes(name)?;
-            Timetable::read(&line, &given.bytes)
-                .map_err(|refusal| Failure::refused(refusal, &file, Some(&given)))
-        }
+    match given {
+        Some(given) => Timetable::read(&line, &given.bytes)
+            .map_err(|refusal| Failure::refused(refusal, &file, Some(&given))),
         None => {
             let best = planning::best(&file.bytes);
             let best = best.map_err(|refusal| Failure::refused(refusal, &file, None))?;

@@ -32,9 +32,13 @@ pub fn run(arguments: &[OsString]) -> Result<Vec<u8>, Failure> {
     };
     match name.to_str() {
         Some("help" | "--help" | "-h") => help::help(rest),
-        Some("--version" | "-V") => {
+        Some("--version" | "-V") if rest.is_empty() => {
             Ok(format!("gaugeviolet {}\n", env!("CARGO_PKG_VERSION")).into())
         }
+        Some("--version" | "-V") => Err(Failure::usage(
+            "--version stands alone",
+            "gaugeviolet --version",
+        )),
         name => {
             let command = find(name).ok_or_else(|| unknown(&arguments[0]))?;
             match parse(command, rest)? {
