@@ -58,13 +58,13 @@ fn a_full_disk() {
 }
 
 /// Starts it so that it does not ignore interrupts, as it would where these tests run in the background.
-fn interruptible(arguments: &[&OsStr]) -> Child {
+fn interruptible(arguments: &[&OsStr], out: Stdio) -> Child {
     Command::new("env")
         .arg("--default-signal=INT")
         .arg(PROGRAM)
         .args(arguments)
         .stdin(Stdio::piped())
-        .stdout(Stdio::piped())
+        .stdout(out)
         .stderr(Stdio::piped())
         .spawn()
         .expect("the program runs")
@@ -76,13 +76,31 @@ fn an_interrupt_says_what_was_going_on() {
     let planning = ["plan".as_ref(), long.as_os_str()];
     let reading = ["read".as_ref(), "-".as_ref()];
     // Beside the main thread there is one that watches; planning has two more.
-    hold_interrupted(&planning, 4, "looking for the best timetable");
-    hold_interrupted(&reading, 2, "reading standard input");
+    let planning = interruptible(&planning, Stdio::piped());
+    hold_interrupted(planning, 4, "looking for the best timetable");
+    let reading = interruptible(&reading, Stdio::piped());
+    hold_interrupted(reading, 2, "reading standard input");
+}
+
+/// Where nobody reads the answer it is still being written.
+#[test]
+fn an_interrupt_while_the_answer_is_written() {
+    let (_reader, full) = std::io::pipe().expect("a pipe");
+    let to_full = || full.try_clone().expect("the same pipe");
+    let mut filling = Command::new("yes")
+        .stdout(to_full())
+        .spawn()
+        .expect("a program that writes on and on");
+    let line = sample("a.line");
+    std::thread::sleep(Duration::from_millis(500));
+    let writing = interruptible(&["read".as_ref(), line.as_os_str()], to_full().into());
+    hold_interrupted(writing, 2, "writing the answer");
+    filling.kill().expect("it can be stopped");
+    filling.wait().expect("it ends");
 }
 
 /// Holds what an interrupt makes it say, once it has so many threads.
-fn hold_interrupted(arguments: &[&OsStr], threads: u32, doing: &str) {
-    let mut child = interruptible(arguments);
+fn hold_interrupted(mut child: Child, threads: u32, doing: &str) {
     let stdin = child.stdin.take();
     wait_until_it_watches(child.id(), threads);
     let kill = Command::new("kill")
@@ -96,7 +114,7 @@ fn hold_interrupted(arguments: &[&OsStr], threads: u32, doing: &str) {
     assert_eq!(ran.out, "");
     let begins = format!("\ngaugeviolet: interrupted while {doing}, after ");
     assert!(ran.told.starts_with(&begins), "{}", ran.told);
-    let ends = " s; there is no answer\n";
+    let ends = " s; there is no whole answer\n";
     assert!(ran.told.ends_with(ends), "{}", ran.told);
 }
 

@@ -68,7 +68,7 @@ fn end_when_told(mut pipe: PipeReader) {
     });
     let _ = writeln!(
         io::stderr(),
-        "\ngaugeviolet: interrupted while {doing}, after {seconds} s; there is no answer"
+        "\ngaugeviolet: interrupted while {doing}, after {seconds} s; there is no whole answer"
     );
     // SAFETY: both take numbers alone. The program ends by the signal, so that a shell knows of it.
     unsafe {

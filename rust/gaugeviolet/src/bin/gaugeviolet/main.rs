@@ -30,6 +30,7 @@ fn main() -> ExitCode {
 
 /// Writes the answer, then what is for people. A reader who has closed the pipe has what he wanted.
 fn finish(answer: &[u8], words: &str, status: u8) -> ExitCode {
+    interrupt::going_on("writing the answer");
     let mut out = io::stdout().lock();
     let written = out.write_all(answer).and_then(|()| out.flush());
     match written {
