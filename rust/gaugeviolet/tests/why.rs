@@ -151,18 +151,36 @@ fn why_says_that_it_was_cut_short() {
     assert!(told.ends_with(short), "{told}");
 }
 
+/// A line whose planning takes longer than any test, with some of its trains altered: by their numbers,
+/// what stands on their lines.
+fn long_with(trains: &[(usize, &str)]) -> String {
+    let mut lines: Vec<&str> = LONG.lines().collect();
+    let before = lines.len() - 12;
+    for &(number, line) in trains {
+        lines[before + number - 1] = line;
+    }
+    lines.join("\n") + "\n"
+}
+
 /// It ends in time although the search of a trial goes on.
 #[test]
 fn why_ends_while_a_search_goes_on() {
-    let (before, last) = LONG.trim_end().rsplit_once('\n').expect("lines");
-    let mut fields: Vec<&str> = last.split(' ').collect();
-    // Its latest arrival.
-    fields[3] = "0";
-    let file = format!("{before}\n{}\n", fields.join(" "));
+    let file = long_with(&[(12, "2 1 0 0 1 10")]);
     let told = run_with(&["why", "--within", "1", "-"], file.as_bytes()).answer();
     assert!(
         told.contains("\ntrain 12 cannot be in time even alone:\n"),
         "{told}"
     );
     assert!(told.ends_with("was not known within 1 second\n"), "{told}");
+}
+
+/// Without train 1 the search goes on and on while the others are there; without them it is short.
+#[test]
+fn a_trial_that_was_cut_short_is_made_again() {
+    let file = long_with(&[(1, "1 2 0 12 1 10"), (12, "2 1 0 12 1 10")]);
+    let told = run_with(&["why", "--within", "6", "-"], file.as_bytes()).answer();
+    let set =
+        "these 2 trains have no timetable together, and without any one of them there is one:\n";
+    assert!(told.contains(set), "{told}");
+    assert_eq!(named(&told), [1, 12]);
 }

@@ -149,22 +149,29 @@ impl Search<'_> {
         Some(planned.is_ok())
     }
 
-    /// Leaves out one train after another of a set that has no timetable.
+    /// Leaves out one train after another of a set that has no timetable. Where a trial was cut short and
+    /// time is left after the others, it is tried again: among fewer trains it is shorter.
     fn smallest(&self, mut trains: Vec<u32>) -> Others {
+        let mut untried = trains.clone();
+        while !untried.is_empty() && Instant::now() < self.end {
+            untried = self.round(&mut trains, &untried);
+        }
+        Others::Set { trains, untried }
+    }
+
+    /// Leaves out each of some trains of the set, and gives those of which it was not known in time whether
+    /// the rest has a timetable.
+    fn round(&self, trains: &mut Vec<u32>, tried: &[u32]) -> Vec<u32> {
         let mut untried = Vec::new();
-        let all = trains.clone();
-        for (at, &train) in all.iter().enumerate() {
-            let rest: Vec<u32> = trains
-                .iter()
-                .copied()
-                .filter(|&other| other != train)
-                .collect();
-            match self.possible(&rest, all.len() - at) {
+        for (at, &train) in tried.iter().enumerate() {
+            let mut rest = trains.clone();
+            rest.retain(|&other| other != train);
+            match self.possible(&rest, tried.len() - at) {
                 Some(true) => {}
-                Some(false) => trains = rest,
+                Some(false) => *trains = rest,
                 None => untried.push(train),
             }
         }
-        Others::Set { trains, untried }
+        untried
     }
 }
