@@ -103,7 +103,7 @@ fn times_as_people_type_them() {
         hinted("3 0 200", &format!("3 {typed} 200"), &[&hint]);
         hinted_in_timetable("24 39", &format!("{typed} 39"), &[&hint]);
     }
-    for typed in ["6:5", "6:00am", "49:00", "6:60", ":"] {
+    for typed in ["6:5", "6:00am", "49:00", "6:60", ":", "6am", "630PM"] {
         let hint = format!("{midnight}6:00 is written 360");
         hinted("3 0 200", &format!("3 {typed} 200"), &[&hint]);
     }

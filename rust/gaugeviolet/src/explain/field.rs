@@ -3,7 +3,8 @@
 use std::fmt;
 
 /// A field, by what it says. Trains, stations, segments and order lists count from 1, and so do the
-/// places of trains in an order list.
+/// places of trains in an order list. Later versions know more.
+#[non_exhaustive]
 #[derive(Clone, Copy, Debug, PartialEq, Eq, Hash)]
 #[allow(missing_docs, reason = "each name says it, and `Display` in words")]
 pub enum Field {

@@ -91,8 +91,8 @@ impl<'a> Typed<'a> {
                 "a number has no leading zero; if a time of day is meant, write {minutes}"
             ));
         }
-        let colon = self.has(b':');
-        colon.then(|| "times are minutes from midnight; 6:00 is written 360".into())
+        let on_a_clock = self.has(b':') || is_half_day(text);
+        on_a_clock.then(|| "times are minutes from midnight; 6:00 is written 360".into())
     }
 
     /// Hours and minutes where so many minutes are due.
@@ -151,6 +151,13 @@ impl<'a> Typed<'a> {
         let begins = self.token.starts_with(b"#") || self.token.starts_with(b"//");
         begins.then(|| "comments are not allowed".into())
     }
+}
+
+/// Whether it is hours with the half of the day, such as `6am`.
+fn is_half_day(text: &str) -> bool {
+    let text = text.to_ascii_lowercase();
+    let hours = text.strip_suffix("am").or(text.strip_suffix("pm"));
+    hours.is_some_and(|hours| hours.starts_with(|first: char| first.is_ascii_digit()))
 }
 
 /// The minutes of a time of day with one of these between hours and minutes.
