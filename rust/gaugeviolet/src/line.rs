@@ -100,12 +100,18 @@ impl Train {
     }
 
     /// The minutes that a leg takes.
+    ///
+    /// # Panics
+    /// Where there is no such leg.
     pub fn run(&self, leg: usize) -> u32 {
         self.journey[2 * leg]
     }
 
     /// The minutes of its stop before a leg, at a middle station of its path. Before the first leg
     /// there is none.
+    ///
+    /// # Panics
+    /// Where there is no such leg.
     pub fn stop(&self, leg: usize) -> u32 {
         match leg {
             0 => 0,

@@ -104,6 +104,9 @@ impl Timetable {
     }
 
     /// The minutes of a train on a segment, if it goes there.
+    ///
+    /// # Panics
+    /// Where there is no such train.
     pub fn leg_on(&self, train: u32, segment: u32) -> Option<Leg> {
         let path = self.line.train(train);
         let mut legs = 0..path.legs();
@@ -127,11 +130,17 @@ impl Timetable {
     }
 
     /// When a train is at its destination.
+    ///
+    /// # Panics
+    /// Where there is no such train.
     pub fn last_arrival(&self, train: u32) -> u32 {
         self.legs(train).last().expect("a train has legs").arrival
     }
 
     /// How much later a train is at its destination than it would be alone on the line.
+    ///
+    /// # Panics
+    /// Where there is no such train.
     pub fn delay(&self, train: u32) -> u32 {
         let free = self.line.train(train).free_arrival();
         self.last_arrival(train).saturating_sub(free)
