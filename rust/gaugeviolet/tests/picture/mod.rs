@@ -456,7 +456,7 @@ impl Shown<'_> {
         }
     }
 
-    /// Every text begins and every line ends on the page.
+    /// Every text and every line is on the page as a whole.
     fn within_the_page(&self, page: &Element) {
         let across = 0..=page.number("width");
         let down = 0..=page.number("height");
@@ -465,6 +465,11 @@ impl Shown<'_> {
                 if element.attributes.contains_key(name) {
                     assert!(range.contains(&element.number(name)), "{element:?}");
                 }
+            }
+            if element.name == "text" {
+                let [x, _, width, _] = words_box(element);
+                assert!(across.contains(&x), "{element:?}");
+                assert!(across.contains(&(x + width)), "{element:?}");
             }
         }
     }
@@ -488,9 +493,10 @@ fn overlap(one: &[i64; 4], other: &[i64; 4]) -> bool {
     !beside && !above
 }
 
-/// The room that a text takes at least, with letters of 6 pixels by 9.
+/// The room that a text takes at least, with letters of 6 pixels by 9; those of a segment are smaller.
 fn words_box(text: &Element) -> [i64; 4] {
-    let width = 6 * text.text.len() as i64;
+    let letter = if text.has_class("segment") { 5 } else { 6 };
+    let width = letter * text.text.len() as i64;
     let left = match text.value("text-anchor") {
         "start" => 0,
         "middle" => width / 2,
