@@ -3,6 +3,8 @@
 #[allow(dead_code, reason = "other tests use the rest of it")]
 mod run;
 
+use std::time::Instant;
+
 use gaugeviolet::Line;
 use independent::rules::{free_arrival, last_arrival};
 use inputs::{planned, saturday, sizes, Pair, Random, Style, Traffic};
@@ -166,12 +168,14 @@ fn long_with(trains: &[(usize, &str)]) -> String {
 #[test]
 fn why_ends_while_a_search_goes_on() {
     let file = long_with(&[(12, "2 1 0 0 1 10")]);
+    let begun = Instant::now();
     let told = run_with(&["why", "--within", "1", "-"], file.as_bytes()).answer();
     assert!(
         told.contains("\ntrain 12 cannot be in time even alone:\n"),
         "{told}"
     );
     assert!(told.ends_with("was not known within 1 second\n"), "{told}");
+    assert!(begun.elapsed().as_secs() >= 1, "it has not tried so long");
 }
 
 /// Without train 1 the search goes on and on while the others are there; without them it is short.

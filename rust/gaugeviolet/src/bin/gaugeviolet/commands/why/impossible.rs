@@ -48,8 +48,8 @@ impl Impossible<'_> {
         let others: Vec<u32> = all.filter(|train| !alone.contains(train)).collect();
         let possible = match alone.is_empty() {
             true => Some(false),
-            // All else depends on this, so it has half of the time.
-            false => search.possible(&others, 2),
+            // All else depends on this, so it may take all of the time.
+            false => search.possible(&others, 1),
         };
         let others = match possible {
             Some(true) => Others::Possible,
