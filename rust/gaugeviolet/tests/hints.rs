@@ -56,6 +56,7 @@ fn how_people_save() {
     hinted_bytes(&wide(b"\xfe\xff", u16::to_be_bytes), &["UTF-16"]);
     hinted_bytes(&wide(b"", u16::to_le_bytes), &["UTF-16"]);
     hinted_bytes(&wide(b"", u16::to_be_bytes), &["UTF-16"]);
+    hinted_bytes(&[0; 100], &["cannot be printed"]);
     hinted_bytes(b"", &["the file is empty"]);
     hinted_bytes(b"refused 5 0\n", &["a refusal"]);
     hinted("15 0 15\n", "15 0 15", &["press Enter"]);

@@ -31,7 +31,7 @@ fn whole_text(text: &[u8]) -> Option<String> {
     let marked = text.starts_with(b"\xff\xfe") || text.starts_with(b"\xfe\xff");
     // Without a mark too, every other byte of UTF-16 is 0 where the characters are ASCII.
     let every_other = |from| text.len() > 1 && text.iter().skip(from).step_by(2).all(|&b| b == 0);
-    if marked || every_other(0) || every_other(1) {
+    if marked || every_other(0) != every_other(1) {
         return Some("the text is saved as UTF-16; save it as plain ASCII text".into());
     }
     if !text.contains(&b'\n') && text.contains(&b'\r') {
