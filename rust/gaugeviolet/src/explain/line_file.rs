@@ -85,14 +85,10 @@ fn train_line(
 fn journey(walker: &mut Walker, train: u32, origin: u32, destination: u32) -> Result<(), Fault> {
     let legs = origin.abs_diff(destination);
     for leg in 1..=legs {
-        let station = match origin < destination {
-            true => origin + leg,
-            false => origin - leg,
-        };
-        let segment = if origin < destination {
-            station - 1
-        } else {
-            station
+        // The station at which the leg ends.
+        let (station, segment) = match origin < destination {
+            true => (origin + leg, origin + leg - 1),
+            false => (origin - leg, origin - leg),
         };
         let run = Field::Run { train, segment };
         if leg == legs {

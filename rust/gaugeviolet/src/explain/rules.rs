@@ -191,11 +191,9 @@ fn tracks(timetable: &Timetable, station: u32) -> Option<Breach> {
     let crowded = |minute: u32| timetable.standing(station, minute).len() > tracks as usize;
     let &(first, _) = arrivals.iter().find(|&&(minute, _)| crowded(minute))?;
     let &(_, last) = arrivals.iter().rfind(|&&(minute, _)| minute == first)?;
-    let standing = timetable.standing(station, first);
-    let standing: Vec<String> = standing.iter().map(u32::to_string).collect();
     let path = timetable.line().train(last);
     let leg = (1..path.legs()).find(|&leg| path.station(leg) == station)?;
-    let (trains, has) = (counted(tracks, "train"), counted(tracks, "track"));
+    let (room, has) = (counted(tracks, "train"), counted(tracks, "track"));
     Some(Breach {
         field: Field::Arrival {
             train: last,
@@ -204,11 +202,11 @@ fn tracks(timetable: &Timetable, station: u32) -> Option<Breach> {
         line: last as usize + 1,
         at: 2 * leg - 1,
         found: format!(
-            "at {} trains {} stand at station {station}",
+            "at {} {} stand at station {station}",
             minute(first),
-            standing.join(", ")
+            trains(&timetable.standing(station, first))
         ),
-        allowed: format!("{trains}, as the station has {has}"),
+        allowed: format!("{room}, as the station has {has}"),
     })
 }
 
