@@ -49,6 +49,12 @@ fn input_without_end() {
     assert_eq!((ran.status, &ran.out[..]), (Some(1), "refused 1 0\n"));
     let told = "found: 4097 bytes\nallowed: at most 4096 bytes\n";
     assert!(ran.told.ends_with(told), "{}", ran.told);
+    let line = sample("a.line");
+    let ran = run(&["check".as_ref(), line.as_os_str(), long.as_os_str()]);
+    assert_eq!((ran.status, &ran.out[..]), (Some(1), "refused 7 0\n"));
+    let about = format!("gaugeviolet: {}: the timetable has more ", long.display());
+    assert!(ran.told.starts_with(&about), "{}", ran.told);
+    assert!(ran.told.ends_with(told), "{}", ran.told);
 }
 
 /// Holds that a file cannot be read, which is told by its name.

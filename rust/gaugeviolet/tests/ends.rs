@@ -4,12 +4,12 @@
 mod run;
 
 use std::ffi::OsStr;
-use std::io::Read;
+use std::io::{Read, Write};
 use std::os::unix::process::ExitStatusExt;
 use std::process::{Child, Command, Output, Stdio};
 use std::time::{Duration, Instant};
 
-use run::{sample, written, Ran, LONG, PROGRAM};
+use run::{long_with, sample, written, Ran, LONG, PROGRAM};
 
 /// More time than the start of a program takes on a busy machine.
 const LONG_ENOUGH: Duration = Duration::from_secs(30);
@@ -59,8 +59,13 @@ fn a_full_disk() {
 
 /// Starts it so that it does not ignore interrupts, as it would where these tests run in the background.
 fn interruptible(arguments: &[&OsStr], out: Stdio) -> Child {
+    started_by_env("--default-signal=INT", arguments, out)
+}
+
+/// Starts it with what `env` is to do about a signal before.
+fn started_by_env(signal: &str, arguments: &[&OsStr], out: Stdio) -> Child {
     Command::new("env")
-        .arg("--default-signal=INT")
+        .arg(signal)
         .arg(PROGRAM)
         .args(arguments)
         .stdin(Stdio::piped())
@@ -99,14 +104,34 @@ fn an_interrupt_while_the_answer_is_written() {
     filling.wait().expect("it ends");
 }
 
-/// Holds what an interrupt makes it say, once it has so many threads.
-fn hold_interrupted(mut child: Child, threads: u32, doing: &str) {
-    let stdin = child.stdin.take();
-    wait_until_it_watches(child.id(), threads);
+/// Where interrupts were to be ignored, as for work in the background, they stay so.
+#[test]
+fn an_interrupt_that_is_ignored() {
+    let reading = ["read".as_ref(), "-".as_ref()];
+    let mut child = started_by_env("--ignore-signal=INT", &reading, Stdio::piped());
+    let mut stdin = child.stdin.take().expect("a pipe");
+    wait_until_it_is_ready(child.id(), "SigIgn:", 2);
+    interrupt(&child);
+    std::thread::sleep(Duration::from_millis(500));
+    let line = std::fs::read(sample("a.line")).expect("a sample");
+    stdin.write_all(&line).expect("it still reads");
+    drop(stdin);
+    let words = Ran::of(ended(child)).answer();
+    assert!(words.starts_with("3 stations"), "{words}");
+}
+
+fn interrupt(child: &Child) {
     let kill = Command::new("kill")
         .args(["-INT", &child.id().to_string()])
         .status();
     assert!(kill.expect("kill runs").success());
+}
+
+/// Holds what an interrupt makes it say, once it has so many threads.
+fn hold_interrupted(mut child: Child, threads: u32, doing: &str) {
+    let stdin = child.stdin.take();
+    wait_until_it_is_ready(child.id(), "SigCgt:", threads);
+    interrupt(&child);
     let output = ended(child);
     drop(stdin);
     assert_eq!(output.status.signal(), Some(2), "{output:?}");
@@ -126,17 +151,18 @@ fn told_by_system(process: u32, name: &str) -> Option<String> {
     Some(value.trim().to_string())
 }
 
-/// Waits until a process catches interrupts and has so many threads, and a moment more.
-fn wait_until_it_watches(process: u32, threads: u32) {
+/// Waits until interrupts are among these signals of a process, which it catches or ignores, and it has so
+/// many threads, and a moment more.
+fn wait_until_it_is_ready(process: u32, signals: &str, threads: u32) {
     let end = Instant::now() + LONG_ENOUGH;
-    let watches = || {
-        let caught = told_by_system(process, "SigCgt:")?;
-        let caught = u64::from_str_radix(&caught, 16).ok()?;
+    let ready = || {
+        let signals = told_by_system(process, signals)?;
+        let signals = u64::from_str_radix(&signals, 16).ok()?;
         let running: u32 = told_by_system(process, "Threads:")?.parse().ok()?;
-        Some(caught & 1 << (2 - 1) != 0 && running >= threads)
+        Some(signals & 1 << (2 - 1) != 0 && running >= threads)
     };
-    while watches() != Some(true) {
-        assert!(Instant::now() < end, "it does not watch for interrupts");
+    while ready() != Some(true) {
+        assert!(Instant::now() < end, "no interrupts in {signals}");
         std::thread::sleep(Duration::from_millis(20));
     }
     std::thread::sleep(Duration::from_millis(500));
@@ -157,13 +183,7 @@ fn ended(mut child: Child) -> Output {
 #[test]
 fn long_work_shows_that_it_lives() {
     let long = written("lives.line", LONG.as_bytes());
-    // Where nothing is shown, it ends without what is waited for.
-    let command = format!(
-        "exec timeout --foreground 60 '{PROGRAM}' plan '{}'",
-        long.display()
-    );
-    let mut terminal = Command::new("script");
-    let shown = written_until(terminal.args(["-qec", &command, "/dev/null"]), ": 2 s");
+    let shown = shown_until(&format!("plan '{}'", long.display()), ": 2 s");
     assert!(
         shown.contains("\rlooking for the best timetable: 1 s"),
         "{shown}"
@@ -174,6 +194,30 @@ fn long_work_shows_that_it_lives() {
     quiet.kill().expect("it can be stopped");
     let ran = Ran::of(quiet.wait_with_output().expect("it ends"));
     assert_eq!((ran.status, &ran.out[..], &ran.told[..]), (None, "", ""));
+}
+
+/// The time is wiped away before the answer comes.
+#[test]
+fn the_time_gone_does_not_stay() {
+    let late = long_with(&[(12, "2 1 0 0 1 10")]);
+    let late = written("wiped.line", late.as_bytes());
+    let why = format!("why --within 2 '{}'", late.display());
+    let shown = shown_until(&why, "not known within");
+    assert!(
+        shown.contains("\rplanning 11 of the trains: 1 s"),
+        "{shown}"
+    );
+    assert!(
+        shown.contains(" s \r\x1b[Kno timetable keeps every rule\r\n"),
+        "{shown:?}"
+    );
+}
+
+/// What the program shows on a terminal, up to some words. Where these are not shown, it ends without.
+fn shown_until(arguments: &str, words: &str) -> String {
+    let command = format!("exec timeout --foreground 60 '{PROGRAM}' {arguments}");
+    let mut terminal = Command::new("script");
+    written_until(terminal.args(["-qec", &command, "/dev/null"]), words)
 }
 
 fn started(command: &mut Command) -> Child {

@@ -135,12 +135,36 @@ fn hold_delays(timetable: &Timetable) {
     }
 }
 
+/// Holds what each wait has: every reason once, and at a station only trains that are gone when the one that
+/// waits comes there.
+fn hold_reasons(timetable: &Timetable, wait: &Wait) {
+    for (at, reason) in wait.reasons.iter().enumerate() {
+        let told = wait.sentence();
+        assert!(!wait.reasons[..at].contains(reason), "{told}");
+        let Reason::Station { train, station } = *reason else {
+            continue;
+        };
+        let leaves = leg_from(timetable, train, station);
+        let ahead = leg_from(timetable, wait.train, wait.station);
+        let (gone, comes) = (
+            timetable.legs(train)[leaves].departure,
+            timetable.legs(wait.train)[ahead].arrival,
+        );
+        assert!(gone < comes, "{told}");
+    }
+}
+
+/// The leg on which a train leaves a station.
+fn leg_from(timetable: &Timetable, train: u32, station: u32) -> usize {
+    let path = timetable.line().train(train);
+    let leg = (0..path.legs()).find(|&leg| path.station(leg) == station);
+    leg.expect("it leaves there")
+}
+
 /// The text of a timetable with one departure of a train a minute earlier, and its arrival too. Lists and
 /// total stay, so that they may be what is refused.
 fn a_minute_earlier(timetable: &Timetable, text: &str, wait: &Wait) -> String {
-    let path = &timetable.line().trains()[wait.train as usize - 1];
-    let leg = (0..path.legs()).find(|&leg| path.station(leg) == wait.station);
-    let leg = leg.expect("it leaves there");
+    let leg = leg_from(timetable, wait.train, wait.station);
     let mut lines: Vec<String> = text.lines().map(str::to_string).collect();
     let mut fields: Vec<u16> = row(timetable, wait.train);
     fields[2 * leg] -= 1;
@@ -189,6 +213,7 @@ fn waits_of_the_best_timetable() {
         hold_delays(&timetable);
         let text = String::from_utf8(best).expect("a text");
         for wait in timetable.waits() {
+            hold_reasons(&timetable, &wait);
             let at_station = hold_wait_of_best(&timetable, &text, &wait);
             waits[usize::from(at_station)] += 1;
         }
@@ -211,6 +236,7 @@ fn waits_of_any_timetable() {
         let timetable = Timetable::read(&line, text.as_bytes()).expect("a timetable");
         hold_delays(&timetable);
         for wait in timetable.waits() {
+            hold_reasons(&timetable, &wait);
             kinds[kind_of_wait(&timetable, &text, &wait)] += 1;
         }
     }

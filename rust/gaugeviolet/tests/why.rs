@@ -8,7 +8,7 @@ use std::time::Instant;
 use gaugeviolet::Line;
 use independent::rules::{free_arrival, last_arrival};
 use inputs::{planned, saturday, sizes, Pair, Random, Style, Traffic};
-use run::{on, run, run_with, sample_text, written, LONG};
+use run::{long_with, on, run, run_with, sample_text, written};
 
 #[test]
 fn why_a_timetable_costs_what_it_does() {
@@ -151,17 +151,6 @@ fn why_says_that_it_was_cut_short() {
         "cut short: whether they have one without train 1 or without train 2 was not known \
                  within 0 seconds\n";
     assert!(told.ends_with(short), "{told}");
-}
-
-/// A line whose planning takes longer than any test, with some of its trains altered: by their numbers,
-/// what stands on their lines.
-fn long_with(trains: &[(usize, &str)]) -> String {
-    let mut lines: Vec<&str> = LONG.lines().collect();
-    let before = lines.len() - 12;
-    for &(number, line) in trains {
-        lines[before + number - 1] = line;
-    }
-    lines.join("\n") + "\n"
 }
 
 /// It ends in time although the search of a trial goes on.

@@ -21,6 +21,16 @@ pub const COMMANDS: [(&str, usize, usize); 7] = [
 /// A line whose planning takes longer than any test.
 pub const LONG: &str = include_str!("../deepest_search.line");
 
+/// The same with some of its trains altered: by their numbers, what stands on their lines.
+pub fn long_with(trains: &[(usize, &str)]) -> String {
+    let mut lines: Vec<&str> = LONG.lines().collect();
+    let before = lines.len() - 12;
+    for &(number, line) in trains {
+        lines[before + number - 1] = line;
+    }
+    lines.join("\n") + "\n"
+}
+
 /// What came of a run.
 #[derive(Debug, PartialEq, Eq)]
 pub struct Ran {
