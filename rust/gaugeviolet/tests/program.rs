@@ -118,6 +118,11 @@ train 2, inbound, station 2 to station 1, weight 0
     10:24 from station 4, 14 over segment 3, 10:38 at station 3, stop 1
 ";
     assert!(middle.contains(rows), "{middle}");
+    let segments = "
+segment 4, stations 4 to 5: S, single track, one train at a time; following gap 4, opposing gap 3
+segment 5, stations 5 to 6: D, double track; following gap 4
+";
+    assert!(middle.contains(segments), "{middle}");
 }
 
 #[test]
