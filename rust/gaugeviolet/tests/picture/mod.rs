@@ -259,7 +259,10 @@ impl Shown<'_> {
             let value = |name| element.value(name).to_string();
             (value("stroke"), value("stroke-dasharray"))
         };
-        let samples: Vec<_> = groups.map(|group| style(group)).collect();
+        let samples: Vec<_> = groups
+            .inspect(|group| hold_whole_pattern(group))
+            .map(|group| style(group))
+            .collect();
         assert_eq!(
             samples,
             ways.iter().map(|way| style(way)).collect::<Vec<_>>()
@@ -472,6 +475,18 @@ impl Shown<'_> {
                 assert!(across.contains(&(x + width)), "{element:?}");
             }
         }
+    }
+}
+
+/// Holds that the piece of a train's line in the table is long enough for all of its dashes.
+fn hold_whole_pattern(piece: &Element) {
+    let line = &piece.inside[0];
+    let length = line.number("x2") - line.number("x1");
+    let pattern = piece.value("stroke-dasharray");
+    if pattern != "none" {
+        let parts = split(pattern, ' ');
+        let dashes: i64 = parts[..parts.len() - 1].iter().sum();
+        assert!(length >= dashes, "{pattern} in {length} pixels");
     }
 }
 

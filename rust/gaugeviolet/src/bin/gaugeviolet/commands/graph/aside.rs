@@ -10,10 +10,12 @@ use super::svg::{element, group, line, text, Anchor, Attribute, Point};
 
 /// The room beside the graph, and that of the longest row there: the table of delays.
 const BESIDE: u32 = 40;
-pub const WIDTH: u32 = BESIDE + 430;
+pub const WIDTH: u32 = BESIDE + 438;
 
+/// The piece of a train's line in the table, which shows its whole pattern of dashes.
+const PIECE: u32 = 48;
 /// Where the columns of the table end. A time of the second day needs some 75 pixels.
-const COLUMNS: [u32; 6] = [64, 154, 244, 294, 354, 410];
+const COLUMNS: [u32; 6] = [72, 162, 252, 302, 362, 418];
 const NAMES: [&str; 6] = ["train", "arrives", "alone", "delay", "weight", "cost"];
 
 /// All of it, and where it ends at the bottom.
@@ -58,7 +60,7 @@ impl Column {
                 "sample",
                 Point { x: self.at.x, y },
                 Point {
-                    x: self.at.x + 40,
+                    x: self.at.x + PIECE,
                     y,
                 },
             );
