@@ -151,18 +151,19 @@ fn told_by_system(process: u32, name: &str) -> Option<String> {
     Some(value.trim().to_string())
 }
 
-/// Waits until interrupts are among these signals of a process, which it catches or ignores, and it has so
-/// many threads, and a moment more.
+/// Waits until interrupts are among these signals of a process, which it catches or ignores, it has so many
+/// threads and the first of them sleeps, and a moment more.
 fn wait_until_it_is_ready(process: u32, signals: &str, threads: u32) {
     let end = Instant::now() + LONG_ENOUGH;
     let ready = || {
         let signals = told_by_system(process, signals)?;
         let signals = u64::from_str_radix(&signals, 16).ok()?;
         let running: u32 = told_by_system(process, "Threads:")?.parse().ok()?;
-        Some(signals & 1 << (2 - 1) != 0 && running >= threads)
+        let sleeps = told_by_system(process, "State:")?.starts_with('S');
+        Some(signals & 1 << (2 - 1) != 0 && running >= threads && sleeps)
     };
     while ready() != Some(true) {
-        assert!(Instant::now() < end, "no interrupts in {signals}");
+        assert!(Instant::now() < end, "{signals} {threads} not seen");
         std::thread::sleep(Duration::from_millis(20));
     }
     std::thread::sleep(Duration::from_millis(500));
