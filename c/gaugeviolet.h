@@ -24,14 +24,14 @@ extern "C" {
  * timetable. */
 #define GAUGEVIOLET_TEXT_BYTES 4096
 
-/* Reads a line file: value 0, or refused with 1 to 4. */
+/* Reads a line file: value 0, or refused with 1 to 4 or 19. */
 uint64_t gaugeviolet_read(const uint8_t *file, size_t file_len);
 
 /* Reads a line file and writes its line out again to the front of `out`: the length of the text, or refused as by
  * gaugeviolet_read, then with 6 where `out` has fewer bytes than the text. */
 uint64_t gaugeviolet_rewrite(const uint8_t *file, size_t file_len, uint8_t *out, size_t out_len);
 
-/* Checks a timetable against its line file: value 0, or refused as by gaugeviolet_read, then with 7 to 17. */
+/* Checks a timetable against its line file: value 0, or refused as by gaugeviolet_read, then with 7 to 18. */
 uint64_t gaugeviolet_check(const uint8_t *file, size_t file_len, const uint8_t *timetable, size_t timetable_len);
 
 /* Solves a line file and writes its best timetable to the front of `out`: the length of the text, or refused as by

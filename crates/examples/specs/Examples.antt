@@ -7,21 +7,22 @@ use Rattle.finite.specs.Each.{Each}
 use Rattle.text.specs.Elements.Padded.{padded}
 use Rattle.text.specs.Elements.PaddedLaws.{padded-length, each-padded}
 use Rattle.text.specs.Reading.Limits.{boundedOf}
-use Rattle.finite.specs.Below.{first, all, count, sum, gather, table}
+use Rattle.finite.specs.Below.{first, all, count, sum, most, gather, table}
 use Rattle.line.specs.declared.Kind.{Kind}
 use Rattle.line.specs.declared.Segment.{Segment}
 use Rattle.line.specs.declared.Train.{Train}
 use Rattle.line.specs.declared.Line.{Line}
 use Rattle.line.specs.declared.writing.Fault.{Fault}
-use Rattle.line.specs.Record.{noSegment, noTrain}
+use Rattle.line.specs.Record.{noSegment, noTrain, noBooking}
 use Rattle.line.specs.Within.{TrainArrays, Arrays}
-use Rattle.line.specs.Writing.{numberFault, linesFault, timesFault, segmentFault, pathFault, headFault, trainFault, faultOf}
+use Rattle.line.specs.Writing.{numberFault, linesFault, timesFault, segmentFault, pathFault, headFault, trainFault, bookingFault, risingFault, trackFaultOf, trafficFaultOf, bookedFaultOf, faultOf}
 use Rattle.line.specs.WithinLaws.{within-of}
 use Rattle.rules.specs.declared.rules.Breach.{Breach}
 use Rattle.rules.specs.Statement.Paths.{segmentBetween}
 use Rattle.rules.specs.Statement.Rules.{Lawful, middle}
+use Rattle.rules.specs.Statement.Bookings.{floorOf}
 use Rattle.rules.specs.Statement.Delay.{freeAfter, weightedDelay}
-use Rattle.rules.specs.Check.Tests.{startsRight, runsRight, stopsRight, endsRight, keepsRule}
+use Rattle.rules.specs.Check.Tests.{startsRight, runsRight, stopsRight, bookedRight, endsRight, keepsRule}
 use Rattle.rules.specs.Conflict.Directions.{usesBetween, directionBetween, directionEntry, directionsOf}
 use Rattle.rules.specs.Conflict.Conflicts.{firstConflict, keepsAfter, neitherFirst, clash, partnerOf, pairOn, segmentConflict}
 use Rattle.rules.specs.Conflict.Conflicts.{standsIn, standingAt, earliestCrowd, inCrowd, crowdMask, crowdOn, stationConflict, conflictOf}
@@ -53,6 +54,7 @@ line-arrays ts gs rs h =
       segments = padded-length 11 noSegment gs;
       trains = padded-length 12 noTrain rs;
       each-train = each-padded TrainArrays 12 noTrain rs (refl, refl) h;
+      bookings = padded-length 120 noBooking [];
     }
 
 arrays-a : (n x y : ℕ) → Arrays (fileA n x y)
@@ -69,9 +71,9 @@ arrays-double = line-arrays _ _ _ (train-arrays 1 3 0 100 1 _ _, (train-arrays 3
 -- what the walk finds; to unfold it is to unfold all that it computes with
 unfoldable answerOf : Line → BestSoFar
 unfolding
-    first all count sum gather table padded boundedOf
-    numberFault linesFault timesFault segmentFault pathFault headFault trainFault faultOf
-    segmentBetween middle freeAfter weightedDelay endsRight keepsRule usesBetween directionBetween directionEntry directionsOf
+    first all count sum most gather table padded boundedOf
+    numberFault linesFault timesFault segmentFault pathFault headFault trainFault bookingFault risingFault trackFaultOf trafficFaultOf bookedFaultOf faultOf
+    segmentBetween middle floorOf freeAfter weightedDelay bookedRight endsRight keepsRule usesBetween directionBetween directionEntry directionsOf
     firstConflict keepsAfter neitherFirst clash partnerOf pairOn segmentConflict
     standsIn standingAt earliestCrowd inCrowd crowdMask crowdOn stationConflict conflictOf
     withinDays same next settle pull pullAll bit withBit change free also marked trainArcs chosenArcs arcs rounds least

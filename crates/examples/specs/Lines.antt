@@ -25,9 +25,9 @@ abbrev pub givenTrain : ℕ → ℕ → ℕ → ℕ → ℕ → List ℕ → Lis
 givenTrain o d e l w rs ss =
     record { origin = o; destination = d; earliest = e; latest = l; weight = w; runs = padded 11 0 rs; stops = padded 11 0 ss }
 
--- tracks, segments, trains
+-- tracks, segments, trains; no bookings
 abbrev pub givenLine : List ℕ → List Segment → List Train → Line
-givenLine ts gs rs = lineWith (length ts) (padded 12 0 ts) (padded 11 noSegment gs) (length rs) (padded 12 noTrain rs)
+givenLine ts gs rs = lineWith (length ts) (padded 12 0 ts) (padded 11 noSegment gs) (length rs) (padded 12 noTrain rs) []
 
 -- "departure and arrival for each segment in travel order": those of train i from its leg k on, put among the minutes m
 abbrev rowOf : Line → ℕ → ℕ → List ℕ → List ℕ → List ℕ

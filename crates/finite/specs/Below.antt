@@ -1,5 +1,6 @@
--- What a loop over the numbers below n finds: the first at which a test holds, whether it holds at all of them, at how many, and a sum.
-use Prim.Native.Nat.{ℕ, zero, suc, _+_, _≤_, _<_}
+-- What a loop over the numbers below n finds: the first at which a test holds, whether it holds at all of them, at how many, a sum, and
+-- the greatest.
+use Prim.Native.Nat.{ℕ, zero, suc, _+_, _≤_, _<_, max}
 use mathlib.Core.Path.{_≡_}
 use mathlib.Core.Bool.{Bool, true, false, cond, _&&_}
 use mathlib.Core.Option.{Option, some, none}
@@ -46,6 +47,11 @@ count f (suc n) = count f n + cond (f n) 1 0
 unfoldable pub sum : (ℕ → ℕ) → ℕ → ℕ
 sum f zero = 0
 sum f (suc n) = sum f n + f n
+
+-- the greatest of what is below n, or 0
+unfoldable pub most : (ℕ → ℕ) → ℕ → ℕ
+most f zero = 0
+most f (suc n) = max (most f n) (f n)
 
 -- what an answer of `first` says
 abbrev pub IsFirst : (ℕ → Bool) → ℕ → Option ℕ → Type 0

@@ -10,7 +10,7 @@ use native.Mathlib.Omega.{arith}
 use lib.Dec.{leb, ltb}
 use lib.ListN.{length, getD, length-append}
 use borrow.Author.Tests.{leb-true, leb-false, lt-ltb, le-ltb}
-use Rattle.finite.specs.Below.{EachBelow, gather, table, count, sum}
+use Rattle.finite.specs.Below.{EachBelow, gather, table, count, sum, most}
 use Rattle.finite.specs.LoopLaws.{each-more}
 use Rattle.finite.specs.Each.{Each}
 use Rattle.finite.specs.EachLaws.{each-append, each-parts}
@@ -144,3 +144,20 @@ pub table-size : (f : ℕ → ℕ) (n : ℕ) → length (table f n) ≡ n
 unfolding table
 table-size f zero = refl
 table-size f (suc n) = ap suc (table-size (λ e. f (suc e)) n)
+
+-- ---- the greatest
+
+-- none below n is over it
+pub most-over : (f : ℕ → ℕ) (n j : ℕ) → j < n → f j ≤ most f n
+unfolding most
+most-over f zero j b = absurd (omega arith)
+most-over f (suc n) j b = elim (decLt j n) [
+  | yes h ↦ omega (arith, most-over f n j h)
+  | no h ↦ (let same : j ≡ n = omega arith in rw same (omega arith))
+]
+
+-- it is at most what all of them are at most
+pub most-least : (f : ℕ → ℕ) (n x : ℕ) → EachBelow n (λ j. f j ≤ x) → most f n ≤ x
+unfolding most
+most-least f zero x h = omega arith
+most-least f (suc n) x h = omega (arith, most-least f n x (λ j b. h j (omega arith)), h n (omega arith))

@@ -1,5 +1,5 @@
 -- Laws for loops over the numbers below n: a step and the end of each kind of loop, and what its answer says.
-use Prim.Native.Nat.{ℕ, zero, suc, _+_, _≤_, _<_}
+use Prim.Native.Nat.{ℕ, zero, suc, _+_, _≤_, _<_, max}
 use mathlib.Core.Path.{_≡_, refl, sym, _∙_, ap, subst}
 use mathlib.Core.Bool.{Bool, true, false, cond, true≢false, false≢true}
 use mathlib.Core.Option.{Option, some, none}
@@ -9,7 +9,7 @@ use native.Mathlib.Numerals.{add-one}
 use native.Mathlib.Omega.{arith}
 use Rattle.finite.specs.Decide.{Decides}
 use Rattle.finite.specs.DecideLaws.{decides-and}
-use Rattle.finite.specs.Below.{EachBelow, EachFrom, orElse, first, gather, all, count, sum, IsFirst}
+use Rattle.finite.specs.Below.{EachBelow, EachFrom, orElse, first, gather, all, count, sum, most, IsFirst}
 
 pub each-more : (P : ℕ → Type 0) (n : ℕ) → EachBelow n P → P n → EachBelow (suc n) P
 each-more P n h p i l = elim (decLt i n) [ yes k ↦ h i k | no k ↦ subst P (let e : n ≡ i = omega arith in e) p ]
@@ -82,6 +82,14 @@ module _ (f : ℕ → Bool) where
 pub sum-more : (f : ℕ → ℕ) (i : ℕ) → sum f (i + 1) ≡ sum f i + f i
 unfolding sum
 sum-more f i = rw add-one
+
+pub most-none : (f : ℕ → ℕ) → most f 0 ≡ 0
+unfolding most
+most-none f = refl
+
+pub most-more : (f : ℕ → ℕ) (i : ℕ) → most f (i + 1) ≡ max (most f i) (f i)
+unfolding most
+most-more f i = rw add-one
 
 pub gather-more : {A : Type 0} (f : ℕ → List A) (i : ℕ) → gather f (i + 1) ≡ gather f i ++ f i
 unfolding gather

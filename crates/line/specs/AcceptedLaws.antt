@@ -1,10 +1,10 @@
 -- What is accepted is the text of its line: each part that was read is within the limits, and its bytes are its text.
 use Prim.Native.Nat.{ℕ, zero, suc, _-_, _<_, _≤_}
 use mathlib.Core.Path.{_≡_, refl, sym, ap, _∙_}
-use mathlib.Core.Bool.{Bool, true, false}
+use mathlib.Core.Bool.{Bool, true, false, not}
 use mathlib.Core.List.{List, [], _∷_}
 use native.Mathlib.Omega.{arith}
-use borrow.Author.Tests.{ltb-false, eqb-false}
+use borrow.Author.Tests.{ltb-false, eqb-false, not-false}
 use lib.Dec.{ltb, eqb}
 use lib.ListN.{length, take, drop-of-length-le}
 use Rattle.text.specs.declared.Cursor.{Cursor}
@@ -16,23 +16,28 @@ use Rattle.text.specs.Reading.BytesLaws.{from-cons, past-spelt}
 use Rattle.text.specs.Elements.Padded.{padded}
 use Rattle.text.specs.Elements.PaddedLaws.{take-padded, padded-length}
 use Rattle.text.specs.Elements.EachThen.{eachThen}
+use Rattle.text.specs.Sections.Chained.{optionalText}
+use Rattle.text.specs.Sections.ChainedLaws.{chained-spelt, optional-spelt}
 use Rattle.finite.specs.Each.{Each}
 use Rattle.text.specs.Reading.Parsed.{Parsed, lines}
 use Rattle.text.specs.Reading.ParsedLaws.{then-got, pick-got, got-is, ranged-spelt, PartSpelt, many-spelt}
 use Rattle.line.specs.declared.Kind.{Kind}
 use Rattle.line.specs.declared.Segment.{Segment}
 use Rattle.line.specs.declared.Train.{Train}
+use Rattle.line.specs.declared.Booking.{Booking}
 use Rattle.line.specs.declared.Line.{Line}
 use Rattle.line.specs.declared.reading.Letter.{Letter}
 use Rattle.line.specs.declared.reading.Path.{Path}
 use Rattle.line.specs.declared.reading.Head.{Head}
-use Rattle.line.specs.Ranges.{In, stationCount, tracks, gap, trainCount, station, time, weight, run, stop}
-use Rattle.line.specs.Record.{noSegment, noTrain, lineWith, legsBetween, tidyTrain}
-use Rattle.line.specs.File.{number, stationLine, letterOf, onLetter, kindAt, segmentLine, pathAt, headAt, Journey, journeyAt, trainWith, trainLine, Section, sectionAt, stationSection, segmentSection, trainSection, joins, lineFrom, lineAt, lineFile}
-use Rattle.line.specs.Spell.{field, stationText, letterByte, segmentText, journeyText, trainText}
+use Rattle.line.specs.Ranges.{In, stationCount, tracks, gap, trainCount, trainNumber, bookingCount, newest, station, time, weight, run, stop}
+use Rattle.line.specs.Record.{noSegment, noTrain, noBooking, lineWith, legsBetween, tidyTrain}
+use Rattle.line.specs.Bookings.{bookable}
+use Rattle.line.specs.BookingsLaws.{decides-bookable}
+use Rattle.line.specs.File.{number, stationLine, letterOf, onLetter, kindAt, segmentLine, pathAt, headAt, Journey, journeyAt, trainWith, trainLine, Section, usedIn, sectionAt, stationSection, segmentSection, trainSection, bookingLine, risingAt, null, bookingSection, joins, lineFrom, lineAt, lineFile}
+use Rattle.line.specs.Spell.{field, stationText, letterByte, segmentText, journeyText, trainText, bookingText, bookingsText}
 use Rattle.line.specs.RecordLaws.{path-legs}
 use Rattle.line.specs.FileLaws.{letter-byte, letter-inside}
-use Rattle.line.specs.Within.{SegmentWithin, TrainWithin, TrainArrays}
+use Rattle.line.specs.Within.{SegmentWithin, TrainWithin, BookingWithin, BookingsWithin, TrainArrays}
 
 -- a number that was read
 pub record NumberSpelt (r : Limits) (b : ℕ) (s : List ℕ) (c : Cursor) (n : ℕ) (next : Cursor) : Type 0 where
@@ -279,10 +284,50 @@ section-spelt r size none P text line s one c x next e =
       spelt = count .text ∙ ap (λ (l : List ℕ). field (n .value) 10 l) (each .spelt);
     })
 
--- the record of a line with these stations, segments and trains
-abbrev pub lineOf : ℕ → List ℕ → List Segment → ℕ → List Train → Line
-lineOf n ts gs t trs =
-    lineWith n (padded 12 0 ts) (padded 11 noSegment gs) t (padded 12 noTrain trs)
+-- ---- bookings
+
+booking-spelt : (n : ℕ) (trains : List Train) (s : List ℕ) (before : Booking) (c : Cursor) (b : Booking) (next : Cursor) →
+    bookingLine n trains before s c ≡ Parsed.got b next → BookingWithin n trains before b × (from s c ≡ bookingText b (from s next))
+unfolding bookingLine
+booking-spelt n trains s before c b next e =
+    let i = then-got (number (trainNumber (length trains)) 32 s c) _ b next e in
+    let p = then-got (number (station n) 32 s (i .next)) _ b next (i .after) in
+    let q = pick-got (not (bookable trains before (i .value) (p .value))) 19 (i .next .line) _ b next (p .after) in
+    let m = then-got (number time 10 s (p .next)) _ b next (q .1) in
+    let train = number-spelt (trainNumber (length trains)) 32 s c (i .value) (i .next) (omega arith) (i .first) in
+    let place = number-spelt (station n) 32 s (i .next) (p .value) (p .next) (omega arith) (p .first) in
+    let minute = number-spelt time 10 s (p .next) (m .value) (m .next) (omega arith) (m .first) in
+    let stands = decides-bookable trains before (i .value) (p .value) .yea (not-false _ (q .0)) in
+    got-is (λ x end. BookingWithin n trains before x × (from s c ≡ bookingText x (from s end))) (m .after) (
+      record { train = train .range; station = place .range; order = stands .0; middle = stands .1; minute = minute .range },
+      train .text
+          ∙ ap (λ (l : List ℕ). field (i .value) 32 l) (place .text)
+          ∙ ap (λ (l : List ℕ). field (i .value) 32 (field (p .value) 32 l)) (minute .text),
+    )
+
+module _ (n : ℕ) (trains : List Train) (s : List ℕ) where
+  rising-spelt : (c : Cursor) (bs : List Booking) (next : Cursor) → risingAt (newest bookingCount) noBooking (bookingLine n trains) s c ≡ Parsed.got bs next →
+      BookingsWithin n trains bs × (from s c ≡ bookingsText bs (from s next))
+  unfolding risingAt
+  rising-spelt c bs next e =
+      let m = then-got (number (newest bookingCount) 10 s c) _ bs next e in
+      let count = number-spelt (newest bookingCount) 10 s c (m .value) (m .next) (omega arith) (m .first) in
+      let each = chained-spelt (λ before b. b) (bookingLine n trains) (BookingWithin n trains) bookingText s (booking-spelt n trains s) (m .value) noBooking
+      (m .next) bs next (m .after) in (
+        (omega (arith, each .many, count .range .1), each .valid),
+        (rw (each .many) (count .text ∙ ap (λ (l : List ℕ). field (m .value) 10 l) (each .spelt))),
+      )
+
+  bookings-spelt : (c : Cursor) (bs : List Booking) (next : Cursor) → bookingSection n trains s c ≡ Parsed.got bs next →
+      BookingsWithin n trains bs × (from s c ≡ optionalText null bookingsText bs (from s next))
+  bookings-spelt c bs next e =
+      optional-spelt 3 [] null refl (risingAt (newest bookingCount) noBooking (bookingLine n trains)) s (BookingsWithin n trains) bookingsText (omega arith, tt)
+      rising-spelt c bs next e
+
+-- the record of a line with these stations, segments, trains and bookings
+abbrev pub lineOf : ℕ → List ℕ → List Segment → ℕ → List Train → List Booking → Line
+lineOf n ts gs t trs bs =
+    lineWith n (padded 12 0 ts) (padded 11 noSegment gs) t (padded 12 noTrain trs) bs
 
 -- the whole file
 pub record LineRead (s : List ℕ) (l : Line) : Type 0 where
@@ -299,17 +344,27 @@ pub record LineRead (s : List ℕ) (l : Line) : Type 0 where
   pub trains : In trainCount t
   pub many-trains : length trs ≡ t
   pub each-train : Each (TrainRead n) trs
-  pub line : l ≡ lineOf n ts gs t trs
-  pub text : s ≡ field n 10 (eachThen stationText ts (field (n - 1) 10 (eachThen segmentText gs (field t 10 (eachThen trainText trs [])))))
+  pub bs : List Booking
+  pub bookings : BookingsWithin n trs bs
+  pub line : l ≡ lineOf n ts gs t trs bs
+  pub text : s ≡ field n 10 (eachThen stationText ts (field (n - 1) 10 (eachThen segmentText gs (field t 10 (eachThen trainText trs
+      (optionalText null bookingsText bs []))))))
 
--- the line of three sections, and nothing after them
-line-of : (s : List ℕ) (x : Section ℕ) (y : Section Segment) (z : Section Train) (c c₁ c₂ c₃ : Cursor) → from s c ≡ s →
+-- the used entries of a section that was read
+used-spelt : {A : Type 0} (size : ℕ) (none : A) (x : Section A) (xs : List A) → length xs ≡ x .count → x .count ≤ size → x .entries ≡ padded size none xs → usedIn x ≡ xs
+used-spelt size none x xs many few array =
+    ap (take (x .count)) array ∙ ap (λ (k : ℕ). take k (padded size none xs)) (sym many) ∙ take-padded size none xs (omega (arith, many))
+
+-- the line of three sections and the bookings, and nothing after them
+line-of : (s : List ℕ) (x : Section ℕ) (y : Section Segment) (z : Section Train) (bs : List Booking) (c c₁ c₂ c₃ c₄ : Cursor) → from s c ≡ s →
     SectionSpelt stationCount 12 0 (In tracks) stationText s c x c₁ → SectionSpelt (joins (x .count)) 11 noSegment SegmentWithin segmentText s c₁ y c₂ →
-    SectionSpelt trainCount 12 noTrain (TrainRead (x .count)) trainText s c₂ z c₃ → length s ≤ c₃ .at → LineRead s (lineFrom x y z)
-line-of s x y z c c₁ c₂ c₃ start a b d end =
+    (d : SectionSpelt trainCount 12 noTrain (TrainRead (x .count)) trainText s c₂ z c₃) →
+    BookingsWithin (x .count) (d .xs) bs × (from s c₃ ≡ optionalText null bookingsText bs (from s c₄)) → length s ≤ c₄ .at → LineRead s (lineFrom x y z bs)
+line-of s x y z bs c c₁ c₂ c₃ c₄ start a b d booked end =
     let n = x .count in
     let joined : y .count ≡ n - 1 = omega (arith, b .range .0, b .range .1) in
-    let last : from s c₃ ≡ [] = drop-of-length-le s end in
+    let last : from s c₃ ≡ optionalText null bookingsText bs [] =
+    booked .1 ∙ ap (λ (l : List ℕ). optionalText null bookingsText bs l) (drop-of-length-le s end) in
     let trains = d .spelt ∙ ap (λ (l : List ℕ). field (z .count) 10 (eachThen trainText (d .xs) l)) last in
     let segments = b .spelt ∙ ap (λ (k : ℕ). field k 10 (eachThen segmentText (b .xs) (from s c₂))) joined
     ∙ ap (λ (l : List ℕ). field (n - 1) 10 (eachThen segmentText (b .xs) l)) trains in
@@ -327,7 +382,9 @@ line-of s x y z c c₁ c₂ c₃ start a b d end =
       trains = d .range;
       many-trains = d .many;
       each-train = d .each;
-      line = λ i. lineWith n (a .array i) (b .array i) (z .count) (d .array i);
+      bs = bs;
+      bookings = booked .0;
+      line = λ i. lineWith n (a .array i) (b .array i) (z .count) (d .array i) bs;
       text = sym start ∙ a .spelt ∙ ap (λ (l : List ℕ). field n 10 (eachThen stationText (a .xs) l)) segments;
     }
 
@@ -343,10 +400,14 @@ line-spelt s l end e =
     let segments = section-spelt (joins n) 11 noSegment SegmentWithin segmentText segmentLine s (segment-spelt s) (x .next) (y .value) (y .next) (y .first) in
     let trains = section-spelt trainCount 12 noTrain (TrainRead n) trainText (trainLine n) s (train-spelt n (stations .range .1) s) (y .next) (z .value)
     (z .next) (z .first) in
-    let done = pick-got (ltb (z .next .at) (length s)) 2 (z .next .line) _ l end (z .after) in
+    let b = then-got (bookingSection n (usedIn (z .value)) s (z .next)) _ l end (z .after) in
+    let used = used-spelt 12 noTrain (z .value) (trains .xs) (trains .many) (trains .range .1) (trains .array) in
+    let booked = bookings-spelt n (trains .xs) s (z .next) (b .value) (b .next)
+    (ap (λ (ts : List Train). bookingSection n ts s (z .next)) (sym used) ∙ b .first) in
+    let done = pick-got (ltb (b .next .at) (length s)) 2 (b .next .line) _ l end (b .after) in
     got-is (λ m c. LineRead s m) (done .1)
-    (line-of s (x .value) (y .value) (z .value) start (x .next) (y .next) (z .next) refl stations segments trains
-    (ltb-false (z .next .at) (length s) (done .0)))
+    (line-of s (x .value) (y .value) (z .value) (b .value) start (x .next) (y .next) (z .next) (b .next) refl stations segments trains booked
+    (ltb-false (b .next .at) (length s) (done .0)))
 
 pub file-spelt : (s : List ℕ) (l : Line) (end : Cursor) → lineFile s ≡ Parsed.got l end → LineRead s l
 unfolding lineFile

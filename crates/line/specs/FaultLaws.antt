@@ -2,7 +2,7 @@
 use Prim.Native.Nat.{ℕ, _+_, _<_, _≤_}
 use mathlib.Core.Path.{_≡_, refl, sym, ap, _∙_}
 use mathlib.Core.List.{List, [], _∷_}
-use mathlib.Core.Bool.{Bool, true, false}
+use mathlib.Core.Bool.{Bool, true, false, not}
 use native.Mathlib.Omega.{arith}
 use borrow.Author.Tests.{eq-eqb, ne-eqb, eqb-false}
 use lib.Dec.{eqb}
@@ -15,11 +15,16 @@ use Rattle.text.specs.Reading.Limits.{boundedOf}
 use Rattle.text.specs.Elements.LeftLaws.{left-cons, left-none}
 use Rattle.text.specs.Reading.ParsedLaws.{bounded-within, bounded-fits}
 use Rattle.line.specs.declared.Train.{Train}
+use Rattle.line.specs.declared.Track.{Track}
+use Rattle.line.specs.declared.Traffic.{Traffic}
+use Rattle.line.specs.declared.Booking.{Booking}
 use Rattle.line.specs.declared.writing.Fault.{Fault}
-use Rattle.line.specs.Ranges.{In, station, time, weight}
+use Rattle.line.specs.Ranges.{In, stationCount, trainCount, trainNumber, station, time, weight}
 use Rattle.line.specs.Record.{legsOf}
 use Rattle.line.specs.RecordLaws.{path-legs}
-use Rattle.line.specs.Writing.{thenFault, valueFault, numberFault, linesFault, timesFault, pathFault, headFault}
+use Rattle.line.specs.Bookings.{bookable}
+use Rattle.line.specs.BookingsLaws.{bookable-used}
+use Rattle.line.specs.Writing.{thenFault, valueFault, numberFault, linesFault, timesFault, pathFault, headFault, risingFault, trackFaultOf, trafficFaultOf}
 
 -- ---- one check and then the next
 
@@ -56,6 +61,23 @@ module _ {A : Type 0} (f : ℕ → A → Fault) (xs : List A) (count i p : ℕ) 
   unfolding linesFault
   lines-end e = rw (left-none count xs i (length-take-le count xs room) e) refl
 
+-- ---- the first lines of a section in which each is checked after the one before it, of which those before i have no fault
+
+module _ {A : Type 0} (f : A → ℕ → A → Fault) (xs : List A) (count i : ℕ) (before : A) (p : ℕ) (room : count ≤ length xs) where
+  pub rising-found : {r : Fault} {n m : ℕ} (d : A) → i < count → r ≡ f before p (getD xs i d) → r ≡ Fault.At n m →
+      r ≡ risingFault (drop i (take count xs)) f before p
+  unfolding risingFault
+  rising-found d h e g = rw (left-cons count xs i (length-take-le count xs room) d h) (found-first _ e g)
+
+  pub rising-clean : {r : Fault} (d : A) (q : ℕ) → q ≡ p + 1 → i < count → r ≡ f before p (getD xs i d) → r ≡ Fault.None →
+      risingFault (drop (i + 1) (take count xs)) f (getD xs i d) q ≡ risingFault (drop i (take count xs)) f before p
+  unfolding risingFault
+  rising-clean d q w h e g = rw (left-cons count xs i (length-take-le count xs room) d h, w) (found-later e g refl)
+
+  pub rising-end : i ≡ count → Fault.None ≡ risingFault (drop i (take count xs)) f before p
+  unfolding risingFault
+  rising-end e = rw (left-none count xs i (length-take-le count xs room) e) refl
+
 -- values that stand on one line are checked as those on lines of their own, whatever these lines are
 pub times-lines : (xs : List ℕ) (r : Limits) (p q : ℕ) → timesFault xs r p ≡ linesFault xs (λ _ n. numberFault r n p) q
 unfolding timesFault linesFault
@@ -70,6 +92,24 @@ module _ (o d p : ℕ) where
 
   pub other-ends : (d ≡ o → ⊥) → Fault.None ≡ pick (eqb d o) (Fault.At 4 p) Fault.None
   other-ends h = simp (ne-eqb d o h)
+
+-- ---- a booking of one of the first t trains of an array
+
+module _ (t : ℕ) (trains : List Train) where
+  pub train-by : {r : Fault} {b : Bounded} (n p : ℕ) → t ≤ length trains → r ≡ valueFault b p → b ≡ boundedOf (trainNumber t .min) (trainNumber t .max) n →
+      r ≡ numberFault (trainNumber (length (take t trains))) n p
+  train-by n p room e h = rw (length-take-le t trains room) (fault-by (trainNumber t) n p e h)
+
+  -- a call told of the whole array whether the booking may stand
+  module _ {m : Bool} (a : Booking) (i s p : ℕ) (f : Fault) (number : In (trainNumber t) i) (told : m ≡ bookable trains a i s) where
+    told-used : not m ≡ not (bookable (take t trains) a i s)
+    told-used = ap not (told ∙ sym (bookable-used t trains a i s (number .0) (number .1)))
+
+    pub stands-not : not m ≡ true → Fault.At 19 p ≡ pick (not (bookable (take t trains) a i s)) (Fault.At 19 p) f
+    stands-not h = ap (λ (b : Bool). pick b (Fault.At 19 p) f) (sym h ∙ told-used)
+
+    pub stands : {r : Fault} → not m ≡ false → r ≡ f → r ≡ pick (not (bookable (take t trains) a i s)) (Fault.At 19 p) f
+    stands h e = e ∙ ap (λ (b : Bool). pick b (Fault.At 19 p) f) (sym h ∙ told-used)
 
 -- ---- what has no fault
 
@@ -98,6 +138,10 @@ tells-number r n p = record {
     go : (b : Bounded) → boundedOf (r .min) (r .max) n ≡ b → onBounded b (λ v. Fault.None) (Fault.At 3 p) ≡ Fault.None → In r n
     go (Bounded.Within v) h g = let w = bounded-within (r .min) (r .max) n v h in (w .low, w .high)
     go Bounded.Outside h g = let z : _≡_ {A = ℕ} 0 1 = cc in absurd (omega arith)
+
+-- a value that a call built
+pub within-by : {r : Fault} {b : Bounded} (l : Limits) (n p : ℕ) → r ≡ valueFault b p → b ≡ boundedOf (l .min) (l .max) n → r ≡ Fault.None → In l n
+within-by l n p e h g = tells-number l n p .holds (sym (fault-by l n p e h) ∙ g)
 
 tells-apart : (p o d : ℕ) → CleanWhen (pick (eqb d o) (Fault.At 4 p) Fault.None) (d ≡ o → ⊥)
 tells-apart p o d = record { holds = λ e. eqb-false d o (go (eqb d o) e); clean = λ h. sym (other-ends o d p h) }
@@ -130,3 +174,16 @@ pub legs-fit : {r : Fault} {k : ℕ} (n p : ℕ) (t : Train) → r ≡ headFault
 legs-fit n p t e g h l =
     let path = tells-head n p t .holds (sym e ∙ g) .0 in
     rw l (path-legs n (t .origin) (t .destination) h (path .0) (path .1 .0) (path .1 .1))
+
+-- the counts of a track and of traffic that were checked and have no fault
+counts-fit : {r : Fault} (l : Limits) (n p : ℕ) (later : Fault) → r ≡ thenFault (numberFault l n p) later → r ≡ Fault.None → In l n
+counts-fit l n p later e g =
+    tells-then _ _ (tells-number l n p) (record { holds = λ (h : later ≡ Fault.None). h; clean = λ h. h }) .holds (sym e ∙ g) .0
+
+pub stations-fit : {r : Fault} (k : Track) → r ≡ trackFaultOf k → r ≡ Fault.None → In stationCount (k .«station_count»)
+unfolding trackFaultOf
+stations-fit k e g = counts-fit stationCount _ _ _ e g
+
+pub trains-fit : {r : Fault} (n : ℕ) (t : Traffic) → r ≡ trafficFaultOf n t → r ≡ Fault.None → In trainCount (t .«train_count»)
+unfolding trafficFaultOf
+trains-fit n t e g = counts-fit trainCount _ _ _ e g

@@ -1,8 +1,9 @@
 -- Reading the line file: document 01, "The line file", section by section and field by field: the field's form, the byte after it (2), its range
--- (3), and at a destination whether it equals the origin (4).
+-- (3), at a destination whether it equals the origin (4), and at a booking's station whether it may stand there (19).
 use Prim.Native.Nat.{ℕ, zero, suc, _-_}
+use mathlib.Core.Bool.{Bool, true, false, not}
 use mathlib.Core.List.{List, [], _∷_}
-use lib.ListN.{length}
+use lib.ListN.{length, take}
 use lib.Dec.{ltb, eqb}
 use Rattle.text.specs.declared.Cursor.{Cursor}
 use Rattle.text.specs.declared.Limits.{Limits}
@@ -10,9 +11,11 @@ use Rattle.text.specs.Reading.Choice.{pick, onStep}
 use Rattle.text.specs.Reading.Bytes.{byteAt, ahead, pastOf}
 use Rattle.text.specs.Reading.Parsed.{Parsed, thenRead, lines, rangedAt}
 use Rattle.text.specs.Elements.Padded.{padded}
+use Rattle.text.specs.Sections.Chained.{chained, optionalAt}
 use Rattle.line.specs.declared.Kind.{Kind}
 use Rattle.line.specs.declared.Segment.{Segment}
 use Rattle.line.specs.declared.Train.{Train}
+use Rattle.line.specs.declared.Booking.{Booking}
 use Rattle.line.specs.declared.Line.{Line}
 use Rattle.line.specs.declared.Answer.{Answer}
 use Rattle.line.specs.declared.ReadLine.{ReadLine}
@@ -20,8 +23,9 @@ use Rattle.line.specs.declared.reading.Head.{Head}
 use Rattle.line.specs.declared.reading.Path.{Path}
 use Rattle.line.specs.declared.reading.Letter.{Letter}
 use Rattle.line.specs.declared.reading.KindField.{KindField}
-use Rattle.line.specs.Ranges.{stationCount, tracks, gap, trainCount, station, time, weight, run, stop}
-use Rattle.line.specs.Record.{noSegment, noTrain, lineWith, emptyLine, legsBetween}
+use Rattle.line.specs.Ranges.{stationCount, tracks, gap, trainCount, trainNumber, bookingCount, newest, station, time, weight, run, stop}
+use Rattle.line.specs.Record.{noSegment, noTrain, noBooking, lineWith, emptyLine, legsBetween}
+use Rattle.line.specs.Bookings.{bookable}
 
 -- a number in its range, with the byte b after it: 2 for its form and the byte after it, 3 for its range
 abbrev pub number : Limits → ℕ → List ℕ → Cursor → Parsed ℕ
@@ -38,6 +42,10 @@ afterField (suc k) = 32
 pub record Section (A : Type 0) : Type 0 where
   pub count : ℕ
   pub entries : List A
+
+-- the entries that it has
+abbrev pub usedIn : {A : Type 0} → Section A → List A
+usedIn x = take (x .count) (x .entries)
 
 -- a count in its range, and as many lines; "entries beyond a count are 0 (a kind is S) after reading"
 unfoldable pub sectionAt : {A : Type 0} → Limits → ℕ → A → (List ℕ → Cursor → Parsed A) → List ℕ → Cursor → Parsed (Section A)
@@ -137,18 +145,42 @@ trainLine n s c =
 abbrev pub trainSection : ℕ → List ℕ → Cursor → Parsed (Section Train)
 trainSection n s c = sectionAt trainCount 12 noTrain (trainLine n) s c
 
--- ---- the file: "Three sections in this order", and no bytes after the last line
+-- ---- 4. Bookings (document 02, K1): "train, station, minute, in rising order of train then station, at most 120"
+
+-- after the booking before it, on a line of n stations with these trains; 19 stands "at its station field after 3"
+unfoldable pub bookingLine : ℕ → List Train → Booking → List ℕ → Cursor → Parsed Booking
+bookingLine n trains before s c =
+    thenRead (number (trainNumber (length trains)) 32 s c) (λ i c₁.
+    thenRead (number (station n) 32 s c₁) (λ p c₂.
+    pick (not (bookable trains before i p)) (Parsed.bad 19 (c₁ .line))
+    (thenRead (number time 10 s c₂) (λ m c₃. Parsed.got (record { train = i; station = p; minute = m }) c₃))))
+
+-- a count in its range, and as many lines, each after the one before it
+unfoldable pub risingAt : {A : Type 0} → Limits → A → (A → List ℕ → Cursor → Parsed A) → List ℕ → Cursor → Parsed (List A)
+risingAt r none line s c = thenRead (number r 10 s c) (λ n c₁. chained (λ before x. x) line n none s c₁)
+
+abbrev pub null : {A : Type 0} → List A → Bool
+null [] = true
+null (x ∷ xs) = false
+
+-- "Sections past the third may be left off from the end"
+abbrev pub bookingSection : ℕ → List Train → List ℕ → Cursor → Parsed (List Booking)
+bookingSection n trains s c = optionalAt 3 [] null (risingAt (newest bookingCount) noBooking (bookingLine n trains)) s c
+
+-- ---- the file: "Three sections in this order", those that may be left off, and no bytes after the last line
 
 -- the line of its sections
-abbrev pub lineFrom : Section ℕ → Section Segment → Section Train → Line
-lineFrom stations segments trains = lineWith (stations .count) (stations .entries) (segments .entries) (trains .count) (trains .entries)
+abbrev pub lineFrom : Section ℕ → Section Segment → Section Train → List Booking → Line
+lineFrom stations segments trains bookings =
+    lineWith (stations .count) (stations .entries) (segments .entries) (trains .count) (trains .entries) bookings
 
 unfoldable pub lineAt : List ℕ → Cursor → Parsed Line
 lineAt s c =
     thenRead (stationSection s c) (λ stations c₁.
     thenRead (segmentSection (stations .count) s c₁) (λ segments c₂.
     thenRead (trainSection (stations .count) s c₂) (λ trains c₃.
-    pick (ltb (c₃ .at) (length s)) (Parsed.bad 2 (c₃ .line)) (Parsed.got (lineFrom stations segments trains) c₃))))
+    thenRead (bookingSection (stations .count) (usedIn trains) s c₃) (λ bookings c₄.
+    pick (ltb (c₄ .at) (length s)) (Parsed.bad 2 (c₄ .line)) (Parsed.got (lineFrom stations segments trains bookings) c₄)))))
 
 -- "ASCII text of at most 4,096 bytes": over that is 1 at 0; else the sections are read from the first byte on, which is on line 1
 unfoldable pub lineFile : List ℕ → Parsed Line

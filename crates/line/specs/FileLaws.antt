@@ -1,7 +1,7 @@
 -- Laws of reading the line file: each line's refusals and its value.
 use Prim.Native.Nat.{ℕ, _<_}
 use mathlib.Core.Path.{_≡_, refl, ap, _∙_}
-use mathlib.Core.Bool.{Bool, true, false}
+use mathlib.Core.Bool.{Bool, true, false, not}
 use mathlib.Core.List.{List, [], _∷_}
 use native.Mathlib.Omega.{arith}
 use borrow.Author.Tests.{eqb-true, eq-eqb, ne-eqb}
@@ -18,11 +18,14 @@ use Rattle.text.specs.Elements.LayLaws.{layMany}
 use Rattle.text.specs.Reading.Told.{toldEnding}
 use Rattle.line.specs.declared.Kind.{Kind}
 use Rattle.line.specs.declared.Segment.{Segment}
+use Rattle.line.specs.declared.Train.{Train}
+use Rattle.line.specs.declared.Booking.{Booking}
 use Rattle.line.specs.declared.reading.Letter.{Letter}
 use Rattle.line.specs.declared.reading.Path.{Path}
-use Rattle.line.specs.Ranges.{gap, station, time, weight}
+use Rattle.line.specs.Ranges.{gap, trainNumber, station, time, weight}
+use Rattle.line.specs.Bookings.{bookable}
 use Rattle.line.specs.Spell.{letterByte}
-use Rattle.line.specs.File.{number, afterField, letterOf, kindAt, segmentLine, pathAt, headAt}
+use Rattle.line.specs.File.{number, afterField, letterOf, kindAt, segmentLine, pathAt, headAt, bookingLine}
 
 -- what a part tells whose ending is known
 pub ended-told : {A : Type 0} {e y : Ending} (x : A) → e ≡ y → toldEnding e x ≡ toldEnding y x
@@ -129,3 +132,30 @@ module _ (k : ℕ) (s : List ℕ) (c : Cursor) where
             headAt k s c ≡ Parsed.got (record { origin = x .origin; destination = x .destination; earliest = t; latest = u; weight = w }) c₄
         unfolding headAt
         head-got e = rw (path, earliest, latest, e) refl
+
+-- ---- a booking's line
+
+module _ (k : ℕ) (trains : List Train) (before : Booking) (s : List ℕ) (c : Cursor) where
+  pub booking-no-train : {n q : ℕ} → number (trainNumber (length trains)) 32 s c ≡ Parsed.bad n q → bookingLine k trains before s c ≡ Parsed.bad n q
+  unfolding bookingLine
+  booking-no-train e = rw e refl
+
+  module _ {i : ℕ} {c₁ : Cursor} (train : number (trainNumber (length trains)) 32 s c ≡ Parsed.got i c₁) where
+    pub booking-no-station : {n q : ℕ} → number (station k) 32 s c₁ ≡ Parsed.bad n q → bookingLine k trains before s c ≡ Parsed.bad n q
+    unfolding bookingLine
+    booking-no-station e = rw (train, e) refl
+
+    module _ {p : ℕ} {c₂ : Cursor} (place : number (station k) 32 s c₁ ≡ Parsed.got p c₂) where
+      pub booking-not-standing : not (bookable trains before i p) ≡ true → bookingLine k trains before s c ≡ Parsed.bad 19 (c₁ .line)
+      unfolding bookingLine
+      booking-not-standing e = rw (train, place, e) refl
+
+      module _ (stands : not (bookable trains before i p) ≡ false) where
+        pub booking-no-minute : {n q : ℕ} → number time 10 s c₂ ≡ Parsed.bad n q → bookingLine k trains before s c ≡ Parsed.bad n q
+        unfolding bookingLine
+        booking-no-minute e = rw (train, place, stands, e) refl
+
+        pub booking-got : {m : ℕ} {c₃ : Cursor} → number time 10 s c₂ ≡ Parsed.got m c₃ →
+            bookingLine k trains before s c ≡ Parsed.got (record { train = i; station = p; minute = m }) c₃
+        unfolding bookingLine
+        booking-got e = rw (train, place, stands, e) refl

@@ -8,15 +8,19 @@ use lib.ListN.{length, getD, take, drop, length-append, length-take}
 use Rattle.text.specs.Writing.Digits.{digits}
 use Rattle.text.specs.Writing.DigitsLaws.{digits-length}
 use Rattle.text.specs.Elements.EachThen.{eachThen}
+use Rattle.text.specs.Sections.Chained.{optionalText}
+use Rattle.text.specs.Sections.ChainedLaws.{chain-length, optional-length}
 use Rattle.finite.specs.Each.{Each}
 use Rattle.line.specs.declared.Segment.{Segment}
 use Rattle.line.specs.declared.Train.{Train}
+use Rattle.line.specs.declared.Booking.{Booking}
 use Rattle.line.specs.declared.Line.{Line}
 use Rattle.line.specs.Ranges.{In, tracks, run, stop}
-use Rattle.line.specs.Record.{runsOf, stopsOf, legsOf}
-use Rattle.line.specs.Spell.{field, stationText, segmentText, journeyText, trainText, textOf}
+use Rattle.line.specs.Record.{noBooking, trainsOf, bookingsOf, runsOf, stopsOf, legsOf}
+use Rattle.line.specs.File.{bookingLine}
+use Rattle.line.specs.Spell.{field, stationText, segmentText, journeyText, trainText, bookingText, bookedText, unbooked, textOf}
 use Rattle.line.specs.RecordLaws.{train-path}
-use Rattle.line.specs.Within.{SegmentWithin, TrainWithin, Within}
+use Rattle.line.specs.Within.{SegmentWithin, TrainWithin, BookingWithin, Within}
 
 -- ---- each part, where at most m bytes follow it
 
@@ -83,18 +87,40 @@ module _ {A : Type 0} (P : A → Type 0) (text : A → List ℕ → List ℕ) (k
   each-length (suc n) (x ∷ xs) e m rest h =
       omega (arith, suc-mul n k, short x (e .0) (m + n * k) (eachThen text (take n xs) rest) (each-length n xs (e .1) m rest h))
 
--- the text of a line within the limits has at most 1,369 bytes
-pub text-length : (l : Line) → Within l → length (textOf l) ≤ 1369
+booking-length : (n : ℕ) → n ≤ 12 → (trains : List Train) → length trains ≤ 12 → (before b : Booking) (rest : List ℕ) → BookingWithin n trains before b →
+    length (bookingText b rest) ≤ 11 + length rest
+booking-length n few trains some before b rest w =
+    let size : length (bookingText b rest) ≤ length rest + 5 + 3 + 3 =
+    field-short (b .train) 32 _ _ (omega (arith, w .train, some)) (
+    field-short (b .station) 32 _ _ (omega (arith, w .station, few)) (
+    field-length (b .minute) 10 _ rest (omega (arith, w .minute)) (omega arith))) in
+    omega arith
+
+-- the section of bookings has at most 1,324 bytes
+booked-length : (l : Line) → Within l → length (optionalText unbooked bookedText (l .booked) []) ≤ 1324
+booked-length l w =
+    let n = l .track .«station_count» in
+    let few : length (bookingsOf l) ≤ 120 = omega (arith, length-take (l .booked .«booking_count») (l .booked .bookings), w .bookings .1) in
+    let some : length (trainsOf l) ≤ 12 = omega (arith, length-take (l .traffic .«train_count») (l .traffic .trains), w .trains .1) in
+    let each : length (eachThen bookingText (bookingsOf l) []) ≤ length (bookingsOf l) * 11 + 0 =
+    chain-length (λ before b. b) (bookingLine n (trainsOf l)) (BookingWithin n (trainsOf l)) bookingText [] 11
+    (λ before b rest v. booking-length n (w .stations .1) (trainsOf l) some before b rest v) (bookingsOf l) noBooking [] (w .each-booking) in
+    let size : length (bookedText (l .booked) []) ≤ 1320 + 4 =
+    field-middle (l .booked .«booking_count») 10 1320 _ (omega (arith, w .bookings .1)) (omega (arith, each, few)) in
+    optional-length unbooked bookedText (l .booked) [] 1324 (omega arith)
+
+-- the text of a line within the limits has at most 2,693 bytes
+pub text-length : (l : Line) → Within l → length (textOf l) ≤ 2693
 unfolding textOf
 text-length l w =
     let n = l .track .«station_count» in
-    let size : length (textOf l) ≤ 0 + l .traffic .«train_count» * 103 + 3 + (n - 1) * 8 + 3 + n * 3 + 3 =
+    let size : length (textOf l) ≤ 1324 + l .traffic .«train_count» * 103 + 3 + (n - 1) * 8 + 3 + n * 3 + 3 =
     field-short n 10 _ _ (omega (arith, w .stations)) (
     each-length (In tracks) stationText 3 station-length n (l .track .tracks) (w .tracks) _ _ (
     field-short (n - 1) 10 _ _ (omega (arith, w .stations)) (
     each-length SegmentWithin segmentText 8 segment-length (n - 1) (l .track .segments) (w .segments) _ _ (
     field-short (l .traffic .«train_count») 10 _ _ (omega (arith, w .trains)) (
-    each-length (TrainWithin n) trainText 103 (train-length n (w .stations .1)) (l .traffic .«train_count») (l .traffic .trains) (w .each-train) 0 [] (omega arith)
+    each-length (TrainWithin n) trainText 103 (train-length n (w .stations .1)) (l .traffic .«train_count») (l .traffic .trains) (w .each-train) 1324 _ (booked-length l w)
     ))))) in
     omega (arith, w .stations, w .trains)
 

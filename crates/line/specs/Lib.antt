@@ -1,6 +1,7 @@
 -- The mathematics of the line file: its modules, definitions before their laws.
 pub mod Ranges
 pub mod Record
+pub mod Bookings
 pub mod File
 pub mod Parts
 pub mod Spell
@@ -9,6 +10,7 @@ pub mod Within
 pub mod Runnable
 pub mod RunnableLaws
 pub mod RecordLaws
+pub mod BookingsLaws
 pub mod FileLaws
 pub mod TrainLaws
 pub mod SectionLaws

@@ -13,8 +13,9 @@ use Rattle.text.specs.Places.LinesLaws.{keeps-counted}
 use Rattle.line.specs.declared.Segment.{Segment}
 use Rattle.line.specs.declared.Track.{Track}
 use Rattle.line.specs.declared.Train.{Train}
-use Rattle.line.specs.Record.{trackWith, trafficWith}
-use Rattle.line.specs.File.{Section, stationSection, segmentSection, trainSection, lineAt, lineFile}
+use Rattle.line.specs.declared.Booking.{Booking}
+use Rattle.line.specs.Record.{trackWith, trafficWith, bookedWith}
+use Rattle.line.specs.File.{Section, usedIn, stationSection, segmentSection, trainSection, bookingSection, lineAt, lineFile}
 use Rattle.line.specs.SectionLaws.{section-range, file-long, file-short}
 use Rattle.line.specs.PlaceLaws.{any-line-number, stands-stations, stands-segments}
 use Rattle.line.specs.Parts.{trackAt, completedAt, trackFrom, endOf, completedFrom, CanComplete}
@@ -55,13 +56,19 @@ module _ (t : Track) (s : List ℕ) (c : Cursor) where
   no-trains e = rw e refl
 
   module _ {z : Section Train} {c₁ : Cursor} (trains : trainSection (t .«station_count») s c ≡ Parsed.got z c₁) where
-    pub bytes-after : c₁ .at < length s → completedAt t s c ≡ Parsed.bad 2 (c₁ .line)
+    pub no-bookings : {m q : ℕ} → bookingSection (t .«station_count») (usedIn z) s c₁ ≡ Parsed.bad m q → completedAt t s c ≡ Parsed.bad m q
     unfolding completedAt
-    bytes-after more = rw (trains, lt-ltb (c₁ .at) (length s) more) refl
+    no-bookings e = rw (trains, e) refl
 
-    pub track-completed : length s ≤ c₁ .at → completedAt t s c ≡ Parsed.got (record { track = t; traffic = trafficWith (z .count) (z .entries) }) c₁
-    unfolding completedAt
-    track-completed done = rw (trains, le-ltb (c₁ .at) (length s) done) refl
+    module _ {bs : List Booking} {c₂ : Cursor} (bookings : bookingSection (t .«station_count») (usedIn z) s c₁ ≡ Parsed.got bs c₂) where
+      pub bytes-after : c₂ .at < length s → completedAt t s c ≡ Parsed.bad 2 (c₂ .line)
+      unfolding completedAt
+      bytes-after more = rw (trains, bookings, lt-ltb (c₂ .at) (length s) more) refl
+
+      pub track-completed : length s ≤ c₂ .at →
+          completedAt t s c ≡ Parsed.got (record { track = t; traffic = trafficWith (z .count) (z .entries); booked = bookedWith bs }) c₂
+      unfolding completedAt
+      track-completed done = rw (trains, bookings, le-ltb (c₂ .at) (length s) done) refl
 
 -- ---- the file is its two parts
 

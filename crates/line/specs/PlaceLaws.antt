@@ -1,9 +1,12 @@
 -- Places: what going past a byte keeps, every part of the line file keeps (`KeepsPassing`, `HoldsOn`). So the cursor at which each section, line and field
--- starts stands on its line, and a refusal by 2, 3 or 4 names the line on which the refused field began (`refused-on`): one more than the line feeds
+-- starts stands on its line, and a refusal by 2, 3, 4 or 19 names the line on which the refused field began (`refused-on`): one more than the line feeds
 -- before it. So the number and the place of a refused file have their bounds (`file-refusal`).
 use Prim.Native.Nat.{ℕ, zero, suc, _-_, _≤_}
 use mathlib.Core.Path.{_≡_, refl, sym, ap, _∙_}
-use mathlib.Core.List.{List}
+use mathlib.Core.Logic.{_⊎_, inl, inr}
+use mathlib.Core.Bool.{not}
+use mathlib.Core.List.{List, []}
+use Rattle.text.specs.Sections.ChainedLaws.{stands-chained, stands-optional}
 use native.Mathlib.Decide.{decLe}
 use native.Mathlib.Omega.{arith}
 use lib.Dec.{ltb, eqb}
@@ -20,14 +23,17 @@ use Rattle.text.specs.Places.Lines.{LineAt, Counted, Stood, HoldsOn, AnyNumber,
 use Rattle.text.specs.Places.LinesLaws.{KeepsPassing, keeps-line, keeps-counted, line-first, stood-line, line-most, stands-got, stands-bad, stands-then, stands-test, ahead-keeps, past-keeps, stands-ranged, stands-many}
 use Rattle.line.specs.declared.Kind.{Kind}
 use Rattle.line.specs.declared.Answer.{Answer}
+use Rattle.line.specs.declared.Train.{Train}
+use Rattle.line.specs.declared.Booking.{Booking}
 use Rattle.line.specs.declared.Line.{Line}
 use Rattle.line.specs.declared.ReadLine.{ReadLine}
 use Rattle.line.specs.declared.reading.Letter.{Letter}
 use Rattle.line.specs.declared.reading.KindField.{KindField}
-use Rattle.line.specs.Ranges.{stationCount, tracks, gap, trainCount, station, time, weight, run, stop}
-use Rattle.line.specs.Record.{noSegment, noTrain, legsBetween}
+use Rattle.line.specs.Ranges.{stationCount, tracks, gap, trainCount, trainNumber, bookingCount, newest, station, time, weight, run, stop}
+use Rattle.line.specs.Record.{noSegment, noTrain, noBooking, legsBetween}
+use Rattle.line.specs.Bookings.{bookable}
 use Rattle.line.specs.Spell.{letterByte}
-use Rattle.line.specs.File.{number, sectionAt, stationLine, stationSection, letterOf, onLetter, kindAt, toldKind, segmentLine, segmentSection, joins, pathAt, headAt, journeyAt, trainLine, trainSection, lineAt, lineFile, answered}
+use Rattle.line.specs.File.{number, sectionAt, stationLine, stationSection, letterOf, onLetter, kindAt, toldKind, segmentLine, segmentSection, joins, pathAt, headAt, journeyAt, trainLine, usedIn, trainSection, bookingLine, risingAt, null, bookingSection, lineAt, lineFile, answered}
 use Rattle.line.specs.FileLaws.{letter-byte}
 use Rattle.line.specs.SectionLaws.{file-long, file-short}
 
@@ -42,9 +48,10 @@ pub record LineNumbers (Q : ℕ → Type 0) : Type 0 where
   pub form : Q 2
   pub range : Q 3
   pub path : Q 4
+  pub booking : Q 19
 
 pub any-line-number : LineNumbers AnyNumber
-any-line-number = record { form = tt; range = tt; path = tt }
+any-line-number = record { form = tt; range = tt; path = tt; booking = tt }
 
 module _ (s : List ℕ) (P : Cursor → Type 0) (k : KeepsPassing s P) (Q : ℕ → Type 0) (q : LineNumbers Q) where
   stands-number : (r : Limits) (b : ℕ) (c : Cursor) → P c → HoldsOn P Q (number r b s c)
@@ -125,24 +132,46 @@ module _ (s : List ℕ) (P : Cursor → Type 0) (k : KeepsPassing s P) (Q : ℕ 
   pub stands-trains : (n : ℕ) (c : Cursor) → P c → HoldsOn P Q (trainSection n s c)
   stands-trains n c h = stands-section trainCount 12 noTrain (trainLine n) (stands-train n) c h
 
+  pub stands-booking : (n : ℕ) (trains : List Train) (before : Booking) (c : Cursor) → P c → HoldsOn P Q (bookingLine n trains before s c)
+  unfolding bookingLine
+  stands-booking n trains before c h =
+      stands-then P Q (number (trainNumber (length trains)) 32 s c) _ (stands-number (trainNumber (length trains)) 32 c h)
+      (λ i c₁ h₁. stands-then P Q (number (station n) 32 s c₁) _ (stands-number (station n) 32 c₁ h₁)
+      (λ p c₂ h₂. stands-test P Q (not (bookable trains before i p)) 19 c₁ _ (q .booking) h₁
+      (stands-then P Q (number time 10 s c₂) _ (stands-number time 10 c₂ h₂) (λ m c₃ h₃. h₃))))
+
+  pub stands-bookings : (n : ℕ) (trains : List Train) (c : Cursor) → P c → HoldsOn P Q (bookingSection n trains s c)
+  unfolding risingAt
+  stands-bookings n trains c h =
+      stands-optional 3 [] null refl _ s P Q (q .range) c h
+      (stands-then P Q (number (newest bookingCount) 10 s c) _ (stands-number (newest bookingCount) 10 c h)
+      (λ k c₁ h₁. stands-chained P Q (λ before b. b) (bookingLine n trains) s (stands-booking n trains) k noBooking c₁ h₁))
+
   stands-line : (c : Cursor) → P c → HoldsOn P Q (lineAt s c)
   unfolding lineAt
   stands-line c h =
       stands-then P Q (stationSection s c) _ (stands-stations c h)
       (λ x c₁ h₁. stands-then P Q (segmentSection (x .count) s c₁) _ (stands-segments (x .count) c₁ h₁)
       (λ y c₂ h₂. stands-then P Q (trainSection (x .count) s c₂) _ (stands-trains (x .count) c₂ h₂)
-      (λ z c₃ h₃. stands-test P Q (ltb (c₃ .at) (length s)) 2 c₃ _ (q .form) h₃ h₃)))
+      (λ z c₃ h₃. stands-then P Q (bookingSection (x .count) (usedIn z) s c₃) _ (stands-bookings (x .count) (usedIn z) c₃ h₃)
+      (λ bs c₄ h₄. stands-test P Q (ltb (c₄ .at) (length s)) 2 c₄ _ (q .form) h₄ h₄))))
 
 -- ---- the numbers and places of a line file's refusals
 
--- 2, 3 or 4
+-- 2, 3, 4 or 19
 abbrev pub FieldNumber : ℕ → Type 0
-FieldNumber n = (2 ≤ n) × (n ≤ 4)
+FieldNumber n = ((2 ≤ n) × (n ≤ 4)) ⊎ (n ≡ 19)
 
 field-numbers : LineNumbers FieldNumber
-field-numbers = record { form = (omega arith, omega arith); range = (omega arith, omega arith); path = (omega arith, omega arith) }
+field-numbers =
+    record {
+      form = inl (omega arith, omega arith);
+      range = inl (omega arith, omega arith);
+      path = inl (omega arith, omega arith);
+      booking = inr refl;
+    }
 
--- A line file of at most 4,096 bytes that is refused is refused by 2, 3 or 4, on the line of a position in it, that at which the field began.
+-- A line file of at most 4,096 bytes that is refused is refused by 2, 3, 4 or 19, on the line of a position in it, that at which the field began.
 refused-at : (s : List ℕ) (n p : ℕ) → length s ≤ 4096 → lineFile s ≡ Parsed.bad n p → Stood (LineAt s) FieldNumber n p
 refused-at s n p short e =
     let start : Cursor = record { at = 0; line = 1 } in
@@ -152,22 +181,34 @@ refused-at s n p short e =
 pub refused-on : (s : List ℕ) (n p : ℕ) → length s ≤ 4096 → lineFile s ≡ Parsed.bad n p → OnLine s p
 refused-on s n p short e = stood-line (refused-at s n p short e)
 
--- A refused file is refused by 1 to 4, at a place of at most 4,097.
+-- 1 to 4, or 19
+abbrev pub FileNumber : ℕ → Type 0
+FileNumber n = ((1 ≤ n) × (n ≤ 4)) ⊎ (n ≡ 19)
+
+pub file-number : {n : ℕ} → FileNumber n → (1 ≤ n) × (n ≤ 19)
+file-number (inl (low, high)) = (low, omega (arith, high))
+file-number (inr e) = (omega (arith, e), omega (arith, e))
+
+-- A refused file is refused by 1 to 4 or by 19, at a place of at most 4,097.
 pub record Refusal (n p : ℕ) : Type 0 where
-  pub number : (1 ≤ n) × (n ≤ 4)
+  pub number : FileNumber n
   pub place : p ≤ 4097
 
 pub file-refusal : (s : List ℕ) (n p : ℕ) → lineFile s ≡ Parsed.bad n p → Refusal n p
 file-refusal s n p e = elim (decLe (length s) 4096) [
   | yes short ↦ (
       let w = refused-at s n p short e in
-      record { number = (omega (arith, w .number), omega (arith, w .number)); place = omega (arith, line-most (stood-line w)) })
+      record { number = from-field (w .number); place = omega (arith, line-most (stood-line w)) })
   | no long ↦ (
       let q : _≡_ {A = Parsed Line} (Parsed.bad 1 0) (Parsed.bad n p) = sym (file-long s (omega arith)) ∙ e in
       let one : 1 ≡ n = cc in
       let zero : 0 ≡ p = cc in
-      record { number = (omega arith, omega arith); place = omega arith })
+      record { number = inl (omega arith, omega arith); place = omega arith })
 ]
+  where
+    from-field : FieldNumber n → FileNumber n
+    from-field (inl (low, high)) = inl (omega (arith, low), high)
+    from-field (inr e) = inr e
 
 -- the same of what the code answers
 refused-is : (a : Parsed Line) (n p : ℕ) → answered a .answer ≡ Answer.Refused n p → a ≡ Parsed.bad n p

@@ -26,6 +26,14 @@ trainCount = record { min = 0; max = 12 }
 abbrev pub trainNumber : ℕ → Limits
 trainNumber n = record { min = 1; max = n }
 
+-- document 02, K1, of the bookings: "at most 120"
+abbrev pub bookingCount : Limits
+bookingCount = record { min = 0; max = 120 }
+
+-- "a last section with count 0 is 3 at its line": the newest section can only be the last, so in the file its count is from 1
+abbrev pub newest : Limits → Limits
+newest r = record { min = 1; max = r .max }
+
 -- "Origin and destination are .. stations, each from 1 to the station count"
 abbrev pub station : ℕ → Limits
 station n = record { min = 1; max = n }

@@ -1,10 +1,11 @@
 -- The text of a line within the limits is accepted, and gives that line: each part of the text is read as its value.
 use Prim.Native.Nat.{ℕ, suc, _-_, _<_, _≤_}
-use mathlib.Core.Path.{_≡_, refl, ap, _∙_}
+use mathlib.Core.Path.{_≡_, refl, sym, ap, _∙_}
+use mathlib.Core.Bool.{true, false, not, _&&_, true≢false}
 use mathlib.Core.List.{List, [], _∷_, map, map-id}
 use native.Mathlib.Omega.{arith}
 use borrow.Author.Tests.{le-ltb, ne-eqb}
-use lib.ListN.{length}
+use lib.ListN.{length, take, length-map, length-append}
 use lib.Seq.{length-take-le}
 use Rattle.text.specs.declared.Cursor.{Cursor}
 use Rattle.text.specs.declared.Limits.{Limits}
@@ -12,6 +13,11 @@ use Rattle.text.specs.Reading.Bytes.{byteAt, from, ahead, passing}
 use Rattle.text.specs.Reading.BytesLaws.{from-byte, from-ahead, at-length, past-reads, space-ends, feed-ends}
 use Rattle.text.specs.Elements.Padded.{padded}
 use Rattle.text.specs.Elements.EachThen.{eachThen}
+use Rattle.text.specs.Elements.PaddedLaws.{take-padded}
+use Rattle.text.specs.Sections.Chained.{optionalText}
+use Rattle.text.specs.Sections.ChainedLaws.{each-after-map, chained-reads, optional-reads}
+use Rattle.text.specs.Writing.Digits.{digits}
+use Rattle.finite.specs.DecideLaws.{is-true}
 use Rattle.finite.specs.Each.{Each}
 use Rattle.finite.specs.EachLaws.{each-both, each-take}
 use Rattle.text.specs.Reading.ParsedLaws.{Reads, ranged-reads, at-end, reads-then, many-reads}
@@ -19,14 +25,17 @@ use Rattle.text.specs.Reading.Parsed.{Parsed}
 use Rattle.line.specs.declared.Kind.{Kind}
 use Rattle.line.specs.declared.Segment.{Segment}
 use Rattle.line.specs.declared.Train.{Train}
+use Rattle.line.specs.declared.Booking.{Booking}
 use Rattle.line.specs.declared.Line.{Line}
 use Rattle.line.specs.declared.reading.Letter.{Letter}
 use Rattle.line.specs.declared.reading.Head.{Head}
-use Rattle.line.specs.Ranges.{In, stationCount, tracks, gap, trainCount, station, time, weight, run, stop}
-use Rattle.line.specs.Record.{noSegment, noTrain, legsOf, runsOf, stopsOf, tracksOf, segmentsOf, trainsOf, tidyTrain, tidyLine}
-use Rattle.line.specs.File.{number, stationLine, letterOf, kindAt, segmentLine, pathAt, headAt, journeyAt, trainLine, sectionAt, stationSection, segmentSection, trainSection, joins, lineAt, lineFile}
-use Rattle.line.specs.Spell.{field, stationText, letterByte, segmentText, journeyText, headText, trainText, textOf}
-use Rattle.line.specs.Within.{SegmentWithin, TrainWithin, Within, TrainArrays, Arrays}
+use Rattle.line.specs.Ranges.{In, stationCount, tracks, gap, trainCount, trainNumber, bookingCount, newest, station, time, weight, run, stop}
+use Rattle.line.specs.Record.{noSegment, noTrain, noBooking, legsOf, runsOf, stopsOf, tracksOf, segmentsOf, trainsOf, bookingsOf, tidyTrain, tidyLine}
+use Rattle.line.specs.Bookings.{bookable}
+use Rattle.line.specs.BookingsLaws.{decides-bookable, booked-text, within-tidy}
+use Rattle.line.specs.File.{number, stationLine, letterOf, kindAt, segmentLine, pathAt, headAt, journeyAt, trainLine, usedIn, sectionAt, stationSection, segmentSection, trainSection, bookingLine, risingAt, null, bookingSection, joins, lineAt, lineFile}
+use Rattle.line.specs.Spell.{field, stationText, letterByte, segmentText, journeyText, headText, trainText, bookingText, bookingsText, bookedText, unbooked, textOf}
+use Rattle.line.specs.Within.{SegmentWithin, TrainWithin, BookingWithin, BookingsWithin, Within, TrainArrays, Arrays}
 use Rattle.line.specs.RecordLaws.{train-path}
 
 -- ---- a number
@@ -141,10 +150,50 @@ section-reads r size none P text f line s one n bs c rest i small many each e =
     (λ c₁ e₁. reads-then _ (many-reads P text f (λ left. line) s (λ left. one) n bs many c₁ rest each e₁)
     (λ c₂ e₂. at-end _ c₂ e₂))
 
+-- ---- bookings
+
+booking-reads : (n : ℕ) (trains : List Train) (few : n ≤ 12) (some : length trains ≤ 12) (s : List ℕ) (before : Booking) (c : Cursor) (b : Booking) (rest : List ℕ) →
+    BookingWithin n trains before b → from s c ≡ bookingText b rest → Reads (bookingLine n trains before s c) b s rest
+unfolding bookingLine
+booking-reads n trains few some s before c b rest w e =
+    let stands : not (bookable trains before (b .train) (b .station)) ≡ false =
+    ap not (is-true (decides-bookable trains before (b .train) (b .station)) (w .order, w .middle)) in
+    reads-then _ (before-space (trainNumber (length trains)) s c (b .train) _ (w .train) (omega (arith, some)) e)
+    (λ c₁ e₁. reads-then _ (before-space (station n) s c₁ (b .station) _ (w .station) (omega (arith, few)) e₁)
+    (λ c₂ e₂. rw stands (reads-then _ (before-feed time s c₂ (b .minute) rest (w .minute) (omega arith) e₂) (λ c₃ e₃. at-end _ c₃ e₃))))
+
+null-is : {A : Type 0} (xs : List A) → null xs ≡ true → xs ≡ []
+null-is [] e = refl
+null-is (x ∷ xs) e = absurd (true≢false (sym e))
+
+some-long : {A : Type 0} (xs : List A) → null xs && true ≡ false → 1 ≤ length xs
+some-long [] e = absurd (true≢false e)
+some-long (x ∷ xs) e = omega arith
+
+field-some : (n b : ℕ) (rest : List ℕ) → field n b rest ≡ [] → ⊥
+field-some n b rest e = let k = ap length e in omega (arith, length-append (digits n) (b ∷ rest))
+
+module _ (n : ℕ) (trains : List Train) (few : n ≤ 12) (some : length trains ≤ 12) (s : List ℕ) (bs : List Booking) (w : BookingsWithin n trains bs) where
+  rising-reads : null bs && true ≡ false → (c : Cursor) → from s c ≡ bookingsText bs [] →
+      Reads (risingAt (newest bookingCount) noBooking (bookingLine n trains) s c) bs s []
+  unfolding risingAt
+  rising-reads h c e =
+      reads-then _ (before-feed (newest bookingCount) s c (length bs) (eachThen bookingText bs []) (some-long bs h, w .0) (omega arith) e)
+      (λ c₁ e₁. chained-reads (λ before b. b) (bookingLine n trains) (BookingWithin n trains) bookingText s (booking-reads n trains few some s) bs noBooking
+      c₁ [] (w .1) e₁)
+
+  bookings-read : (c : Cursor) → from s c ≡ optionalText null bookingsText bs [] → Reads (bookingSection n trains s c) bs s []
+  bookings-read c e =
+      optional-reads 3 [] null refl (risingAt (newest bookingCount) noBooking (bookingLine n trains)) s bookingsText bs (null-is bs)
+      (λ rest. field-some (length bs) 10 (eachThen bookingText bs rest)) [] rising-reads c e
+
 -- a line of the record, section by section
 module _ (l : Line) (w : Within l) (a : Arrays l) (s : List ℕ) where
+  abbrev bookedPart : List ℕ
+  bookedPart = optionalText unbooked bookedText (l .booked) []
+
   abbrev trainsText : List ℕ
-  trainsText = field (l .traffic .«train_count») 10 (eachThen trainText (trainsOf l) [])
+  trainsText = field (l .traffic .«train_count») 10 (eachThen trainText (trainsOf l) bookedPart)
 
   abbrev segmentsText : List ℕ
   segmentsText = field (l .track .«station_count» - 1) 10 (eachThen segmentText (segmentsOf l) trainsText)
@@ -166,15 +215,34 @@ module _ (l : Line) (w : Within l) (a : Arrays l) (s : List ℕ) where
       (segmentsOf l) c trainsText (omega arith, omega arith) small many (w .segments) e)
 
   trains-read : (c : Cursor) → from s c ≡ trainsText →
-      Reads (trainSection (l .track .«station_count») s c) (record { count = l .traffic .«train_count»; entries = padded 12 noTrain (map tidyTrain (trainsOf l)) }) s []
+      Reads (trainSection (l .track .«station_count») s c) (record { count = l .traffic .«train_count»; entries = padded 12 noTrain (map tidyTrain (trainsOf l)) }) s bookedPart
   trains-read c e =
       let n = l .track .«station_count» in
       let t = l .traffic .«train_count» in
       let many = length-take-le t (l .traffic .trains) (omega (arith, w .trains .1, a .trains)) in
       let each = each-both (TrainWithin n) TrainArrays (TrainWritten n) (λ t x y. record { limits = x; arrays = y }) (trainsOf l) (w .each-train)
       (each-take TrainArrays t (l .traffic .trains) (a .each-train)) in
-      section-reads trainCount 12 noTrain (TrainWritten n) trainText tidyTrain (trainLine n) s (train-reads n (w .stations .1) s) t (trainsOf l) c []
+      section-reads trainCount 12 noTrain (TrainWritten n) trainText tidyTrain (trainLine n) s (train-reads n (w .stations .1) s) t (trainsOf l) c bookedPart
       (w .trains) (omega arith) many each e
+
+  -- the trains as they were read
+  abbrev tidied : List Train
+  tidied = map tidyTrain (trainsOf l)
+
+  many-trains : length (trainsOf l) ≡ l .traffic .«train_count»
+  many-trains = length-take-le (l .traffic .«train_count») (l .traffic .trains) (omega (arith, w .trains .1, a .trains))
+
+  many-tidied : length tidied ≡ l .traffic .«train_count»
+  many-tidied = length-map (trainsOf l) tidyTrain ∙ many-trains
+
+  booked-read : (c : Cursor) → from s c ≡ bookedPart →
+      Reads (bookingSection (l .track .«station_count») (usedIn (record { count = l .traffic .«train_count»; entries = padded 12 noTrain tidied })) s c) (bookingsOf l) s []
+  booked-read c e =
+      let n = l .track .«station_count» in
+      let used : take (l .traffic .«train_count») (padded 12 noTrain tidied) ≡ tidied = rw many-tidied at (take-padded 12 noTrain tidied (omega (arith, many-tidied, w .trains .1))) in
+      let few = length-take-le (l .booked .«booking_count») (l .booked .bookings) (omega (arith, w .bookings .1, a .bookings)) in
+      rw used (bookings-read n tidied (w .stations .1) (omega (arith, many-tidied, w .trains .1)) s (bookingsOf l)
+      (omega (arith, few, w .bookings .1), each-after-map (λ before b. b) (BookingWithin n (trainsOf l)) (BookingWithin n tidied) (within-tidy n (trainsOf l)) (bookingsOf l) noBooking (w .each-booking)) c (e ∙ booked-text (l .booked) [] few))
 
   line-reads : (c : Cursor) → from s c ≡ textOf l → Reads (lineAt s c) (tidyLine l) s []
   unfolding lineAt textOf tidyLine
@@ -182,7 +250,8 @@ module _ (l : Line) (w : Within l) (a : Arrays l) (s : List ℕ) where
       reads-then _ (stations-read c e)
       (λ c₁ e₁. reads-then _ (segments-read c₁ e₁)
       (λ c₂ e₂. reads-then _ (trains-read c₂ e₂)
-      (λ c₃ e₃. rw (le-ltb (c₃ .at) (length s) (at-length s c₃ e₃)) (at-end _ c₃ e₃))))
+      (λ c₃ e₃. reads-then _ (booked-read c₃ e₃)
+      (λ c₄ e₄. rw (le-ltb (c₄ .at) (length s) (at-length s c₄ e₄)) (at-end _ c₄ e₄)))))
 
 -- the text of a line within the limits is read as that line
 pub text-reads : (l : Line) → Within l → Arrays l → length (textOf l) ≤ 4096 → Reads (lineFile (textOf l)) (tidyLine l) (textOf l) []

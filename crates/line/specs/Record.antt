@@ -2,13 +2,15 @@
 use Prim.Native.Nat.{ℕ, _+_, _-_, _≤_}
 use mathlib.Core.Path.{_≡_}
 use mathlib.Core.List.{List, [], _∷_, map}
-use lib.ListN.{replicate, take}
+use lib.ListN.{length, replicate, take}
 use Rattle.text.specs.Elements.Padded.{padded}
 use Rattle.line.specs.declared.Kind.{Kind}
 use Rattle.line.specs.declared.Segment.{Segment}
 use Rattle.line.specs.declared.Train.{Train}
 use Rattle.line.specs.declared.Track.{Track}
 use Rattle.line.specs.declared.Traffic.{Traffic}
+use Rattle.line.specs.declared.Booking.{Booking}
+use Rattle.line.specs.declared.Booked.{Booked}
 use Rattle.line.specs.declared.Line.{Line}
 
 -- "entries beyond a count are 0 (a kind is S)"
@@ -18,21 +20,27 @@ noSegment = record { kind = Kind.S; following = 0; opposing = 0 }
 abbrev pub noTrain : Train
 noTrain = record { origin = 0; destination = 0; earliest = 0; latest = 0; weight = 0; runs = replicate 11 0; stops = replicate 11 0 }
 
--- the track, the traffic and the line of these entries
+abbrev pub noBooking : Booking
+noBooking = record { train = 0; station = 0; minute = 0 }
+
+-- the track, the traffic, the bookings and the line of these entries
 abbrev pub trackWith : ℕ → List ℕ → List Segment → Track
 trackWith n ts gs = record { «station_count» = n; tracks = ts; segments = gs }
 
 abbrev pub trafficWith : ℕ → List Train → Traffic
 trafficWith t trs = record { «train_count» = t; trains = trs }
 
-abbrev pub lineWith : ℕ → List ℕ → List Segment → ℕ → List Train → Line
-lineWith n ts gs t trs = record { track = trackWith n ts gs; traffic = trafficWith t trs }
+abbrev pub bookedWith : List Booking → Booked
+bookedWith bs = record { «booking_count» = length bs; bookings = padded 120 noBooking bs }
+
+abbrev pub lineWith : ℕ → List ℕ → List Segment → ℕ → List Train → List Booking → Line
+lineWith n ts gs t trs bs = record { track = trackWith n ts gs; traffic = trafficWith t trs; booked = bookedWith bs }
 
 abbrev pub emptyTrack : Track
 emptyTrack = trackWith 0 (replicate 12 0) (replicate 11 noSegment)
 
 abbrev pub emptyLine : Line
-emptyLine = record { track = emptyTrack; traffic = trafficWith 0 (replicate 12 noTrain) }
+emptyLine = record { track = emptyTrack; traffic = trafficWith 0 (replicate 12 noTrain); booked = bookedWith [] }
 
 -- the segments of a train's path: as many as its origin and destination are apart
 abbrev pub legsBetween : ℕ → ℕ → ℕ
@@ -55,6 +63,9 @@ segmentsOf l = take (l .track .«station_count» - 1) (l .track .segments)
 
 abbrev pub trainsOf : Line → List Train
 trainsOf l = take (l .traffic .«train_count») (l .traffic .trains)
+
+abbrev pub bookingsOf : Line → List Booking
+bookingsOf l = take (l .booked .«booking_count») (l .booked .bookings)
 
 -- a run for each segment of the path, and a stop at each station between two of them
 abbrev pub runsOf : Train → List ℕ
@@ -81,7 +92,7 @@ tidyTrain t =
 unfoldable pub tidyLine : Line → Line
 tidyLine l =
     lineWith (l .track .«station_count») (padded 12 0 (tracksOf l)) (padded 11 noSegment (segmentsOf l)) (l .traffic .«train_count»)
-    (padded 12 noTrain (map tidyTrain (trainsOf l)))
+    (padded 12 noTrain (map tidyTrain (trainsOf l))) (bookingsOf l)
 
 pub record SameTrain (t u : Train) : Type 0 where
   pub origin : t .origin ≡ u .origin
@@ -104,3 +115,4 @@ pub record SameLine (l m : Line) : Type 0 where
   pub segments : segmentsOf l ≡ segmentsOf m
   pub trains : l .traffic .«train_count» ≡ m .traffic .«train_count»
   pub each-train : SameTrains (trainsOf l) (trainsOf m)
+  pub bookings : bookingsOf l ≡ bookingsOf m

@@ -3,12 +3,16 @@
 -- tracks a station has does not matter here.
 use Prim.Native.Nat.{ℕ}
 use mathlib.Core.Path.{_≡_}
+use mathlib.Core.List.{List}
+use lib.ListN.{length}
 use Rattle.text.specs.declared.Limits.{Limits}
 use Rattle.finite.specs.Each.{Each}
 use Rattle.line.specs.declared.Train.{Train}
+use Rattle.line.specs.declared.Booking.{Booking}
 use Rattle.line.specs.declared.Line.{Line}
-use Rattle.line.specs.Ranges.{In, stationCount, trainCount, station, time, weight, run}
-use Rattle.line.specs.Record.{segmentsOf, trainsOf, runsOf, stopsOf}
+use Rattle.line.specs.Ranges.{In, stationCount, trainCount, trainNumber, bookingCount, station, time, weight, run}
+use Rattle.line.specs.Record.{segmentsOf, trainsOf, bookingsOf, runsOf, stopsOf}
+use Rattle.line.specs.Bookings.{Between, numbered}
 use Rattle.line.specs.Within.{SegmentWithin}
 
 -- an earliest with a hold
@@ -29,8 +33,15 @@ pub record TrainRunnable (n : ℕ) (t : Train) : Type 0 where
   pub runs : Each (In run) (runsOf t)
   pub stops : Each (In heldStop) (stopsOf t)
 
+pub record BookingRunnable (trains : List Train) (b : Booking) : Type 0 where
+  pub train : In (trainNumber (length trains)) (b .train)
+  pub middle : Between (numbered trains (b .train)) (b .station)
+  pub minute : In time (b .minute)
+
 pub record Runnable (l : Line) : Type 0 where
   pub stations : In stationCount (l .track .«station_count»)
   pub segments : Each SegmentWithin (segmentsOf l)
   pub trains : In trainCount (l .traffic .«train_count»)
   pub each-train : Each (TrainRunnable (l .track .«station_count»)) (trainsOf l)
+  pub bookings : In bookingCount (l .booked .«booking_count»)
+  pub each-booking : Each (BookingRunnable (trainsOf l)) (bookingsOf l)

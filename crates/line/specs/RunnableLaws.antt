@@ -1,13 +1,14 @@
 -- A law of lines whose trains can be run: a line within the limits is one.
 use Prim.Native.Nat.{ℕ, _≤_}
 use native.Mathlib.Omega.{arith}
+use Rattle.text.specs.Sections.ChainedLaws.{each-of-after}
 use Rattle.finite.specs.EachLaws.{each-map}
 use Rattle.line.specs.declared.Train.{Train}
 use Rattle.line.specs.declared.Line.{Line}
 use Rattle.line.specs.Ranges.{In, stop}
-use Rattle.line.specs.Record.{trainsOf, stopsOf}
-use Rattle.line.specs.Within.{TrainWithin, Within}
-use Rattle.line.specs.Runnable.{heldStop, TrainRunnable, Runnable}
+use Rattle.line.specs.Record.{noBooking, trainsOf, bookingsOf, stopsOf}
+use Rattle.line.specs.Within.{TrainWithin, BookingWithin, Within}
+use Rattle.line.specs.Runnable.{heldStop, TrainRunnable, BookingRunnable, Runnable}
 
 train-within-runnable : (n : ℕ) (t : Train) → TrainWithin n t → TrainRunnable n t
 train-within-runnable n t w =
@@ -30,4 +31,8 @@ within-runnable l w =
       segments = w .segments;
       trains = w .trains;
       each-train = each-map (TrainWithin n) (TrainRunnable n) (train-within-runnable n) (trainsOf l) (w .each-train);
+      bookings = w .bookings;
+      each-booking =
+          each-of-after (λ before b. b) (BookingWithin n (trainsOf l)) (BookingRunnable (trainsOf l))
+          (λ before b v. record { train = v .train; middle = v .middle; minute = v .minute }) (bookingsOf l) noBooking (w .each-booking);
     }

@@ -1,19 +1,28 @@
--- Laws of reading the sections, how each is refused, at its count or in its lines; and of the file, by its length.
+-- Laws of reading the sections, how each is refused, at its count or in its lines, or left off; and of the file, by its length.
 use Prim.Native.Nat.{ℕ, _≤_, _<_}
-use mathlib.Core.Path.{_≡_, refl, ap, _∙_}
-use mathlib.Core.List.{List}
+use mathlib.Core.Path.{_≡_, refl, sym, ap, _∙_}
+use mathlib.Core.Bool.{not, _&&_}
+use mathlib.Core.List.{List, [], _∷_}
 use native.Mathlib.Omega.{arith}
 use borrow.Author.Tests.{lt-ltb, le-ltb}
 use lib.ListN.{length}
 use Rattle.text.specs.declared.Cursor.{Cursor}
 use Rattle.text.specs.declared.Ending.{Ending}
 use Rattle.text.specs.declared.Limits.{Limits}
-use Rattle.text.specs.Reading.Parsed.{Parsed, mapParsed, lines}
+use Rattle.text.specs.Reading.Choice.{pick}
+use Rattle.text.specs.Reading.Parsed.{Parsed, thenRead, mapParsed, lines}
 use Rattle.text.specs.Reading.ParsedLaws.{then-got, got-is, ranged-spelt}
 use Rattle.text.specs.Elements.Padded.{padded}
 use Rattle.text.specs.Reading.Told.{toldEnding}
+use Rattle.text.specs.Sections.Chained.{chained, left, optionalAt}
+use Rattle.text.specs.Sections.ChainedLaws.{chained-length}
 use Rattle.line.specs.Ranges.{In}
-use Rattle.line.specs.File.{number, Section, sectionAt, lineAt, lineFile}
+use Rattle.line.specs.File.{number, Section, sectionAt, risingAt, null, lineAt, lineFile}
+
+-- what a part tells with its value turned into another
+told-map : {A B : Type 0} (f : A → B) (e : Ending) (x : A) → toldEnding e (f x) ≡ mapParsed f (toldEnding e x)
+told-map f (Ending.Done c) x = refl
+told-map f (Ending.Refused n p) x = refl
 
 -- ---- a section: its count, then its lines
 
@@ -27,14 +36,10 @@ module _ {A : Type 0} (r : Limits) (size : ℕ) (none : A) (line : List ℕ → 
       toldEnding e xs ≡ mapParsed (padded size none) (lines n line s c₁) →
       toldEnding e (record { count = n; entries = xs }) ≡ sectionAt r size none line s c
   unfolding sectionAt
-  section-lines n c₁ e xs h told = rw h (counted e ∙ ap (λ (p : Parsed (List A)). mapParsed (with n) p) told ∙ both (lines n line s c₁))
+  section-lines n c₁ e xs h told = rw h (told-map (with n) e xs ∙ ap (λ (p : Parsed (List A)). mapParsed (with n) p) told ∙ both (lines n line s c₁))
     where
       with : ℕ → List A → Section A
       with m ys = record { count = m; entries = ys }
-
-      counted : (y : Ending) → toldEnding y (with n xs) ≡ mapParsed (with n) (toldEnding y xs)
-      counted (Ending.Done d) = refl
-      counted (Ending.Refused m q) = refl
 
       both : (p : Parsed (List A)) → mapParsed (with n) (mapParsed (padded size none) p) ≡ mapParsed (λ ys. with n (padded size none ys)) p
       both (Parsed.got ys d) = refl
@@ -48,6 +53,47 @@ module _ {A : Type 0} (r : Limits) (size : ℕ) (none : A) (line : List ℕ → 
       let xs = then-got (lines (n .value) line s (n .next)) _ x next (n .after) in
       let count = ranged-spelt 2 3 (r .min) (r .max) 10 s c (n .value) (n .next) (omega arith) (n .first) in
       got-is (λ y end. In r (y .count)) (xs .after) (count .low, count .high)
+
+-- ---- a section that may be left off, of lines in rising order, with a count from 1
+
+module _ {A : Type 0} (r : Limits) (none : A) (line : A → List ℕ → Cursor → Parsed A) (s : List ℕ) (c : Cursor) where
+  pub rising-left-off : length s ≤ c .at → optionalAt 3 [] null (risingAt r none line) s c ≡ Parsed.got [] c
+  unfolding optionalAt
+  rising-left-off end = rw (le-ltb (c .at) (length s) end) refl
+
+  module _ (more : c .at < length s) where
+    pub rising-no-count : {m q : ℕ} → number r 10 s c ≡ Parsed.bad m q → optionalAt 3 [] null (risingAt r none line) s c ≡ Parsed.bad m q
+    unfolding optionalAt risingAt
+    rising-no-count e = rw (lt-ltb (c .at) (length s) more, e) refl
+
+    -- it is what its lines are: with a count from 1 it is never empty
+    rising-read : 1 ≤ r .min → (n : ℕ) (c₁ : Cursor) → number r 10 s c ≡ Parsed.got n c₁ →
+        optionalAt 3 [] null (risingAt r none line) s c ≡ chained (λ before x. x) line n none s c₁
+    unfolding optionalAt risingAt
+    rising-read least n c₁ e = rw (lt-ltb (c .at) (length s) more, e) (go (chained (λ before x. x) line n none s c₁) refl)
+      where
+        go : (p : Parsed (List A)) → chained (λ before x. x) line n none s c₁ ≡ p →
+            thenRead p (λ x next. pick (null x && not (left s next)) (Parsed.bad 3 (c .line)) (Parsed.got x next)) ≡ p
+        go (Parsed.got [] d) h =
+            let many = chained-length (λ before x. x) line n none s c₁ [] d h in
+            let count = ranged-spelt 2 3 (r .min) (r .max) 10 s c n c₁ (omega arith) e in
+            absurd (omega (arith, many, count .low, least))
+        go (Parsed.got (x ∷ xs) d) h = refl
+        go (Parsed.bad m q) h = refl
+
+    -- the section of n lines that ended so, with the array xs; `with` makes a record of a count and an array
+    pub rising-lines : {B : Type 0} (with : ℕ → List A → B) (size : ℕ) → 1 ≤ r .min → (n : ℕ) (c₁ : Cursor) (e : Ending) (xs : List A) →
+        number r 10 s c ≡ Parsed.got n c₁ → toldEnding e xs ≡ mapParsed (padded size none) (chained (λ before x. x) line n none s c₁) →
+        toldEnding e (with n xs) ≡ mapParsed (λ ys. with (length ys) (padded size none ys)) (optionalAt 3 [] null (risingAt r none line) s c)
+    rising-lines with size least n c₁ e xs h told =
+        told-map (with n) e xs ∙ ap (λ (p : Parsed (List A)). mapParsed (with n) p) told ∙ both (chained (λ before x. x) line n none s c₁) refl
+        ∙ ap (λ (p : Parsed (List A)). mapParsed (λ ys. with (length ys) (padded size none ys)) p) (sym (rising-read least n c₁ h))
+      where
+        both : (p : Parsed (List A)) → chained (λ before x. x) line n none s c₁ ≡ p →
+            mapParsed (with n) (mapParsed (padded size none) p) ≡ mapParsed (λ ys. with (length ys) (padded size none ys)) p
+        both (Parsed.got ys d) is =
+            ap (λ (k : ℕ). Parsed.got (with k (padded size none ys)) d) (sym (chained-length (λ before x. x) line n none s c₁ ys d is))
+        both (Parsed.bad m q) is = refl
 
 -- ---- the file
 

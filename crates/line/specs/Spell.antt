@@ -1,12 +1,17 @@
 -- The text of a line: the bytes of its line file, section by section. Each part is written with what follows it.
 use Prim.Native.Nat.{ℕ, _-_}
 use mathlib.Core.List.{List, [], _∷_, _++_}
-use lib.ListN.{getD, drop}
+use mathlib.Core.Bool.{Bool}
+use lib.Dec.{eqb}
+use lib.ListN.{length, getD, take, drop}
 use Rattle.text.specs.Writing.Digits.{digits}
 use Rattle.text.specs.Elements.EachThen.{eachThen}
+use Rattle.text.specs.Sections.Chained.{optionalText}
 use Rattle.line.specs.declared.Kind.{Kind}
 use Rattle.line.specs.declared.Segment.{Segment}
 use Rattle.line.specs.declared.Train.{Train}
+use Rattle.line.specs.declared.Booking.{Booking}
+use Rattle.line.specs.declared.Booked.{Booked}
 use Rattle.line.specs.declared.Line.{Line}
 use Rattle.line.specs.Record.{tracksOf, segmentsOf, trainsOf, runsOf, stopsOf}
 
@@ -36,9 +41,23 @@ headText t rest = field (t .origin) 32 (field (t .destination) 32 (field (t .ear
 abbrev pub trainText : Train → List ℕ → List ℕ
 trainText t rest = headText t (journeyText (stopsOf t) (runsOf t) rest)
 
--- the whole text
+abbrev pub bookingText : Booking → List ℕ → List ℕ
+bookingText b rest = field (b .train) 32 (field (b .station) 32 (field (b .minute) 10 rest))
+
+abbrev pub bookingsText : List Booking → List ℕ → List ℕ
+bookingsText bs rest = field (length bs) 10 (eachThen bookingText bs rest)
+
+-- the section of a record's bookings, and whether it is empty
+abbrev pub bookedText : Booked → List ℕ → List ℕ
+bookedText b rest = field (b .«booking_count») 10 (eachThen bookingText (take (b .«booking_count») (b .bookings)) rest)
+
+abbrev pub unbooked : Booked → Bool
+unbooked b = eqb (b .«booking_count») 0
+
+-- the whole text; "Sections past the third may be left off from the end, and the last one written is never empty"
 unfoldable pub textOf : Line → List ℕ
 textOf l =
     field (l .track .«station_count») 10 (eachThen stationText (tracksOf l)
     (field (l .track .«station_count» - 1) 10 (eachThen segmentText (segmentsOf l)
-    (field (l .traffic .«train_count») 10 (eachThen trainText (trainsOf l) [])))))
+    (field (l .traffic .«train_count») 10 (eachThen trainText (trainsOf l)
+    (optionalText unbooked bookedText (l .booked) []))))))

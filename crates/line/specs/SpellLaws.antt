@@ -3,18 +3,22 @@ use Prim.Native.Nat.{ℕ, suc, _+_, _-_, _≤_, _<_}
 use mathlib.Core.Path.{_≡_, refl, sym, ap, _∙_}
 use mathlib.Core.List.{List, [], _∷_, _++_, append-assoc, append-nil}
 use native.Mathlib.Omega.{arith}
+use borrow.Author.Tests.{eq-eqb, ne-eqb}
 use lib.ListN.{length, getD, take, drop, length-append}
 use lib.Seq.{drop-drop, getD-take, getD-drop, length-take-le}
 use Rattle.text.specs.Writing.Digits.{digits, fieldText}
 use Rattle.text.specs.Elements.EachThen.{eachThen}
 use Rattle.text.specs.Elements.LeftLaws.{left-cons, left-none}
+use Rattle.text.specs.Sections.Chained.{optionalText}
 use Rattle.text.specs.Writing.Splice.{Put}
 use Rattle.text.specs.Writing.SpliceLaws.{Putting, putting-step, putting-room, putting-end}
 use Rattle.line.specs.declared.Segment.{Segment}
 use Rattle.line.specs.declared.Train.{Train}
+use Rattle.line.specs.declared.Booking.{Booking}
+use Rattle.line.specs.declared.Booked.{Booked}
 use Rattle.line.specs.declared.Line.{Line}
 use Rattle.line.specs.Record.{tracksOf, segmentsOf, trainsOf, stopsOf, runsOf}
-use Rattle.line.specs.Spell.{stationText, letterByte, segmentText, journeyText, headText, trainText, textOf}
+use Rattle.line.specs.Spell.{stationText, letterByte, segmentText, journeyText, headText, trainText, bookingText, bookedText, unbooked, textOf}
 
 -- ---- each part, and then what follows it
 
@@ -35,6 +39,9 @@ pub train-then : (t : Train) (rest : List ℕ) → trainText t rest ≡ trainTex
 train-then t rest =
     ap (λ (l : List ℕ). headText t l) (journey-then (stopsOf t) (runsOf t) rest)
     ∙ (simp append-assoc)
+
+pub booking-then : (b : Booking) (rest : List ℕ) → bookingText b rest ≡ bookingText b [] ++ rest
+booking-then b rest = simp append-assoc
 
 module _ {A : Type 0} (text : A → List ℕ → List ℕ) (parts : (x : A) (rest : List ℕ) → text x rest ≡ text x [] ++ rest) where
   pub each-then : (xs : List A) (rest : List ℕ) → eachThen text xs rest ≡ eachThen text xs [] ++ rest
@@ -138,6 +145,30 @@ module _ (t : Train) where
   pub train-size : length (trainText t []) ≡ length (headText t []) + length (journeyText (stopsOf t) (runsOf t) [])
   train-size = ap length train-parts ∙ length-append (headText t []) (journeyText (stopsOf t) (runsOf t) [])
 
+module _ (b : Booking) where
+  pub booking-parts : bookingText b [] ≡ fieldText (b .train) 32 ++ (fieldText (b .station) 32 ++ fieldText (b .minute) 10)
+  booking-parts = simp append-assoc
+
+  pub booking-size : length (bookingText b []) ≡ length (fieldText (b .train) 32) + (length (fieldText (b .station) 32) + length (fieldText (b .minute) 10))
+  booking-size = ap length booking-parts ∙ (rw (length-append (fieldText (b .train) 32), length-append (fieldText (b .station) 32)) refl)
+
+module _ (b : Booked) where
+  -- nothing is written where there are no bookings
+  pub unbooked-put : (entry : List ℕ) (start : ℕ) → b .«booking_count» ≡ 0 → Put entry entry start (optionalText unbooked bookedText b []) start
+  unfolding optionalText
+  unbooked-put entry start none = rw (eq-eqb (b .«booking_count») 0 none) (record { bytes = refl; next = omega arith })
+
+  abbrev bookings-part : List ℕ
+  bookings-part = eachThen bookingText (take (b .«booking_count») (b .bookings)) []
+
+  module _ (some : b .«booking_count» ≡ 0 → ⊥) where
+    pub booked-parts : optionalText unbooked bookedText b [] ≡ fieldText (b .«booking_count») 10 ++ bookings-part
+    unfolding optionalText
+    booked-parts = rw (ne-eqb (b .«booking_count») 0 some) (simp append-assoc)
+
+    pub booked-size : length (optionalText unbooked bookedText b []) ≡ length (fieldText (b .«booking_count») 10) + length bookings-part
+    booked-size = ap length booked-parts ∙ length-append (fieldText (b .«booking_count») 10) bookings-part
+
 module _ (l : Line) where
   abbrev stations-part : List ℕ
   stations-part = eachThen stationText (tracksOf l) []
@@ -148,20 +179,25 @@ module _ (l : Line) where
   abbrev trains-part : List ℕ
   trains-part = eachThen trainText (trainsOf l) []
 
+  abbrev booked-part : List ℕ
+  booked-part = optionalText unbooked bookedText (l .booked) []
+
   pub line-parts : textOf l ≡ fieldText (l .track .«station_count») 10
-      ++ (stations-part ++ (fieldText (l .track .«station_count» - 1) 10 ++ (segments-part ++ (fieldText (l .traffic .«train_count») 10 ++ trains-part))))
+      ++ (stations-part ++ (fieldText (l .track .«station_count» - 1) 10 ++ (segments-part ++ (fieldText (l .traffic .«train_count») 10 ++ (trains-part ++ booked-part)))))
   unfolding textOf
   line-parts =
-      let rest = digits (l .traffic .«train_count») ++ (10 ∷ trains-part) in
+      let trains = digits (l .traffic .«train_count») ++ (10 ∷ eachThen trainText (trainsOf l) booked-part) in
       ap (λ (x : List ℕ). digits (l .track .«station_count») ++ (10 ∷ x)) (
-      each-then stationText station-then (tracksOf l) (digits (l .track .«station_count» - 1) ++ (10 ∷ eachThen segmentText (segmentsOf l) rest))
-      ∙ ap (λ (x : List ℕ). stations-part ++ (digits (l .track .«station_count» - 1) ++ (10 ∷ x))) (each-then segmentText segment-then (segmentsOf l) rest)
-      )
+      each-then stationText station-then (tracksOf l) (digits (l .track .«station_count» - 1) ++ (10 ∷ eachThen segmentText (segmentsOf l) trains))
+      ∙ ap (λ (x : List ℕ). stations-part ++ (digits (l .track .«station_count» - 1) ++ (10 ∷ x))) (
+      each-then segmentText segment-then (segmentsOf l) trains
+      ∙ ap (λ (x : List ℕ). segments-part ++ (digits (l .traffic .«train_count») ++ (10 ∷ x))) (each-then trainText train-then (trainsOf l) booked-part)
+      ))
       ∙ (simp append-assoc)
 
   pub line-size : length (textOf l) ≡ length (fieldText (l .track .«station_count») 10)
       + (length stations-part + (length (fieldText (l .track .«station_count» - 1) 10)
-      + (length segments-part + (length (fieldText (l .traffic .«train_count») 10) + length trains-part))))
+      + (length segments-part + (length (fieldText (l .traffic .«train_count») 10) + (length trains-part + length booked-part)))))
   line-size =
       ap length line-parts
       ∙ (rw (
@@ -170,4 +206,5 @@ module _ (l : Line) where
         length-append (fieldText (l .track .«station_count» - 1) 10),
         length-append segments-part,
         length-append (fieldText (l .traffic .«train_count») 10),
+        length-append trains-part,
       ) refl)

@@ -1,17 +1,26 @@
 -- A record has no fault exactly when it is a line within the limits.
 use Prim.Native.Nat.{ℕ, _+_}
 use mathlib.Core.Path.{_≡_, refl}
+use mathlib.Core.Bool.{Bool, true, false, not}
 use mathlib.Core.List.{List, [], _∷_}
+use native.Mathlib.Omega.{arith}
+use lib.ListN.{length}
+use Rattle.text.specs.Reading.Choice.{pick}
+use Rattle.text.specs.Sections.Chained.{EachAfter}
+use Rattle.finite.specs.Decide.{Decides}
 use Rattle.text.specs.declared.Limits.{Limits}
 use Rattle.finite.specs.Each.{Each}
 use Rattle.line.specs.declared.Segment.{Segment}
 use Rattle.line.specs.declared.Train.{Train}
+use Rattle.line.specs.declared.Booking.{Booking}
 use Rattle.line.specs.declared.Line.{Line}
 use Rattle.line.specs.declared.writing.Fault.{Fault}
-use Rattle.line.specs.Ranges.{In, stationCount, tracks, gap, trainCount, run, stop}
-use Rattle.line.specs.Record.{tracksOf, segmentsOf, trainsOf, runsOf, stopsOf}
-use Rattle.line.specs.Within.{SegmentWithin, TrainWithin, Within}
-use Rattle.line.specs.Writing.{numberFault, linesFault, timesFault, trackFault, segmentFault, trainFault, faultOf}
+use Rattle.line.specs.Ranges.{In, stationCount, tracks, gap, trainCount, trainNumber, bookingCount, station, time, run, stop}
+use Rattle.line.specs.Record.{noBooking, tracksOf, segmentsOf, trainsOf, bookingsOf, runsOf, stopsOf}
+use Rattle.line.specs.Bookings.{bookable}
+use Rattle.line.specs.BookingsLaws.{decides-bookable}
+use Rattle.line.specs.Within.{SegmentWithin, TrainWithin, BookingWithin, Within}
+use Rattle.line.specs.Writing.{numberFault, linesFault, timesFault, trackFault, segmentFault, trainFault, bookingFault, risingFault, trackFaultOf, trafficFaultOf, bookedFaultOf, faultOf}
 use Rattle.line.specs.FaultLaws.{CleanWhen, tells-then, tells-number, tells-head, times-lines}
 
 -- the same in other words
@@ -52,18 +61,55 @@ tells-train n p t =
     (λ w. (((w .origin, (w .destination, w .apart)), (w .earliest, (w .latest, w .weight))), (w .runs, w .stops)))
     (tells-then _ _ (tells-head n p t) (tells-then _ _ (tells-times run (runsOf t) p) (tells-times stop (stopsOf t) p)))
 
+-- elements on lines of their own, each after the one before it
+tells-rising : {A : Type 0} (f : A → ℕ → A → Fault) (P : A → A → Type 0) → ((before : A) (p : ℕ) (x : A) → CleanWhen (f before p x) (P before x)) →
+    (xs : List A) (before : A) (p : ℕ) → CleanWhen (risingFault xs f before p) (EachAfter (λ a x. x) P before xs)
+unfolding risingFault
+tells-rising f P one [] before p = record { holds = λ e. tt; clean = λ u. refl }
+tells-rising f P one (x ∷ xs) before p =
+    tells-then (f before p x) (risingFault xs f x (p + 1)) (one before p x) (tells-rising f P one xs x (p + 1))
+
+-- a test before what follows it
+tells-test : {P Q : Type 0} (b : Bool) (m p : ℕ) (f : Fault) → Decides P b → CleanWhen f Q → CleanWhen (pick (not b) (Fault.At m p) f) (P × Q)
+tells-test true m p f d q = record { holds = λ e. (d .yea refl, q .holds e); clean = λ h. q .clean (h .1) }
+tells-test false m p f d q =
+    record { holds = λ e. let z : _≡_ {A = ℕ} 0 1 = cc in absurd (omega arith); clean = λ h. absurd (d .nay refl (h .0)) }
+
+tells-booking : (n : ℕ) (trains : List Train) (before : Booking) (p : ℕ) (b : Booking) → CleanWhen (bookingFault n trains before p b) (BookingWithin n trains before b)
+unfolding bookingFault
+tells-booking n trains before p b =
+    tells-as
+    (λ h. record { train = h .0; station = h .1 .0; order = h .1 .1 .0 .0; middle = h .1 .1 .0 .1; minute = h .1 .1 .1 })
+    (λ w. (w .train, (w .station, ((w .order, w .middle), w .minute))))
+    (tells-then _ _ (tells-number (trainNumber (length trains)) (b .train) p)
+    (tells-then _ _ (tells-number (station n) (b .station) p)
+    (tells-test (bookable trains before (b .train) (b .station)) 19 p _ (decides-bookable trains before (b .train) (b .station)) (tells-number time (b .minute) p))))
+
 tells-line : (l : Line) → CleanWhen (faultOf l) (Within l)
-unfolding faultOf
+unfolding faultOf trackFaultOf trafficFaultOf bookedFaultOf
 tells-line l =
     let n = l .track .«station_count» in
+    let first = n + n + 3 + l .traffic .«train_count» in
     tells-as
-    (λ h. record { stations = h .0; tracks = h .1 .0; segments = h .1 .1 .0; trains = h .1 .1 .1 .0; each-train = h .1 .1 .1 .1 })
-    (λ w. (w .stations, (w .tracks, (w .segments, (w .trains, w .each-train)))))
+    (λ h. record {
+      stations = h .0 .0;
+      tracks = h .0 .1 .0;
+      segments = h .0 .1 .1;
+      trains = h .1 .0 .0;
+      each-train = h .1 .0 .1;
+      bookings = h .1 .1 .0;
+      each-booking = h .1 .1 .1;
+    })
+    (λ w. ((w .stations, (w .tracks, w .segments)), ((w .trains, w .each-train), (w .bookings, w .each-booking))))
+    (tells-then _ _
     (tells-then _ _ (tells-number stationCount n 1)
     (tells-then _ _ (tells-lines trackFault (In tracks) (λ p t. tells-number tracks t p) (tracksOf l) 2)
-    (tells-then _ _ (tells-lines segmentFault SegmentWithin tells-segment (segmentsOf l) (n + 3))
+    (tells-lines segmentFault SegmentWithin tells-segment (segmentsOf l) (n + 3))))
+    (tells-then _ _
     (tells-then _ _ (tells-number trainCount (l .traffic .«train_count») (n + n + 2))
-    (tells-lines (trainFault n) (TrainWithin n) (tells-train n) (trainsOf l) (n + n + 3))))))
+    (tells-lines (trainFault n) (TrainWithin n) (tells-train n) (trainsOf l) (n + n + 3)))
+    (tells-then _ _ (tells-number bookingCount (l .booked .«booking_count») first)
+    (tells-rising (bookingFault n (trainsOf l)) (BookingWithin n (trainsOf l)) (tells-booking n (trainsOf l)) (bookingsOf l) noBooking (first + 1)))))
 
 pub within-of : (l : Line) → faultOf l ≡ Fault.None → Within l
 within-of l = tells-line l .holds

@@ -1,7 +1,10 @@
--- Writing the record of a line: "Writing a record gives 3 or 4 with the line its field would have", in the order of the bytes; else its text.
-use Prim.Native.Nat.{ℕ, _+_}
+-- Writing the record of a line: "Writing a record gives 3 or 4 with the line its field would have", and 19 "in writing a record too", in the order of the
+-- bytes; else its text.
+use Prim.Native.Nat.{ℕ, _+_, _-_}
+use mathlib.Core.Bool.{not}
 use mathlib.Core.List.{List, [], _∷_}
 use lib.Dec.{eqb}
+use lib.ListN.{length, take}
 use Rattle.text.specs.declared.Bounded.{Bounded}
 use Rattle.text.specs.declared.Limits.{Limits}
 use Rattle.text.specs.Reading.Choice.{pick, onBounded}
@@ -9,10 +12,14 @@ use Rattle.text.specs.Reading.Limits.{boundedOf}
 use Rattle.text.specs.Writing.Lend.{Spelling}
 use Rattle.line.specs.declared.Segment.{Segment}
 use Rattle.line.specs.declared.Train.{Train}
+use Rattle.line.specs.declared.Track.{Track}
+use Rattle.line.specs.declared.Traffic.{Traffic}
+use Rattle.line.specs.declared.Booking.{Booking}
 use Rattle.line.specs.declared.Line.{Line}
 use Rattle.line.specs.declared.writing.Fault.{Fault}
-use Rattle.line.specs.Ranges.{stationCount, tracks, gap, trainCount, station, time, weight, run, stop}
-use Rattle.line.specs.Record.{tracksOf, segmentsOf, trainsOf, runsOf, stopsOf}
+use Rattle.line.specs.Ranges.{stationCount, tracks, gap, trainCount, trainNumber, bookingCount, station, time, weight, run, stop}
+use Rattle.line.specs.Record.{noBooking, trainsOf, bookingsOf, runsOf, stopsOf}
+use Rattle.line.specs.Bookings.{bookable}
 use Rattle.line.specs.Spell.{textOf}
 
 -- the first of two faults
@@ -66,13 +73,46 @@ trainFault n p t =
     (thenFault (timesFault (runsOf t) run p)
     (timesFault (stopsOf t) stop p))
 
+-- train (3), station (3, then 19), minute (3)
+unfoldable pub bookingFault : ℕ → List Train → Booking → ℕ → Booking → Fault
+bookingFault n trains before p b =
+    thenFault (numberFault (trainNumber (length trains)) (b .train) p)
+    (thenFault (numberFault (station n) (b .station) p)
+    (pick (not (bookable trains before (b .train) (b .station))) (Fault.At 19 p) (numberFault time (b .minute) p)))
+
+-- the first fault of elements on lines of their own, each after the one before it, from line p on
+unfoldable pub risingFault : {A : Type 0} → List A → (A → ℕ → A → Fault) → A → ℕ → Fault
+risingFault [] f before p = Fault.None
+risingFault (x ∷ xs) f before p = thenFault (f before p x) (risingFault xs f x (p + 1))
+
+-- ---- part by part
+
+unfoldable pub trackFaultOf : Track → Fault
+trackFaultOf k =
+    thenFault (numberFault stationCount (k .«station_count») 1)
+    (thenFault (linesFault (take (k .«station_count») (k .tracks)) trackFault 2)
+    (linesFault (take (k .«station_count» - 1) (k .segments)) segmentFault (k .«station_count» + 3)))
+
+-- of a line with n stations
+unfoldable pub trafficFaultOf : ℕ → Traffic → Fault
+trafficFaultOf n t =
+    thenFault (numberFault trainCount (t .«train_count») (n + n + 2))
+    (linesFault (take (t .«train_count») (t .trains)) (trainFault n) (n + n + 3))
+
+-- the line of the count of bookings
+abbrev pub bookingsLine : Line → ℕ
+bookingsLine l = l .track .«station_count» + l .track .«station_count» + 3 + l .traffic .«train_count»
+
+unfoldable pub bookedFaultOf : Line → Fault
+bookedFaultOf l =
+    thenFault (numberFault bookingCount (l .booked .«booking_count») (bookingsLine l))
+    (risingFault (bookingsOf l) (bookingFault (l .track .«station_count») (trainsOf l)) noBooking (bookingsLine l + 1))
+
 unfoldable pub faultOf : Line → Fault
 faultOf l =
-    thenFault (numberFault stationCount (l .track .«station_count») 1)
-    (thenFault (linesFault (tracksOf l) trackFault 2)
-    (thenFault (linesFault (segmentsOf l) segmentFault (l .track .«station_count» + 3))
-    (thenFault (numberFault trainCount (l .traffic .«train_count») (l .track .«station_count» + l .track .«station_count» + 2))
-    (linesFault (trainsOf l) (trainFault (l .track .«station_count»)) (l .track .«station_count» + l .track .«station_count» + 3)))))
+    thenFault (trackFaultOf (l .track))
+    (thenFault (trafficFaultOf (l .track .«station_count») (l .traffic))
+    (bookedFaultOf l))
 
 abbrev pub onFault : {A : Type 0} → Fault → A → (ℕ → ℕ → A) → A
 onFault Fault.None a f = a

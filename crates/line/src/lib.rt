@@ -51,10 +51,24 @@ pub struct Traffic {
     pub trains: [Train; 12],
 }
 
+// The train does not leave this station of its path before the minute.
+pub struct Booking {
+    pub train: u16,
+    pub station: u16,
+    pub minute: u16,
+}
+
+// The bookings, in rising order of train and then of station.
+pub struct Booked {
+    pub booking_count: u16,
+    pub bookings: [Booking; 120],
+}
+
 // Entries beyond a count are 0 (a kind is S) after reading and ignored in writing.
 pub struct Line {
     pub track: Track,
     pub traffic: Traffic,
+    pub booked: Booked,
 }
 
 pub enum Answer {
@@ -137,6 +151,13 @@ impl Train {
         let limits = Train::numbers(count);
         limits.value(n)
     }
+}
+
+impl Booking {
+    // How many there may be. In the file the section is left off where there are none, so its count is from 1.
+    pub const COUNT: Limits = Limits { min: 0, max: 120 };
+
+    pub const WRITTEN: Limits = Limits { min: 1, max: 120 };
 }
 
 // How many segments lie between two stations.

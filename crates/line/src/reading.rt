@@ -5,10 +5,16 @@ ghost use Rattle.text.specs.Places.Lines.{Counted};
 ghost use Rattle.text.specs.Reading.Parsed.{mapParsed, lines};
 ghost use Rattle.text.specs.Reading.Told.{toldEnding};
 ghost use Rattle.text.specs.Elements.Padded.{padded};
-ghost use Rattle.line.specs.Record.{noSegment, noTrain, trackWith, trafficWith, emptyTrack, emptyLine};
-ghost use Rattle.line.specs.File.{toldKind, stationLine, stationSection, letterOf, kindAt, afterField, segmentLine, segmentSection, pathAt, headAt, trainWith, trainLine, trainSection, lineFile, answered};
+ghost use Rattle.line.specs.Record.{noSegment, noTrain, noBooking, trackWith, trafficWith, bookedWith, emptyTrack, emptyLine};
+ghost use Rattle.line.specs.Bookings.{rises, between, bookable};
+ghost use Rattle.text.specs.Sections.Chained.{chained};
+ghost use mathlib.Core.List.{[]};
+ghost use lib.ListN.{take};
+ghost use Rattle.line.specs.File.{toldKind, stationLine, stationSection, letterOf, kindAt, afterField, segmentLine, segmentSection, pathAt, headAt, trainWith, trainLine, trainSection, bookingLine, bookingSection, lineFile, answered};
 ghost use Rattle.line.specs.Parts.{trackFrom, endOf, CanComplete, completedFrom};
 use crate::Answer;
+use crate::Booked;
+use crate::Booking;
 use crate::Kind;
 use crate::Line;
 use crate::MAX_BYTES;
@@ -102,6 +108,22 @@ pub struct TrainSection {
     pub ending: Ending,
     pub count: u16,
     pub trains: [Train; 12],
+}
+
+// A booking's line, the lines of bookings, and their section.
+pub struct BookingPart {
+    pub ending: Ending,
+    pub booking: Booking,
+}
+
+pub struct BookingLines {
+    pub ending: Ending,
+    pub bookings: [Booking; 120],
+}
+
+pub struct BookingSection {
+    pub ending: Ending,
+    pub booked: Booked,
 }
 
 // The stations and segments, and where the reader stands after them; where they are refused, where it stood before.
@@ -461,6 +483,162 @@ fn train_section(s: &[u8], start: Cursor, stations: u16) -> TrainSection
     }
 }
 
+pub fn no_booking() -> Booking
+    ensures { λ r. ⌜ r ≡ noBooking ⌝ }
+{
+    Booking {
+        train: 0,
+        station: 0,
+        minute: 0,
+    }
+}
+
+fn no_bookings() -> Booked
+    ensures { λ r. ⌜ r ≡ bookedWith [] ⌝ }
+{
+    let none = no_booking();
+    let bookings = [none; 120];
+    Booked {
+        booking_count: 0,
+        bookings,
+    }
+}
+
+// Whether a booking of this train at this station comes after the one before it.
+fn rises_after(before: Booking, train: u16, station: u16) -> bool
+    ensures { λ r. ⌜ r ≡ rises before train station ⌝ }
+{
+    before.train < train || (before.train == train && before.station < station)
+}
+
+// Whether a station lies between the origin and the destination of a train.
+fn lies_between(train: Train, station: u16) -> bool
+    ensures { λ r. ⌜ r ≡ between train station ⌝ }
+{
+    if train.origin < train.destination {
+        train.origin < station && station < train.destination
+    } else {
+        train.destination < station && station < train.origin
+    }
+}
+
+// Whether a booking of this train, of these, at this station may stand after the one before it.
+pub fn may_stand(trains: [Train; 12], before: Booking, train: u16, station: u16) -> bool
+    requires { ⌜ (1 ≤ train) × (train ≤ 12) ⌝ }
+    ensures { λ r. ⌜ r ≡ bookable trains before train station ⌝ }
+{
+    let booked = trains[train as usize - 1];
+    rises_after(before, train, station) && lies_between(booked, station)
+}
+
+// A booking that was not read.
+fn no_booking_part(ending: Ending) -> BookingPart
+    ensures { λ r. ⌜ r .ending ≡ ending ⌝ }
+{
+    let booking = no_booking();
+    BookingPart { ending, booking }
+}
+
+// A booking's line: train, station, minute.
+fn booking_line(
+    s: &[u8],
+    cursor: Cursor,
+    stations: u16,
+    traffic: Traffic,
+    before: Booking,
+) -> BookingPart
+    requires { ⌜ (traffic .«train_count» ≤ 12) × Counted cursor ⌝ }
+    ensures { λ r. ⌜ toldEnding (r .ending) (r .booking) ≡ bookingLine stations (take (traffic .«train_count») (traffic .trains)) before (now (s .entry)) cursor ⌝ }
+{
+    let t = cursor.ranged(s, SPACE, Train::numbers(traffic.train_count), FAULTS);
+    let Field::Value(train, after_train) = t else {
+        return no_booking_part(ending_of(t));
+    };
+    let p = after_train.ranged(s, SPACE, Station::numbers(stations), FAULTS);
+    let Field::Value(station, after_station) = p else {
+        return no_booking_part(ending_of(p));
+    };
+    let trains = traffic.trains;
+    if !may_stand(trains, before, train, station) {
+        return no_booking_part(Ending::Refused(19, after_train.line));
+    }
+    let m = after_station.ranged(s, LINE_FEED, Time::LIMITS, FAULTS);
+    let Field::Value(minute, next) = m else {
+        return no_booking_part(ending_of(m));
+    };
+    BookingPart {
+        ending: Ending::Done(next),
+        booking: Booking {
+            train,
+            station,
+            minute,
+        },
+    }
+}
+
+// The lines of bookings, each after the one before it.
+fn booking_lines(
+    s: &[u8],
+    start: Cursor,
+    count: usize,
+    stations: u16,
+    traffic: Traffic,
+) -> BookingLines
+    requires { ⌜ (count ≤ 120) × (traffic .«train_count» ≤ 12) × Counted start ⌝ }
+    ensures { λ r. ⌜ toldEnding (r .ending) (r .bookings) ≡ mapParsed (padded 120 noBooking) (chained (λ a b. b) (bookingLine stations (take (traffic .«train_count») (traffic .trains))) count noBooking (now (s .entry)) start) ⌝ }
+{
+    let mut before = no_booking();
+    let mut bookings = [before; 120];
+    let mut cursor = start;
+    let mut i: usize = 0;
+    let ending = 'lines: loop {
+        if i == count {
+            break 'lines Ending::Done(cursor);
+        }
+        let part = booking_line(s, cursor, stations, traffic, before);
+        let ended = part.ending;
+        let Ending::Done(next) = ended else {
+            break 'lines ended;
+        };
+        before = part.booking;
+        bookings[i] = before;
+        cursor = next;
+        i = i + 1;
+    };
+    BookingLines { ending, bookings }
+}
+
+// 4. Bookings, which may be left off: their count and a line each.
+fn booking_section(s: &[u8], start: Cursor, stations: u16, traffic: Traffic) -> BookingSection
+    requires { ⌜ (traffic .«train_count» ≤ 12) × Counted start ⌝ }
+    ensures { λ r. ⌜ toldEnding (r .ending) (r .booked) ≡ mapParsed bookedWith (bookingSection stations (take (traffic .«train_count») (traffic .trains)) (now (s .entry)) start) ⌝ }
+{
+    let none = no_bookings();
+    if s.len() <= start.at {
+        return BookingSection {
+            ending: Ending::Done(start),
+            booked: none,
+        };
+    }
+    let field = start.ranged(s, LINE_FEED, Booking::WRITTEN, FAULTS);
+    let Field::Value(count, next) = field else {
+        return BookingSection {
+            ending: ending_of(field),
+            booked: none,
+        };
+    };
+    let part = booking_lines(s, next, count as usize, stations, traffic);
+    let ending = part.ending;
+    let bookings = part.bookings;
+    BookingSection {
+        ending,
+        booked: Booked {
+            booking_count: count,
+            bookings,
+        },
+    }
+}
+
 // The track of these entries; nothing else makes one.
 fn track_with(stations: u16, tracks: [u16; 12], segments: [Segment; 11]) -> Track
     ensures { λ r. ⌜ r ≡ trackWith stations tracks segments ⌝ }
@@ -472,16 +650,24 @@ fn track_with(stations: u16, tracks: [u16; 12], segments: [Segment; 11]) -> Trac
     }
 }
 
-// The line of this track with these trains; nothing else makes one.
-fn line_with(track: Track, count: u16, trains: [Train; 12]) -> Line
-    ensures { λ r. ⌜ r ≡ record { track = track; traffic = trafficWith count trains } ⌝ }
+// The traffic of these entries; nothing else makes one.
+fn traffic_with(count: u16, trains: [Train; 12]) -> Traffic
+    ensures { λ r. ⌜ r ≡ trafficWith count trains ⌝ }
+{
+    Traffic {
+        train_count: count,
+        trains,
+    }
+}
+
+// The line of these parts; nothing else makes one.
+fn line_with(track: Track, traffic: Traffic, booked: Booked) -> Line
+    ensures { λ r. ⌜ r ≡ record { track = track; traffic = traffic; booked = booked } ⌝ }
 {
     Line {
         track,
-        traffic: Traffic {
-            train_count: count,
-            trains,
-        },
+        traffic,
+        booked,
     }
 }
 
@@ -500,7 +686,9 @@ fn empty_line() -> Line
     let track = empty_track();
     let train = no_train();
     let trains = [train; 12];
-    line_with(track, 0, trains)
+    let traffic = traffic_with(0, trains);
+    let booked = no_bookings();
+    line_with(track, traffic, booked)
 }
 
 // What reading gives where it ended so: this line; or a refusal and the empty one.
@@ -558,7 +746,7 @@ pub fn track_from(s: &[u8], at: usize) -> TrackPart
     }
 }
 
-// This track completed to a line: the trains from a position on, and nothing after the last; or the first refusal.
+// This track completed to a line: the trains and bookings from a position on, and nothing after the last; or the first refusal.
 pub fn complete_from(s: &[u8], at: usize, part: TrackPart) -> ReadLine
     requires { ⌜ CanComplete at (toldEnding (part .ending) (part .track)) ⌝ }
     ensures { λ r. ⌜ r ≡ answered (completedFrom (now (s .entry)) at (toldEnding (part .ending) (part .track))) ⌝ }
@@ -575,14 +763,21 @@ pub fn complete_from(s: &[u8], at: usize, part: TrackPart) -> ReadLine
     };
     let third = train_section(s, start, track.station_count);
     let trains_end = third.ending;
-    let Ending::Done(last) = trains_end else {
+    let Ending::Done(after_trains) = trains_end else {
         return answer_for(trains_end, empty);
+    };
+    let trains = third.trains;
+    let traffic = traffic_with(third.count, trains);
+    let fourth = booking_section(s, after_trains, track.station_count, traffic);
+    let bookings_end = fourth.ending;
+    let Ending::Done(last) = bookings_end else {
+        return answer_for(bookings_end, empty);
     };
     if last.at < s.len() {
         return answer_for(Ending::Refused(2, last.line), empty);
     }
-    let trains = third.trains;
-    let line = line_with(track, third.count, trains);
+    let booked = fourth.booked;
+    let line = line_with(track, traffic, booked);
     answer_for(Ending::Done(last), line)
 }
 

@@ -10,16 +10,24 @@ ghost use Rattle.text.specs.Writing.Lend.{Spelling, Lent};
 ghost use Rattle.line.specs.Within.{Within};
 ghost use Rattle.line.specs.Record.{legsOf, HasPath};
 ghost use Rattle.line.specs.RoundTripLaws.{ReadBack};
-ghost use Rattle.line.specs.Spell.{stationText, letterByte, segmentText, journeyText, headText, trainText, textOf};
-ghost use Rattle.line.specs.Writing.{valueFault, numberFault, linesFault, timesFault, trackFault, segmentFault, pathFault, headFault, trainFault, faultOf, spelling};
+ghost use Rattle.line.specs.Spell.{stationText, letterByte, segmentText, journeyText, headText, trainText, bookingText, bookedText, unbooked, textOf};
+ghost use Rattle.text.specs.Sections.Chained.{optionalText};
+ghost use Rattle.line.specs.Record.{noBooking};
+ghost use Rattle.line.specs.Writing.{valueFault, numberFault, linesFault, timesFault, trackFault, segmentFault, pathFault, headFault, trainFault, bookingFault, risingFault, trackFaultOf, trafficFaultOf, faultOf, spelling};
+use crate::Booked;
+use crate::Booking;
 use crate::Kind;
 use crate::Line;
 use crate::MAX_BYTES;
 use crate::Segment;
 use crate::Station;
 use crate::Time;
+use crate::Track;
+use crate::Traffic;
 use crate::Train;
 use crate::legs_between;
+use crate::reading::may_stand;
+use crate::reading::no_booking;
 use text::Bounded;
 use text::LINE_FEED;
 use text::Limits;
@@ -179,36 +187,119 @@ fn train_faults(trains: [Train; 12], count: usize, stations: u16, first: usize) 
     Fault::None
 }
 
-// The first bad field of a record, in the order of the file's bytes.
-pub fn fault_of(line: Line) -> Fault
-    ensures { λ r. ⌜ r ≡ faultOf line ⌝ }
+// Train, station (3, then 19) and minute of a booking after the one before it.
+fn booking_fault(
+    booking: Booking,
+    before: Booking,
+    stations: u16,
+    traffic: Traffic,
+    line: usize,
+) -> Fault
+    requires { ⌜ traffic .«train_count» ≤ 12 ⌝ }
+    ensures { λ r. ⌜ r ≡ bookingFault stations (take (traffic .«train_count») (traffic .trains)) before line booking ⌝ }
 {
-    let stations = line.track.station_count;
+    let train = value_fault(
+        Train::value(booking.train as u32, traffic.train_count),
+        line,
+    );
+    let Fault::None = train else {
+        return train;
+    };
+    let station = value_fault(Station::value(booking.station as u32, stations), line);
+    let Fault::None = station else {
+        return station;
+    };
+    let trains = traffic.trains;
+    if !may_stand(trains, before, booking.train, booking.station) {
+        return Fault::At(19, line);
+    }
+    value_fault(Time::value(booking.minute as u32), line)
+}
+
+fn booking_faults(
+    bookings: [Booking; 120],
+    count: usize,
+    stations: u16,
+    traffic: Traffic,
+    first: usize,
+) -> Fault
+    requires { ⌜ (count ≤ 120) × (traffic .«train_count» ≤ 12) × (first ≤ 40) ⌝ }
+    ensures { λ r. ⌜ r ≡ risingFault (take count bookings) (bookingFault stations (take (traffic .«train_count») (traffic .trains))) noBooking first ⌝ }
+{
+    let mut before = no_booking();
+    let mut i: usize = 0;
+    while i < count {
+        let booking = bookings[i];
+        let fault = booking_fault(booking, before, stations, traffic, first + i);
+        let Fault::None = fault else {
+            return fault;
+        };
+        before = booking;
+        i = i + 1;
+    }
+    Fault::None
+}
+
+fn track_fault(track: Track) -> Fault
+    ensures { λ r. ⌜ r ≡ trackFaultOf track ⌝ }
+{
+    let stations = track.station_count;
     let count = number_fault(stations, Station::COUNT, 1);
     let Fault::None = count else {
         return count;
     };
     let n = stations as usize;
-    let tracks = line.track.tracks;
+    let tracks = track.tracks;
     let fault = station_faults(tracks, n);
     let Fault::None = fault else {
         return fault;
     };
-    let segments = line.track.segments;
-    let joins = segment_faults(segments, n - 1, n + 3);
-    let Fault::None = joins else {
-        return joins;
-    };
-    let number = number_fault(line.traffic.train_count, Train::COUNT, n + n + 2);
+    let segments = track.segments;
+    segment_faults(segments, n - 1, n + 3)
+}
+
+fn traffic_fault(traffic: Traffic, stations: u16) -> Fault
+    requires { ⌜ stations ≤ 12 ⌝ }
+    ensures { λ r. ⌜ r ≡ trafficFaultOf stations traffic ⌝ }
+{
+    let n = stations as usize;
+    let number = number_fault(traffic.train_count, Train::COUNT, n + n + 2);
     let Fault::None = number else {
         return number;
     };
-    let trains = line.traffic.trains;
-    train_faults(
-        trains,
-        line.traffic.train_count as usize,
+    let trains = traffic.trains;
+    train_faults(trains, traffic.train_count as usize, stations, n + n + 3)
+}
+
+// The first bad field of a record, in the order of the file's bytes.
+pub fn fault_of(line: Line) -> Fault
+    ensures { λ r. ⌜ r ≡ faultOf line ⌝ }
+{
+    let track = line.track;
+    let on_track = track_fault(track);
+    let Fault::None = on_track else {
+        return on_track;
+    };
+    let stations = track.station_count;
+    let traffic = line.traffic;
+    let of_trains = traffic_fault(traffic, stations);
+    let Fault::None = of_trains else {
+        return of_trains;
+    };
+    let booked = line.booked;
+    let n = stations as usize;
+    let first = n + n + 3 + traffic.train_count as usize;
+    let number = number_fault(booked.booking_count, Booking::COUNT, first);
+    let Fault::None = number else {
+        return number;
+    };
+    let bookings = booked.bookings;
+    booking_faults(
+        bookings,
+        booked.booking_count as usize,
         stations,
-        n + n + 3,
+        traffic,
+        first + 1,
     )
 }
 
@@ -317,6 +408,42 @@ fn put_trains(out: &mut [u8], start: usize, trains: [Train; 12], count: usize) -
     at
 }
 
+fn put_booking(out: &mut [u8], start: usize, booking: Booking) -> usize
+    requires { ⌜ start + length (bookingText booking []) ≤ length (now out) ⌝ }
+    ensures { λ r. ⌜ Put (now (out .entry)) (now (out .exit)) start (bookingText booking []) r ⌝ }
+{
+    let after_train = put_field(out, start, booking.train as u32, SPACE);
+    let after_station = put_field(out, after_train, booking.station as u32, SPACE);
+    put_field(out, after_station, booking.minute as u32, LINE_FEED)
+}
+
+fn put_bookings(out: &mut [u8], start: usize, bookings: [Booking; 120], count: usize) -> usize
+    requires { ⌜ (count ≤ 120) × (start + length (eachThen bookingText (take count bookings) []) ≤ length (now out)) ⌝ }
+    ensures { λ r. ⌜ Put (now (out .entry)) (now (out .exit)) start (eachThen bookingText (take count bookings) []) r ⌝ }
+{
+    let mut at = start;
+    let mut i: usize = 0;
+    while i < count {
+        let booking = bookings[i];
+        at = put_booking(out, at, booking);
+        i = i + 1;
+    }
+    at
+}
+
+// The section of bookings, which is left off where there are none.
+fn put_booked(out: &mut [u8], start: usize, booked: Booked) -> usize
+    requires { ⌜ (booked .«booking_count» ≤ 120) × (start + length (optionalText unbooked bookedText booked []) ≤ length (now out)) ⌝ }
+    ensures { λ r. ⌜ Put (now (out .entry)) (now (out .exit)) start (optionalText unbooked bookedText booked []) r ⌝ }
+{
+    if booked.booking_count == 0 {
+        return start;
+    }
+    let bookings = booked.bookings;
+    let after_count = put_field(out, start, booked.booking_count as u32, LINE_FEED);
+    put_bookings(out, after_count, bookings, booked.booking_count as usize)
+}
+
 // The whole text of a line within the limits, from the first byte on.
 fn put_line(out: &mut [u8], line: Line) -> usize
     requires { ⌜ Within line × (length (textOf line) ≤ length (now out)) ⌝ }
@@ -337,7 +464,9 @@ fn put_line(out: &mut [u8], line: Line) -> usize
         line.traffic.train_count as u32,
         LINE_FEED,
     );
-    put_trains(out, after_number, trains, line.traffic.train_count as usize)
+    let after_trains = put_trains(out, after_number, trains, line.traffic.train_count as usize);
+    let booked = line.booked;
+    put_booked(out, after_trains, booked)
 }
 
 // Writes the text of a line within the limits into the lent bytes: its length, or 6 and no byte changed.

@@ -1,6 +1,7 @@
--- Laws of what is declared: paths, timetables that are the same, that there is at most one best, that a delay is a true difference, and that there is at most one
+-- Laws of what is declared: paths, bookings, timetables that are the same, that there is at most one best, that a delay is a true difference, and that there is at most one
 -- order list of a segment and lane.
 pub mod PathsLaws
+pub mod BookingsLaws
 pub mod SameLaws
 pub mod BestLaws
 pub mod DelayLaws

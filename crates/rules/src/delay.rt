@@ -5,6 +5,8 @@ ghost use lib.ListN.{length};
 ghost use Rattle.line.specs.Runnable.{Runnable};
 ghost use Rattle.rules.specs.Statement.Paths.{legs};
 ghost use Rattle.rules.specs.Statement.Delay.{freeAfter, freeArrival, weightedDelay};
+use crate::bookings::floor_of;
+use crate::bookings::later;
 use crate::passages::wide;
 use crate::rules::arrival_of;
 use line::Line;
@@ -22,7 +24,9 @@ pub fn free_after(line: Line, i: usize, k: usize) -> u16
     let mut arrival = train.earliest + runs[0];
     let mut j: usize = 0;
     while j < k {
-        arrival = arrival + stops[j] + runs[j + 1];
+        let ready = arrival + stops[j];
+        let departure = later(ready, floor_of(line, i, j + 1));
+        arrival = departure + runs[j + 1];
         j = j + 1;
     }
     arrival

@@ -1,4 +1,5 @@
 // The rules of a timetable: which rule some minutes break first, the lowest conflict, the weighted delay and the order lists.
+pub mod bookings;
 pub mod conflicts;
 pub mod delay;
 pub mod directions;

@@ -7,6 +7,7 @@ ghost use Rattle.line.specs.Within.{Within};
 ghost use Rattle.rules.specs.Statement.Paths.{Routed, segmentBetween};
 ghost use Rattle.rules.specs.Check.Tests.{departureOf, arrivalOf, startsRight, runsRight, stopsRight, endsRight, keepsRule};
 ghost use Rattle.rules.specs.Check.Breaches.{trainBreach, placeOf, conflictBreach, breachOf};
+use crate::bookings::booked_right;
 use crate::conflicts::Conflict;
 use crate::conflicts::layout_of;
 use crate::conflicts::lowest_conflict;
@@ -129,6 +130,9 @@ fn keeps_rule(rule: u8, line: Line, m: &[u16], i: usize) -> bool
     if rule == 12 {
         return stops_right(line, m, i);
     }
+    if rule == 18 {
+        return booked_right(line, m, i);
+    }
     if rule == 13 {
         return ends_right(line, m, i);
     }
@@ -178,6 +182,10 @@ pub fn breach_of(line: Line, m: &[u16]) -> Breach
     let stop = train_breach(12, line, m);
     let Breach::None = stop else {
         return stop;
+    };
+    let booked = train_breach(18, line, m);
+    let Breach::None = booked else {
+        return booked;
     };
     let late = train_breach(13, line, m);
     let Breach::None = late else {

@@ -2,6 +2,7 @@
 -- timetable's; 5 exactly when no timetable keeps every rule; 6 exactly where its text is longer than the lent bytes; else the file's own number and place.
 use Prim.Native.Nat.{ℕ, _≤_, _<_}
 use mathlib.Core.Path.{_≡_, sym, ap, _∙_}
+use mathlib.Core.Logic.{⊎-elim}
 use mathlib.Core.List.{List, _++_}
 use native.Mathlib.Omega.{arith}
 use lib.ListN.{length, take, drop}
@@ -25,7 +26,7 @@ use Rattle.screen.specs.Solved.{Solved}
 -- what solving answers can be packed
 bounded-packs : (r : Written) → AnswerBounded r → PacksWritten r
 bounded-packs (Written.Length n) h = omega arith
-bounded-packs (Written.Refused n p) h = omega (arith, h .2)
+bounded-packs (Written.Refused n p) h = omega (arith, h .1)
 
 pub solving-packs : (file entry exit : List ℕ) (w : Written) → Solving file entry exit w → PacksWritten w
 solving-packs file entry exit w s = bounded-packs w (answer-bounded file entry exit w s)
@@ -41,8 +42,8 @@ length-told (Written.Length n) r is h zero =
     let told = packed-tells r 0 n is (omega arith) in
     ap Written.Length (sym (told .1))
 length-told (Written.Refused n p) r is h zero =
-    let told = packed-tells r n p is (omega (arith, h .2)) in
-    absurd (omega (arith, told .0, h .0))
+    let told = packed-tells r n p is (omega (arith, h .1)) in
+    absurd (⊎-elim (λ b. omega (arith, told .0, b .0)) (λ e. omega (arith, told .0, e)) (h .0))
 
 -- number 5 is that refusal
 five-told : (w : Written) (r : ℕ) → r ≡ packedWritten w → AnswerBounded w → numberIn r ≡ 5 → valueIn r ≡ 0 → w ≡ Written.Refused 5 0
@@ -50,7 +51,7 @@ five-told (Written.Length n) r is h five zero =
     let told = packed-tells r 0 n is (omega arith) in
     absurd (omega (arith, told .0))
 five-told (Written.Refused n p) r is h five zero =
-    let told = packed-tells r n p is (omega (arith, h .2)) in
+    let told = packed-tells r n p is (omega (arith, h .1)) in
     ap (λ (k : ℕ). Written.Refused k p) (sym (told .0) ∙ five) ∙ ap (λ (k : ℕ). Written.Refused 5 k) (sym (told .1) ∙ zero)
 
 -- ---- the theorems

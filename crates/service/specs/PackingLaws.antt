@@ -7,7 +7,7 @@ use Rattle.text.specs.declared.Cursor.{Cursor}
 use Rattle.text.specs.Reading.Parsed.{Parsed}
 use Rattle.line.specs.declared.Line.{Line}
 use Rattle.line.specs.File.{lineFile, answered}
-use Rattle.line.specs.PlaceLaws.{file-refusal}
+use Rattle.line.specs.PlaceLaws.{FileNumber, file-number, file-refusal}
 use Rattle.timetable.specs.declared.checking.Verdict.{Verdict}
 use Rattle.timetable.specs.Check.{checkOf}
 use Rattle.timetable.specs.ExactCheckLaws.{PassedBy, passes, passed}
@@ -30,11 +30,11 @@ packed-tells r n p e h = (ap numberIn e ∙ unpacked-number n p h, ap valueIn e 
 -- ---- a reading
 
 module _ (file : List ℕ) (r : ℕ) (is : r ≡ packedAnswer (answered (lineFile file) .answer)) where
-  -- a refused file is told by its number, from 1 to 4, and its place
-  pub read-refused : (n p : ℕ) → lineFile file ≡ Parsed.bad n p → Unpacks r n p × (1 ≤ n) × (n ≤ 4)
+  -- a refused file is told by its number, 1 to 4 or 19, and its place
+  pub read-refused : (n p : ℕ) → lineFile file ≡ Parsed.bad n p → Unpacks r n p × FileNumber n
   read-refused n p e =
       let x = file-refusal file n p e in
-      (packed-tells r n p (is ∙ ap (λ (a : Parsed Line). packedAnswer (answered a .answer)) e) (omega (arith, x .place)), x .number .0, x .number .1)
+      (packed-tells r n p (is ∙ ap (λ (a : Parsed Line). packedAnswer (answered a .answer)) e) (omega (arith, x .place)), x .number)
 
   -- 0 exactly where the file is accepted
   pub read-accepted : (l : Line) (c : Cursor) → lineFile file ≡ Parsed.got l c → r ≡ 0
@@ -50,12 +50,12 @@ module _ (file : List ℕ) (r : ℕ) (is : r ≡ packedAnswer (answered (lineFil
     where
       go : (a : Parsed Line) → lineFile file ≡ a → Accepted
       go (Parsed.got l c) e = record { line = l; end = c; got = e }
-      go (Parsed.bad n p) e = let x = read-refused n p e in absurd (omega (arith, x .0 .0, x .1))
+      go (Parsed.bad n p) e = let x = read-refused n p e in absurd (omega (arith, x .0 .0, file-number (x .1) .0))
 
 -- ---- a check
 
 module _ (file s : List ℕ) (r : ℕ) (is : r ≡ packedVerdict (checkOf file s)) where
-  pub check-refused : (n p : ℕ) → checkOf file s ≡ Verdict.Refused n p → Unpacks r n p × (1 ≤ n) × (n ≤ 17)
+  pub check-refused : (n p : ℕ) → checkOf file s ≡ Verdict.Refused n p → Unpacks r n p × (1 ≤ n) × (n ≤ 19)
   check-refused n p e =
       let x = check-refusal file s n p e in
       (packed-tells r n p (is ∙ ap packedVerdict e) (omega (arith, x .place)), x .number .0, x .number .1)

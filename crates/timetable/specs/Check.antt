@@ -41,7 +41,7 @@ restBreach l m r = orBreach (listsBreach (r .lists) (orderLists l m)) (totalBrea
 
 -- ---- the whole
 
--- the rules, 10 to 15, of the minutes; then the lists and the total
+-- the rules, 10 to 15 and 18, of the minutes; then the lists and the total
 unfoldable pub timetableBreach : Line → Timetable → Breach
 timetableBreach l t = orBreach (breachOf l (t .minutes)) (restBreach l (t .minutes) (t .rest))
 

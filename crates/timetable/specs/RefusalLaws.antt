@@ -1,6 +1,7 @@
--- What the check refuses it refuses by a number from 1 to 17, at a place of at most 4,097.
-use Prim.Native.Nat.{ℕ, _+_, _≤_, _<_}
-use mathlib.Core.Path.{_≡_, refl, sym, ap, _∙_}
+-- What the check refuses it refuses by a number from 1 to 19, at a place of at most 4,097.
+use Prim.Native.Nat.{ℕ, _≤_}
+use mathlib.Core.Path.{_≡_, refl, ap}
+use mathlib.Core.Logic.{⊎-elim}
 use mathlib.Core.Bool.{Bool, true, false, cond, not}
 use mathlib.Core.Option.{Option, some, none}
 use mathlib.Core.List.{List, []}
@@ -9,7 +10,6 @@ use lib.Dec.{eqb}
 use lib.ListN.{length, getD}
 use Rattle.finite.specs.Below.{first, IsFirst}
 use Rattle.finite.specs.LoopLaws.{first-is}
-use Rattle.text.specs.declared.Cursor.{Cursor}
 use Rattle.text.specs.Reading.Parsed.{Parsed}
 use Rattle.line.specs.declared.Line.{Line}
 use Rattle.line.specs.File.{lineFile, answered}
@@ -28,7 +28,7 @@ use Rattle.timetable.specs.Check.{sameList, atList, listsBreach, totalBr
 use Rattle.timetable.specs.PlaceLaws.{text-refusal}
 
 pub record CheckRefusal (n p : ℕ) : Type 0 where
-  pub number : (1 ≤ n) × (n ≤ 17)
+  pub number : (1 ≤ n) × (n ≤ 19)
   pub place : p ≤ 4097
 
 -- ---- of a breach
@@ -98,7 +98,7 @@ check-bounded file s = go (lineFile file) refl
     go (Parsed.got l c) e = judged-bounded file l (accepts-read file l (ap answered e)) s (timetableFile l s) refl
     go (Parsed.bad n p) e =
         let x = file-refusal file n p e in
-        record { number = (omega (arith, x .number), omega (arith, x .number)); place = x .place }
+        record { number = ⊎-elim (λ y. (y .0, omega (arith, y .1))) (λ y. (omega (arith, y), omega (arith, y))) (x .number); place = x .place }
 
 pub check-refusal : (file s : List ℕ) (n p : ℕ) → checkOf file s ≡ Verdict.Refused n p → CheckRefusal n p
 check-refusal file s n p e = rw e at (check-bounded file s)

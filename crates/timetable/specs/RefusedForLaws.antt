@@ -1,9 +1,9 @@
--- Why the check refuses a text that was read: the rule that it names is the first that is broken (10 to 15); or every rule is kept and the list that it
+-- Why the check refuses a text that was read: the rule that it names is the first that is broken (10 to 15, 18); or every rule is kept and the list that it
 -- names is the first that does not have the trains of its segment and lane by departure (16); or the lists are right too, and the total is not the
 -- weighted delay (17). All of it by what is declared, the order lists too.
 use Prim.Native.Nat.{ℕ, _+_, _≤_, _<_}
 use mathlib.Core.Path.{_≡_, refl, sym, ap, _∙_}
-use mathlib.Core.Logic.{_⊎_, inl, inr}
+use mathlib.Core.Logic.{_⊎_, inl, inr, ⊎-elim}
 use mathlib.Core.Bool.{Bool, true, false, cond, not}
 use mathlib.Core.Option.{Option, some, none}
 use mathlib.Core.List.{List, []}
@@ -164,7 +164,8 @@ pub record RefusedWhy (file s : List ℕ) (n p : ℕ) : Type 0 where
   pub read : timetableFile line s ≡ Parsed.got timetable last
   pub why : RefusedFor line timetable n p
 
-module _ (file s : List ℕ) (n p : ℕ) (ten : 10 ≤ n) where
+-- 19 is a refusal of the file, for a booking
+module _ (file s : List ℕ) (n p : ℕ) (ten : 10 ≤ n) (text : n ≡ 19 → ⊥) where
   judged-why : (l : Line) (c : Cursor) → lineFile file ≡ Parsed.got l c → (x : Parsed Timetable) → timetableFile l s ≡ x → judged l x ≡ Verdict.Refused n p →
       RefusedWhy file s n p
   judged-why l c accepted (Parsed.got t last) read q =
@@ -191,9 +192,9 @@ module _ (file s : List ℕ) (n p : ℕ) (ten : 10 ≤ n) where
   checked-why (Parsed.got l c) accepted q = judged-why l c accepted (timetableFile l s) refl q
   checked-why (Parsed.bad k i) refused q =
       let number : k ≡ n = cc in
-      absurd (omega (arith, file-refusal file k i refused .number))
+      absurd (⊎-elim (λ x. omega (arith, x .1)) (λ x. text (sym number ∙ x)) (file-refusal file k i refused .number))
 
-  -- A text that the check refuses by 10 or a higher number was read, and is refused for that number's reason at that place.
+  -- A text that the check refuses by 10 or a higher number, not 19, was read, and is refused for that number's reason at that place.
   pub refused-why : checkOf file s ≡ Verdict.Refused n p → RefusedWhy file s n p
   unfolding checkOf
   refused-why e = checked-why (lineFile file) refl e

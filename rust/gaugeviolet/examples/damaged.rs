@@ -1,7 +1,7 @@
 //! Lends damaged files and timetables, as many as the argument says, to every function of the library, in
 //! buffers of their exact length: to be run under valgrind, whose word it then is that nothing outside a
 //! lent buffer is touched (`rust/damaged` does it). It holds itself that no refusal changes a lent byte
-//! and, with 20,000 inputs or more, that every number from 1 to 17 comes up.
+//! and, with 20,000 inputs or more, that every number from 1 to 19 comes up.
 //!
 //! With `outside` for the argument it reads a byte past a buffer, which valgrind must report.
 
@@ -9,7 +9,8 @@ use std::collections::BTreeMap;
 use std::process::ExitCode;
 
 use gaugeviolet::{on_callers_stack, Refusal, FILE_BYTES};
-use inputs::{damage_bytes, damaged, planned, small_line, Damage, Pair, Planned, Random, Traffic};
+use inputs::{booked_planned, booked_small_line, damage_bytes, damaged, planned, small_line};
+use inputs::{fully_booked_planned, Damage, Pair, Planned, Random, Traffic};
 
 /// How many lines there are to damage.
 const LINES: usize = 400;
@@ -40,7 +41,7 @@ fn usage() -> ExitCode {
 fn run(count: u64) -> ExitCode {
     let mut random = Random::new(70);
     let lines: Vec<Planned> = (0..LINES).map(|_| line_to_damage(&mut random)).collect();
-    let full = inputs::full_size_planned(&mut random);
+    let full = fully_booked_planned(&mut random);
     let mut numbers = Numbers::new();
     for at in 0..count {
         let damage = Damage::ALL[at as usize % Damage::ALL.len()];
@@ -58,13 +59,15 @@ fn run(count: u64) -> ExitCode {
     report(count, &numbers)
 }
 
-/// A small line with a timetable of it. Half of them have latest arrivals that are hard to keep, so that
-/// some have no timetable; the one beside it is then no timetable of it either.
+/// A small line, with bookings or without, and a timetable of it. Half of them have latest arrivals that
+/// are hard to keep, so that some have no timetable; the one beside it is then no timetable of it either.
 fn line_to_damage(random: &mut Random) -> Planned {
     let (stations, trains) = (random.within(2, 5), random.within(1, 4));
-    let mut planned = planned(random, stations, trains, Traffic::Mixed);
+    let draw = random.one_of(&[planned, booked_planned]);
+    let mut planned = draw(random, stations, trains, Traffic::Mixed);
     if random.below(2) == 0 {
-        planned.line = small_line(random, stations, trains);
+        let draw = random.one_of(&[small_line, booked_small_line]);
+        planned.line = draw(random, stations, trains);
     }
     planned
 }
@@ -129,7 +132,7 @@ fn count<T>(numbers: &mut Numbers, answer: Result<T, Refusal>) {
 fn report(count: u64, numbers: &Numbers) -> ExitCode {
     let calls: u64 = numbers.values().sum();
     println!("{count} inputs, {calls} calls, by number (0: not refused) {numbers:?}");
-    let missing: Vec<u32> = (1..=17)
+    let missing: Vec<u32> = (1..=19)
         .filter(|number| !numbers.contains_key(number))
         .collect();
     if count < ENOUGH || missing.is_empty() {

@@ -31,6 +31,24 @@
 //! assert_eq!((refusal.number, refusal.place), (11, 2));
 //! ```
 //!
+//! A passenger special that is booked at a stop does not leave it before the printed minute. Bookings are
+//! a section after the trains: their count, then train, station and minute on a line each.
+//!
+//! ```
+//! let booked = "3\n2\n2\n2\n2\nS 5 4\nS 5 4\n1\n1 3 0 200 1 20 0 20\n1\n1 2 30\n";
+//! let timetable = gaugeviolet::plan(booked.as_bytes()).unwrap();
+//! assert_eq!(timetable, b"1\n0 20 30 50\n2\n1 1\n1 1\n0\n");
+//!
+//! // It is there at minute 20, and may not go on at once.
+//! let early = b"1\n0 20 20 40\n2\n1 1\n1 1\n0\n";
+//! let refusal = gaugeviolet::check(booked.as_bytes(), early).unwrap_err();
+//! assert_eq!((refusal.number, refusal.place), (18, 1));
+//!
+//! // At its destination a train is not booked.
+//! let refusal = gaugeviolet::read(booked.replace("1 2 30", "1 3 30").as_bytes()).unwrap_err();
+//! assert_eq!((refusal.number, refusal.place), (19, 11));
+//! ```
+//!
 //! [`plan`] finds the best timetable. [`Line`] and [`Timetable`] give typed access to accepted texts, and
 //! [`LineBuilder`] makes line files. Nothing here overflows a stack but the functions of
 //! [`on_callers_stack`], and only where they are called from a thread with too little of it.
@@ -50,7 +68,7 @@ mod waits;
 mod words;
 
 pub use explain::{Explanation, Field, Quotation, Text};
-pub use line::{Kind, Line, LineBuilder, Segment, Train};
+pub use line::{Booking, Kind, Line, LineBuilder, Segment, Train};
 pub use refusal::{Cause, Refusal};
 pub use timetable::{Lane, Leg, OrderList, Timetable};
 pub use waits::{Reason, Wait};
@@ -61,7 +79,7 @@ pub const FILE_BYTES: usize = 4096;
 /// The most bytes that a timetable may have. As many lent bytes hold the text of every timetable.
 pub const TIMETABLE_BYTES: usize = 4096;
 
-/// Reads a line file: whether it is one, or why not (numbers 1 to 4).
+/// Reads a line file: whether it is one, or why not (numbers 1 to 4 and 19).
 ///
 /// ```
 /// assert_eq!(gaugeviolet::read(b"2\n1\n1\n1\nS 5 4\n0\n"), Ok(()));
@@ -102,7 +120,7 @@ pub fn rewrite(file: &[u8], lent: &mut [u8]) -> Result<usize, Refusal> {
 
 /// Checks a timetable against its line file: whether it keeps every rule and gives the order lists and
 /// the total that follow from its minutes, or why not. Refused as in [`read`], then with the first of 7
-/// to 17: form and range (8 and 9) over the whole text, then each rule over all trains.
+/// to 18: form and range (8 and 9) over the whole text, then each rule over all trains, 18 after 12.
 ///
 /// ```
 /// let file = b"2\n1\n1\n1\nS 5 4\n1\n1 2 0 10 1 10\n";

@@ -3,7 +3,7 @@
 //! Stations, segments and trains are numbered from 1, as in the files. The legs of a train are counted
 //! from 0, as the entries of a list.
 
-use crate::Refusal;
+use crate::{Leg, Refusal};
 
 /// What kind of track a segment has.
 #[derive(Clone, Copy, Debug, PartialEq, Eq, PartialOrd, Ord, Hash)]
@@ -119,11 +119,6 @@ impl Train {
         }
     }
 
-    /// When it would be at its destination were it alone on the line.
-    pub fn free_arrival(&self) -> u32 {
-        self.earliest + self.journey.iter().sum::<u32>()
-    }
-
     /// Its line in the file.
     fn text(&self) -> String {
         let head = [
@@ -138,6 +133,24 @@ impl Train {
     }
 }
 
+/// A booked time at a stop: the train does not leave the station before that minute.
+#[derive(Clone, Copy, Debug, PartialEq, Eq, Hash)]
+pub struct Booking {
+    /// The train.
+    pub train: u32,
+    /// The station, a middle one of the train's path.
+    pub station: u32,
+    /// The minute. Also 0 is a booking.
+    pub minute: u32,
+}
+
+impl Booking {
+    /// Its line in the file.
+    fn text(&self) -> String {
+        format!("{} {} {}\n", self.train, self.station, self.minute)
+    }
+}
+
 /// A line that the library has accepted, with typed access to what its file says.
 ///
 /// ```
@@ -149,7 +162,7 @@ impl Train {
 /// assert_eq!(line.segments()[1].kind, Kind::D);
 /// let train = &line.trains()[0];
 /// assert_eq!((train.segment(0), train.run(0), train.stop(1)), (2, 15, 1));
-/// assert_eq!(train.free_arrival(), 396);
+/// assert_eq!(line.free_arrival(1), 396);
 /// assert_eq!(line.file(), file);
 /// # Ok::<(), gaugeviolet::Refusal>(())
 /// ```
@@ -184,6 +197,11 @@ impl Line {
         &self.parts.trains
     }
 
+    /// The bookings, rising by train and then by station.
+    pub fn bookings(&self) -> &[Booking] {
+        &self.parts.bookings
+    }
+
     /// The tracks of a station, by its number.
     ///
     /// # Panics
@@ -208,17 +226,64 @@ impl Line {
         &self.parts.trains[number as usize - 1]
     }
 
+    /// The minute that a train, by its number, is booked for at a station, if it is.
+    pub fn booked(&self, train: u32, station: u32) -> Option<u32> {
+        let mut bookings = self.bookings().iter();
+        let booking = bookings.find(|it| (it.train, it.station) == (train, station))?;
+        Some(booking.minute)
+    }
+
+    /// The minutes of a train, by its number, were it alone on the line and as early as its stops and its
+    /// bookings let it be.
+    ///
+    /// ```
+    /// let file = b"3\n2\n2\n2\n2\nS 5 4\nS 5 4\n1\n1 3 0 200 1 20 1 20\n1\n1 2 30\n";
+    /// let legs = gaugeviolet::Line::read(file)?.free_legs(1);
+    /// assert_eq!(legs[1].departure, 30);
+    /// # Ok::<(), gaugeviolet::Refusal>(())
+    /// ```
+    ///
+    /// # Panics
+    /// Where there is no such train.
+    pub fn free_legs(&self, number: u32) -> Vec<Leg> {
+        let train = self.train(number);
+        let mut arrival = train.earliest;
+        let leg = |leg: usize| {
+            let booked = self.booked(number, train.station(leg)).unwrap_or(0);
+            let departure = booked.max(arrival + train.stop(leg));
+            arrival = departure + train.run(leg);
+            Leg { departure, arrival }
+        };
+        (0..train.legs()).map(leg).collect()
+    }
+
+    /// When a train, by its number, would be at its destination were it alone on the line, its bookings
+    /// kept.
+    ///
+    /// # Panics
+    /// Where there is no such train.
+    pub fn free_arrival(&self, number: u32) -> u32 {
+        let legs = self.free_legs(number);
+        legs.last().expect("a train has legs").arrival
+    }
+
     /// The bytes of its file.
     pub fn file(&self) -> &[u8] {
         &self.file
     }
 
-    /// The same stations and segments with these of its trains alone, by number and in this order.
+    /// The same stations and segments with these of its trains alone, by number and in this order. They
+    /// are numbered anew and keep their bookings.
     ///
     /// ```
     /// let file = b"2\n1\n1\n1\nS 5 4\n2\n1 2 0 9 1 5\n2 1 0 9 1 6\n";
     /// let second = gaugeviolet::Line::read(file)?.with_trains(&[2]);
     /// assert_eq!(second.file(), b"2\n1\n1\n1\nS 5 4\n1\n2 1 0 9 1 6\n");
+    ///
+    /// let (front, train) = (b"3\n1\n1\n1\n2\nS 5 4\nS 5 4\n", b"3 1 0 99 1 5 0 5\n");
+    /// let file = [&front[..], b"2\n1 2 0 9 1 5\n", train, b"1\n2 2 30\n"].concat();
+    /// let second = gaugeviolet::Line::read(&file)?.with_trains(&[2]);
+    /// assert_eq!(second.file(), [&front[..], b"1\n", train, b"1\n1 2 30\n"].concat());
     /// # Ok::<(), gaugeviolet::Refusal>(())
     /// ```
     ///
@@ -226,11 +291,20 @@ impl Line {
     /// Where there is no train of such a number, or more than twelve numbers are given.
     pub fn with_trains(&self, numbers: &[u32]) -> Line {
         let train = |&number: &u32| self.train(number).clone();
+        let numbered = (1..).zip(numbers);
+        let bookings = numbered.flat_map(|(own, &number)| self.bookings_of(number, own));
         let fewer = LineBuilder {
             trains: numbers.iter().map(train).collect(),
+            bookings: bookings.collect(),
             ..self.parts.clone()
         };
         fewer.build().expect("parts of an accepted line")
+    }
+
+    /// The bookings of a train as those of a train with another number.
+    fn bookings_of(&self, number: u32, train: u32) -> impl Iterator<Item = Booking> + '_ {
+        let own = self.bookings().iter().filter(move |it| it.train == number);
+        own.map(move |&booking| Booking { train, ..booking })
     }
 }
 
@@ -239,8 +313,11 @@ fn parts_of_accepted(file: &[u8]) -> LineBuilder {
     let text = std::str::from_utf8(file).expect("what is accepted is ASCII");
     let rows: Vec<Vec<&str>> = text.lines().map(|row| row.split(' ').collect()).collect();
     let stations = number(rows[0][0]) as usize;
-    // Before the segments and before the trains stands a line with their count.
-    let (segments, trains) = (stations + 2..2 * stations + 1, 2 * stations + 2..);
+    // Before the segments, the trains and the bookings stands a line with their count.
+    let (segments, first_train) = (stations + 2..2 * stations + 1, 2 * stations + 2);
+    let trains = first_train..first_train + number(rows[first_train - 1][0]) as usize;
+    // Without bookings the file ends after the trains.
+    let bookings = rows.get(trains.end + 1..).unwrap_or(&[]);
     LineBuilder {
         tracks: rows[1..=stations]
             .iter()
@@ -248,6 +325,7 @@ fn parts_of_accepted(file: &[u8]) -> LineBuilder {
             .collect(),
         segments: rows[segments].iter().map(|row| segment(row)).collect(),
         trains: rows[trains].iter().map(|row| train(row)).collect(),
+        bookings: bookings.iter().map(|row| booking(row)).collect(),
     }
 }
 
@@ -270,6 +348,14 @@ fn train(row: &[&str]) -> Train {
         latest: number(row[3]),
         weight: number(row[4]),
         journey: row[5..].iter().map(|field| number(field)).collect(),
+    }
+}
+
+fn booking(row: &[&str]) -> Booking {
+    Booking {
+        train: number(row[0]),
+        station: number(row[1]),
+        minute: number(row[2]),
     }
 }
 
@@ -310,6 +396,7 @@ pub struct LineBuilder {
     tracks: Vec<u32>,
     segments: Vec<Segment>,
     trains: Vec<Train>,
+    bookings: Vec<Booking>,
 }
 
 impl LineBuilder {
@@ -340,6 +427,39 @@ impl LineBuilder {
         self
     }
 
+    /// Adds a booking. They are to rise by train and then by station.
+    ///
+    /// ```
+    /// use gaugeviolet::{Booking, Kind, LineBuilder, Train};
+    ///
+    /// let train = Train {
+    ///     origin: 1,
+    ///     destination: 3,
+    ///     earliest: 0,
+    ///     latest: 90,
+    ///     weight: 2,
+    ///     journey: vec![15, 1, 20],
+    /// };
+    /// let line = LineBuilder::new()
+    ///     .station(2)
+    ///     .segment(Kind::S, 5, 4)
+    ///     .station(2)
+    ///     .segment(Kind::S, 5, 4)
+    ///     .station(2)
+    ///     .train(train);
+    /// let booked = |station| Booking { train: 1, station, minute: 30 };
+    /// assert_eq!(line.clone().booking(booked(2)).build()?.free_arrival(1), 50);
+    ///
+    /// // A train leaves its origin by its earliest minute, not by a booking.
+    /// let refusal = line.booking(booked(1)).build().unwrap_err();
+    /// assert_eq!((refusal.number, refusal.place), (19, 11));
+    /// # Ok::<(), gaugeviolet::Refusal>(())
+    /// ```
+    pub fn booking(mut self, booking: Booking) -> LineBuilder {
+        self.bookings.push(booking);
+        self
+    }
+
     /// What its file would be. [`Refusal::explanation`] takes it where `build` is refused.
     pub fn text(&self) -> Vec<u8> {
         let mut text = format!("{}\n", self.tracks.len());
@@ -348,10 +468,15 @@ impl LineBuilder {
         text.extend(self.segments.iter().map(Segment::text));
         text += &format!("{}\n", self.trains.len());
         text.extend(self.trains.iter().map(Train::text));
+        // Without bookings the section is left off.
+        if !self.bookings.is_empty() {
+            text += &format!("{}\n", self.bookings.len());
+            text.extend(self.bookings.iter().map(Booking::text));
+        }
         text.into_bytes()
     }
 
-    /// The line, or why the library refuses its file (numbers 1 to 4).
+    /// The line, or why the library refuses its file (numbers 1 to 4 and 19).
     pub fn build(&self) -> Result<Line, Refusal> {
         Line::read(&self.text())
     }

@@ -17,9 +17,9 @@ use std::fmt;
 pub struct Refusal {
     /// What is wrong, by the number that the rules give it; [`Cause`] lists them.
     pub number: u32,
-    /// Where it is wrong: for 2, 3 and 4 the line of the file, for 8 and 9 the line of the timetable;
-    /// for 10 to 13 the lowest train, for 14 the lowest segment, for 15 the lowest station and for 16
-    /// the lowest list of which it is true. All of them count from 1. For 1, 5, 6, 7 and 17 always 0.
+    /// Where it is wrong: for 2, 3, 4 and 19 the line of the file, for 8 and 9 the line of the timetable;
+    /// for 10 to 13 and 18 the lowest train, for 14 the lowest segment, for 15 the lowest station and for
+    /// 16 the lowest list of which it is true. All of them count from 1. For 1, 5, 6, 7 and 17 always 0.
     pub place: u32,
 }
 
@@ -62,11 +62,15 @@ pub enum Cause {
     OrderList = 16,
     /// The total does not follow from the minutes.
     Total = 17,
+    /// A train departs before its booking.
+    Booking = 18,
+    /// A booking is out of order, or not at a middle station of its train.
+    BookingPlace = 19,
 }
 
 impl Cause {
     /// All of them, by number.
-    pub const ALL: [Cause; 17] = [
+    pub const ALL: [Cause; 19] = [
         Cause::FileLength,
         Cause::FileForm,
         Cause::FileRange,
@@ -84,6 +88,8 @@ impl Cause {
         Cause::Tracks,
         Cause::OrderList,
         Cause::Total,
+        Cause::Booking,
+        Cause::BookingPlace,
     ];
 
     /// Its number in the rules.
@@ -150,11 +156,13 @@ impl Refusal {
 /// The place, for the causes that have one.
 fn place_in_words(cause: Cause, place: u32) -> Option<String> {
     match cause {
-        Cause::FileForm | Cause::FileRange | Cause::SameStation => Some(format!("line {place}")),
+        Cause::FileForm | Cause::FileRange | Cause::SameStation | Cause::BookingPlace => {
+            Some(format!("line {place}"))
+        }
         Cause::TimetableForm | Cause::TimetableRange => {
             Some(format!("line {place} of the timetable"))
         }
-        Cause::Earliest | Cause::Run | Cause::Stop | Cause::Latest => {
+        Cause::Earliest | Cause::Run | Cause::Stop | Cause::Latest | Cause::Booking => {
             Some(format!("train {place}"))
         }
         Cause::Gap => Some(format!("segment {place}")),
@@ -198,5 +206,10 @@ fn in_words(cause: Cause) -> &'static str {
         Cause::Tracks => "at some minute more trains stand there than it has tracks",
         Cause::OrderList => "it is not the trains of its segment and lane by departure minute",
         Cause::Total => "the total is not the weighted delay of the minutes",
+        Cause::Booking => "at a middle station it departs before the minute booked there",
+        Cause::BookingPlace => {
+            "the booking is not in rising order of train and then station, or its station is not a \
+             middle one of its train's path"
+        }
     }
 }

@@ -137,12 +137,12 @@ impl Timetable {
         self.legs(train).last().expect("a train has legs").arrival
     }
 
-    /// How much later a train is at its destination than it would be alone on the line.
+    /// How much later a train is at its destination than it would be alone on the line, its bookings kept.
     ///
     /// # Panics
     /// Where there is no such train.
     pub fn delay(&self, train: u32) -> u32 {
-        let free = self.line.train(train).free_arrival();
+        let free = self.line.free_arrival(train);
         self.last_arrival(train).saturating_sub(free)
     }
 

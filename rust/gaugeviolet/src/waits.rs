@@ -1,4 +1,4 @@
-//! Where a train waits longer than it asked for, and for which trains.
+//! Where a train waits longer than it asked for, and for what: other trains, or its booking.
 
 use std::ops::Range;
 
@@ -41,13 +41,19 @@ pub enum Reason {
         /// The station.
         station: u32,
     },
+    /// Its own booking: it waits for no train.
+    Booking {
+        /// The minute.
+        minute: u32,
+    },
 }
 
 impl Reason {
-    /// The train waited for.
-    pub fn train(&self) -> u32 {
+    /// The train waited for, unless it is the booking.
+    pub fn train(&self) -> Option<u32> {
         match *self {
-            Reason::Segment { train, .. } | Reason::Station { train, .. } => train,
+            Reason::Segment { train, .. } | Reason::Station { train, .. } => Some(train),
+            Reason::Booking { .. } => None,
         }
     }
 
@@ -57,12 +63,13 @@ impl Reason {
             Reason::Station { train, station } => {
                 format!("train {train} to leave station {station}")
             }
+            Reason::Booking { .. } => "its booked minute".to_string(),
         }
     }
 }
 
 impl Wait {
-    /// Who waits, how long, where, when and for whom.
+    /// Who waits, how long, where, when and for what.
     ///
     /// ```
     /// use gaugeviolet::{Line, Timetable};
@@ -74,6 +81,14 @@ impl Wait {
     ///     told,
     ///     ["train 2 waits 9 minutes at station 2, from 00:15 to 00:24, for train 1 on segment 1"]
     /// );
+    ///
+    /// // A train that stands for its booking waits for no train.
+    /// let file = b"3\n2\n2\n2\n2\nS 5 4\nS 5 4\n1\n1 3 0 200 1 20 0 20\n1\n1 2 30\n";
+    /// let timetable = Timetable::read(&Line::read(file)?, &gaugeviolet::plan(file)?)?;
+    /// assert_eq!(
+    ///     timetable.waits()[0].sentence(),
+    ///     "train 1 waits 10 minutes at station 2, from 00:20 to 00:30, for its booked minute"
+    /// );
     /// # Ok::<(), gaugeviolet::Refusal>(())
     /// ```
     pub fn sentence(&self) -> String {
@@ -84,7 +99,7 @@ impl Wait {
             "train {} waits {minutes} {place} station {}, from {from} to {until}, for {}",
             self.train,
             self.station,
-            self.for_whom()
+            self.for_what()
         )
     }
 
@@ -92,39 +107,56 @@ impl Wait {
     pub fn trains(&self) -> Vec<u32> {
         let mut trains = Vec::new();
         // The last reason of a train says when it is gone.
-        for reason in self.reasons.iter().rev() {
-            if !trains.contains(&reason.train()) {
-                trains.insert(0, reason.train());
+        for train in self.reasons.iter().rev().filter_map(Reason::train) {
+            if !trains.contains(&train) {
+                trains.insert(0, train);
             }
         }
         trains
     }
 
-    fn for_whom(&self) -> String {
-        let Some(last) = self.reasons.last() else {
-            return "no train".to_string();
+    fn for_what(&self) -> String {
+        let mut reasons = self.reasons.iter();
+        let booking = reasons.find(|reason| reason.train().is_none());
+        let booking = booking.map(Reason::in_words);
+        let words = match (booking, self.for_whom()) {
+            (None, None) => return "no train".to_string(),
+            (Some(words), None) | (None, Some(words)) => words,
+            (Some(booking), Some(trains)) if self.booking_is_last() => {
+                format!("{trains} and then {booking}")
+            }
+            (Some(booking), Some(trains)) => format!("{booking} and {trains}"),
         };
-        let then = match self.idle {
-            0 => String::new(),
-            idle => format!(", then {} for no train", counted(idle, "minute")),
-        };
-        let others = self.trains().into_iter();
-        let others = others.filter(|&train| train != last.train());
-        let others: Vec<String> = others.map(|train| train.to_string()).collect();
-        match &others[..] {
-            [] => last.in_words() + &then,
-            _ => format!(
-                "trains {} and {}, last {}{then}",
+        match self.idle {
+            0 => words,
+            idle => format!("{words}, then {} for no train", counted(idle, "minute")),
+        }
+    }
+
+    fn booking_is_last(&self) -> bool {
+        matches!(self.reasons.last(), Some(Reason::Booking { .. }))
+    }
+
+    /// The trains waited for in words, if there are any.
+    fn for_whom(&self) -> Option<String> {
+        let mut latest_first = self.reasons.iter().rev();
+        let last = latest_first.find(|reason| reason.train().is_some())?;
+        let trains = self.trains();
+        let trains: Vec<String> = trains.iter().map(u32::to_string).collect();
+        Some(match &trains[..] {
+            [others @ .., train] if !others.is_empty() => format!(
+                "trains {} and {train}, last {}",
                 others.join(", "),
-                last.train(),
                 last.in_words()
             ),
-        }
+            _ => last.in_words(),
+        })
     }
 }
 
 impl Timetable {
-    /// All waits, train by train in travel order. A train's delay is the sum of its waits.
+    /// All waits, train by train in travel order. A train's delay is the sum of its waits where it has no
+    /// booking. Standing for a booking is in itself no delay, and may make up for one.
     pub fn waits(&self) -> Vec<Wait> {
         let trains = self.numbers().zip(self.line().trains());
         trains
@@ -151,7 +183,9 @@ impl Timetable {
         let mut reasons = Vec::new();
         let mut idle = 0;
         for minute in minutes {
-            let mut there = self.at_station(train, leg, minute);
+            // The booking first: where a train is in the way as long, that is told as the last.
+            let mut there = Vec::from_iter(self.before_booking(train, leg, minute));
+            there.extend(self.at_station(train, leg, minute));
             there.extend(self.on_segment(train, leg, minute));
             idle = if there.is_empty() { idle + 1 } else { 0 };
             reasons.retain(|reason| !there.contains(reason));
@@ -166,6 +200,14 @@ impl Timetable {
             reasons,
             idle,
         }
+    }
+
+    /// The booking, were the leg begun before it at this minute.
+    fn before_booking(&self, number: u32, leg: usize, departure: u32) -> Option<Reason> {
+        let station = self.line().train(number).station(leg);
+        let booked = self.line().booked(number, station);
+        let minute = booked.filter(|&minute| departure < minute)?;
+        Some(Reason::Booking { minute })
     }
 
     /// The trains that are too near on the segment, were the leg begun at this minute.

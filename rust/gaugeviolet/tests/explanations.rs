@@ -7,9 +7,10 @@ use std::collections::{BTreeMap, BTreeSet};
 
 use gaugeviolet::{check, plan, read, Cause, Explanation, Field, Line, Quotation, Refusal, Text};
 use inputs::{
-    damage_bytes, damage_lines, damaged, planned, sizes, walk_line, with_one_byte_damaged,
+    booked_planned, damage_bytes, damage_lines, damaged, planned, sizes, walk_line, with_bookings,
+    with_one_byte_damaged,
 };
-use inputs::{shown, Damage, Fields, Random, Shape, Traffic};
+use inputs::{shown, Booked, Damage, Fields, Random, Shape, Traffic};
 use refused::{explained, FILE, TIMETABLE};
 
 /// The lines of a text, without their line feeds. After the last one there may be an empty one.
@@ -45,10 +46,24 @@ fn due_in_file(file: &[u8], line: usize, before: usize) -> String {
         return "number of trains".into();
     }
     let train = line - 2 * stations - 2;
-    if train > leading(&rows, 2 * stations + 1) as usize {
-        return "end of the text".into();
+    let trains = leading(&rows, 2 * stations + 1) as usize;
+    if train > trains {
+        return due_of_booking(&rows, 2 * stations + 3 + trains, line, before);
     }
     due_of_train(&rows, line, train, before)
+}
+
+/// The same after the trains, where the line `count` is the number of bookings.
+fn due_of_booking(rows: &[&[u8]], count: usize, line: usize, before: usize) -> String {
+    if line == count {
+        return "number of bookings".into();
+    }
+    let booking = line - count;
+    if booking > leading(rows, count - 1) as usize {
+        return "end of the text".into();
+    }
+    let part = ["train", "station", "minute"][before.min(2)];
+    format!("booking {booking}: {part}")
 }
 
 fn due_of_train(rows: &[&[u8]], line: usize, train: usize, before: usize) -> String {
@@ -176,7 +191,7 @@ impl Seen {
         let Err(refusal) = check(file, timetable) else {
             return;
         };
-        if refusal.number < 7 {
+        if refusal.number < 7 || refusal.number == 19 {
             return self.file(file);
         }
         let explanation = explained(refusal, file, Some(timetable));
@@ -197,7 +212,7 @@ impl Seen {
         let trains = usize::from(line.train_count);
         match refusal.number {
             8 | 9 => assert_eq!(quotation.line, place),
-            10..=13 => assert_eq!(quotation.line, place + 1),
+            10..=13 | 18 => assert_eq!(quotation.line, place + 1),
             14 => assert!(due.ends_with(&format!("departure on segment {place}"))),
             15 => assert!(is_arrival_at(&line, field, place), "{due} at {place}"),
             16 => assert_eq!(quotation.line, trains + 2 + place),
@@ -220,7 +235,7 @@ impl Seen {
 /// Holds that a timetable is explained by no other refusal than the library's, though it may break other
 /// rules too.
 fn hold_no_other(refusal: Refusal, file: &[u8], timetable: &[u8]) {
-    let others = (7..=17).map(|number| Refusal { number, ..refusal });
+    let others = (7..=19).map(|number| Refusal { number, ..refusal });
     for other in others.filter(|&other| other != refusal) {
         assert_eq!(other.explanation(file, Some(timetable)), None);
     }
@@ -243,17 +258,18 @@ fn is_arrival_at(line: &independent::Line, field: Field, station: usize) -> bool
 #[test]
 fn every_byte_of_a_line_file_damaged() {
     let mut seen = Seen::default();
-    for file in with_one_byte_damaged(FILE.as_bytes()) {
+    let booked = FILE.to_string() + "2\n1 2 30\n2 2 0\n";
+    for file in with_one_byte_damaged(booked.as_bytes()) {
         seen.file(&file);
     }
     println!("{:?}\n{:?}", seen.numbers, seen.fields);
     assert_eq!(
         seen.numbers.keys().copied().collect::<Vec<u32>>(),
-        [2, 3, 4]
+        [2, 3, 4, 19]
     );
     assert_eq!(
         seen.fields.len(),
-        15,
+        19,
         "every field of a line file, and its end"
     );
 }
@@ -279,7 +295,8 @@ fn damaged_texts_of_every_size() {
     let mut seen = Seen::default();
     for (stations, trains) in sizes() {
         let traffic = random.one_of(&[Traffic::Mixed, Traffic::Full]);
-        let planned = planned(&mut random, stations, trains, traffic);
+        let draw = random.one_of(&[planned, booked_planned]);
+        let planned = draw(&mut random, stations, trains, traffic);
         for damage in [Damage::ALL; 20].concat() {
             let pair = damaged(&mut random, &planned, damage);
             seen.pair(&pair.file, &pair.timetable);
@@ -294,7 +311,7 @@ fn damaged_texts_of_every_size() {
     }
     println!("{:?}\n{:?}", seen.numbers, seen.fields);
     let numbers: Vec<u32> = seen.numbers.keys().copied().collect();
-    let all = (1..=17).filter(|number| ![5, 6].contains(number));
+    let all = (1..=19).filter(|number| ![5, 6].contains(number));
     assert_eq!(numbers, all.collect::<Vec<u32>>());
     assert!(seen.numbers.values().all(|&times| times >= 50));
 }
@@ -306,7 +323,10 @@ fn lines_without_a_timetable() {
     let mut random = Random::new(15);
     let mut marked = [0; 2];
     for _ in 0..300 {
-        let line = walk_line(&mut random, 4, 4, Shape::Tight);
+        let mut line = walk_line(&mut random, 4, 4, Shape::Tight);
+        if random.below(2) == 0 {
+            line = with_bookings(&mut random, &line, &[Booked::InAnyCase, Booked::Later(40)]);
+        }
         let mut file = Fields::of(&line).text();
         if random.below(2) == 0 {
             file = Fields::of(&line).text_with((10 + random.below(4), 3), "5");
@@ -317,8 +337,9 @@ fn lines_without_a_timetable() {
         let late = line
             .trains()
             .iter()
-            .position(|train| train.free_arrival() > train.latest);
-        let train = late.map(|at| at as u32 + 1);
+            .zip(1..)
+            .find(|&(train, number)| line.free_arrival(number) > train.latest);
+        let train = late.map(|(_, number)| number);
         assert_eq!(
             explanation.field,
             train.map(|train| Field::Latest { train })

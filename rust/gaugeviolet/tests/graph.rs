@@ -10,7 +10,8 @@ use std::collections::BTreeSet;
 use std::path::Path;
 
 use gaugeviolet::{Refusal, TIMETABLE_BYTES};
-use inputs::{damaged, planned, saturday, sizes, Damage, Fields, Pair, Random, Style, Traffic};
+use inputs::{booked_planned, damaged, planned, saturday, sizes, with_bookings};
+use inputs::{Booked, Damage, Fields, Pair, Random, Style, Traffic};
 use picture::{hold, numbers};
 use run::{run, sample, sample_text, samples_with, written};
 use xml::well_formed;
@@ -54,9 +55,10 @@ fn the_stored_picture_is_drawn() {
 #[test]
 fn planned_lines_of_every_size() {
     let mut random = Random::new(77);
-    for (stations, trains) in sizes() {
+    let draws = [planned, booked_planned];
+    for ((stations, trains), draw) in sizes().flat_map(|size| draws.map(|draw| (size, draw))) {
         let traffic = random.one_of(&[Traffic::Mixed, Traffic::Full]);
-        let Pair { file, timetable } = planned(&mut random, stations, trains, traffic).pair();
+        let Pair { file, timetable } = draw(&mut random, stations, trains, traffic).pair();
         let picture = drawn(&[
             &written("planned.line", &file),
             &written("planned.timetable", &timetable),
@@ -70,8 +72,11 @@ fn planned_lines_of_every_size() {
 fn saturdays_of_the_greatest_size() {
     let mut random = Random::new(79);
     for style in [Style::PeakTight, Style::Day, Style::DayTight] {
-        for _ in 0..4 {
-            let line = saturday(&mut random, 12, 12, style);
+        for turn in 0..6 {
+            let mut line = saturday(&mut random, 12, 12, style);
+            if turn % 2 == 0 {
+                line = with_bookings(&mut random, &line, &[Booked::InAnyCase, Booked::Later(9)]);
+            }
             let file = Fields::of(&line).text();
             let Ok(timetable) = gaugeviolet::plan(&file) else {
                 continue;
@@ -122,7 +127,7 @@ fn a_timetable_that_is_refused_is_not_drawn() {
     let mut numbers = BTreeSet::new();
     for turn in 0..40 {
         let (stations, trains) = (3 + turn % 3, 3 + turn % 4);
-        let planned = planned(&mut random, stations, trains, Traffic::Mixed);
+        let planned = booked_planned(&mut random, stations, trains, Traffic::Mixed);
         for damage in Damage::ALL {
             let Pair { file, timetable } = damaged(&mut random, &planned, damage);
             let Err(refusal) = gaugeviolet::check(&file, &timetable) else {
@@ -135,7 +140,7 @@ fn a_timetable_that_is_refused_is_not_drawn() {
         }
     }
     println!("not drawn with {numbers:?}");
-    assert!((7..=17).all(|number| numbers.contains(&number)));
+    assert!((7..=18).all(|number| numbers.contains(&number)));
 }
 
 /// A lawful timetable with a total of its own is refused too: the check comes before the picture.

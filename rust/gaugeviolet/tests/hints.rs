@@ -175,7 +175,109 @@ fn too_many_and_too_few() {
         &[before, "line 8 says 3 trains, and there are only 2"],
     );
     let end = "line 8 says 1 train, so the file ends after line 9";
-    hinted("4\n2\n1", "4\n1\n1", &[end]);
+    hinted("4\n2\n1", "4\n1\n1", &["more fields", end]);
+}
+
+/// The file with a section of bookings, which is then refused so: number, line, field, what is allowed
+/// and the hints.
+fn misbooked(section: &str, refused: (u32, u32), field: &str, allowed: &str, hints: &[&str]) {
+    let file = FILE.to_string() + section;
+    let refusal = read(file.as_bytes()).expect_err(section);
+    assert_eq!((refusal.number, refusal.place), refused, "{section}");
+    let explanation = explained(refusal, file.as_bytes(), None);
+    let told = explanation.field.expect("a field").to_string();
+    assert_eq!((&told[..], &explanation.allowed[..]), (field, allowed));
+    hold_hints(&explanation, hints);
+}
+
+#[test]
+fn bookings_out_of_place() {
+    let station = "booking 1: station";
+    let middle = "2, the middle station of train 1";
+    let origin = "station 1 is the origin of train 1; its earliest minute says when";
+    misbooked("1\n1 1 5\n", (19, 12), station, middle, &[origin]);
+    let destination = "station 3 is the destination of train 1, which does not leave it";
+    misbooked("1\n1 3 5\n", (19, 12), station, middle, &[destination]);
+    let station = "booking 2: station";
+    let after = "a booking that comes after train 2 at station 2";
+    let rising = "bookings stand in rising order of train, and of station for one train";
+    misbooked("2\n2 2 5\n1 2 5\n", (19, 13), station, after, &[rising]);
+    let twice = "train 2 is booked twice at station 2";
+    misbooked("2\n2 2 5\n2 2 6\n", (19, 13), station, after, &[twice]);
+    let short = "5\n1\n1\n1\n1\n1\n4\nS 5 4\nS 5 4\nS 5 4\nS 5 4\n2\n2 3 0 9 1 5\n\
+                 4 1 0 99 1 5 0 5 0 5\n1\n";
+    let explanation = |booking: &str| {
+        let file = format!("{short}{booking}\n");
+        let refusal = read(file.as_bytes()).expect_err(booking);
+        assert_eq!((refusal.number, refusal.place), (19, 16));
+        explained(refusal, file.as_bytes(), None)
+    };
+    let told = explanation("1 3 5");
+    assert_eq!(told.allowed, "none: train 1 has no middle station");
+    let told = explanation("2 5 5");
+    assert_eq!(
+        told.allowed,
+        "a number from 2 to 3, the middle stations of train 2"
+    );
+    let off = "train 2 goes from station 4 to station 1 and does not come to station 5";
+    hold_hints(&told, &[off]);
+}
+
+#[test]
+fn bookings_in_wrong_numbers() {
+    let numbers = "a number from 1 to 120";
+    let off = "without bookings their section is left off";
+    misbooked("0\n", (3, 11), "number of bookings", numbers, &[off]);
+    let ends = "line 8 says 2 trains, so the file ends after line 10 or goes on with the number";
+    misbooked("121\n", (3, 11), "number of bookings", numbers, &[ends]);
+    let two = "a number from 1 to 2";
+    let train = "booking 1: train";
+    misbooked("1\n3 2 5\n", (3, 12), train, two, &["line 8 says 2 trains"]);
+    let station = "a number from 1 to 3";
+    misbooked("1\n2 4 5\n", (3, 12), "booking 1: station", station, &[]);
+    let time = "a number from 0 to 2879";
+    let minute = "booking 1: minute";
+    let day = "those of the second day go on from 1440";
+    misbooked("1\n2 2 2880\n", (3, 12), minute, time, &[day]);
+    let write = "times are minutes from midnight; write 365";
+    misbooked("1\n2 2 6:05\n", (2, 12), minute, time, &[write]);
+    let only = [
+        "the text ends before the field `booking 2: train`",
+        "line 11 says 2 bookings, and there are only 1",
+    ];
+    misbooked("2\n1 2 5\n", (2, 13), "booking 2: train", two, &only);
+    let end = [
+        "there is a blank line at the end",
+        "line 11 says 1 booking, so the file ends after line 12",
+    ];
+    misbooked(
+        "1\n1 2 5\n\n",
+        (2, 13),
+        "end of the text",
+        "nothing more",
+        &end,
+    );
+    // Where there is no train nothing can be booked.
+    let file = "2\n1\n1\n1\nS 5 4\n0\n1\n1 2 5\n";
+    let refusal = read(file.as_bytes()).expect_err("no train");
+    assert_eq!((refusal.number, refusal.place), (3, 8));
+    let explanation = explained(refusal, file.as_bytes(), None);
+    assert_eq!(explanation.allowed, "no number");
+    hold_hints(&explanation, &["line 6 says 0 trains"]);
+}
+
+/// A departure before its booking: the booked minute and station are told.
+#[test]
+fn a_departure_before_its_booking() {
+    let file = CLOSE.to_string() + "2\n1 2 36\n3 2 79\n";
+    let refusal = check(file.as_bytes(), KEPT.as_bytes()).expect_err("too early");
+    assert_eq!((refusal.number, refusal.place), (18, 1));
+    let told = explained(refusal, file.as_bytes(), Some(KEPT.as_bytes()));
+    assert_eq!(told.found, "minute 35 (00:35)");
+    let allowed = "at or after minute 36 (00:36): booked at station 2";
+    assert_eq!(told.allowed, allowed);
+    let field = told.field.expect("a field").to_string();
+    assert_eq!(field, "train 1: departure on segment 2");
 }
 
 #[test]

@@ -3,7 +3,8 @@
 mod common;
 
 use common::Compared;
-use inputs::{full_size, sizes, Density, Fields, Least, Random};
+use inputs::{booked_full_size, full_size, sizes, with_bookings};
+use inputs::{Booked, Density, Fields, Least, Random};
 
 #[test]
 fn every_lent_length_for_an_accepted_file() {
@@ -12,6 +13,12 @@ fn every_lent_length_for_an_accepted_file() {
     let mut texts = vec![Fields::of(&full_size(&mut random)).text()];
     for (stations, trains) in sizes() {
         texts.push(Fields::of(&inputs::line(&mut random, stations, trains, Density::Dense)).text());
+    }
+    texts.push(Fields::of(&booked_full_size(&mut random)).text());
+    for (stations, trains) in sizes().filter(|&(stations, trains)| stations > 2 && trains > 0) {
+        let line = inputs::line(&mut random, stations, trains, Density::Dense);
+        let booked = with_bookings(&mut random, &line, &[Booked::AnyTime]);
+        texts.push(Fields::of(&booked).text());
     }
     for text in &texts {
         compared.file(text);
@@ -27,9 +34,9 @@ fn every_lent_length_for_an_accepted_file() {
     }
     compared.seen.ends(&Least {
         name: "lent to an accepted file",
-        inputs: 144,
-        accepted: 144,
-        numbers: &[(6, 432, 1)],
+        inputs: 265,
+        accepted: 265,
+        numbers: &[(6, 795, 1)],
     });
 }
 
@@ -47,6 +54,11 @@ fn every_lent_length_for_a_refused_file() {
             format!("{good}3 1 0 200 2 15 0 15\n{}", "x".repeat(4100)),
             (1, 0),
         ),
+        (
+            format!("{good}3 1 0 200 2 15 0 15\n2\n1 2 5\n1 2 5\n"),
+            (19, 13),
+        ),
+        (format!("{good}3 1 0 200 2 15 0 15\n1\n1 2 2880\n"), (3, 12)),
     ];
     for (file, refusal) in &refusals {
         compared.file(file.as_bytes());
@@ -56,8 +68,8 @@ fn every_lent_length_for_a_refused_file() {
     }
     compared.seen.ends(&Least {
         name: "lent to a refused file",
-        inputs: 5,
+        inputs: 7,
         accepted: 0,
-        numbers: &[(1, 1, 1), (2, 2, 2), (3, 1, 1), (4, 1, 1)],
+        numbers: &[(1, 1, 1), (2, 2, 2), (3, 2, 2), (4, 1, 1), (19, 1, 1)],
     });
 }

@@ -274,7 +274,8 @@ const BYTES_AFTER: Least = Least {
     name: "bytes after",
     inputs: 37_000,
     accepted: 0,
-    numbers: &[(2, 37_000, 33)],
+    // A section of bookings may follow the trains: it is not empty, and what has no form is none.
+    numbers: &[(2, 37_000, 33), (3, 143, 33)],
 };
 
 #[test]

@@ -7,7 +7,7 @@ use std::ffi::OsStr;
 use std::path::Path;
 
 use independent::rules::{lists, Lane};
-use inputs::{planned, sizes, Pair, Random, Traffic};
+use inputs::{booked_planned, planned, sizes, Pair, Random, Traffic};
 use run::{on, run, run_with, sample, sample_text, samples_with, written, COMMANDS};
 
 fn text(path: &Path) -> String {
@@ -125,6 +125,47 @@ segment 5, stations 5 to 6: D, double track; following gap 4
     assert!(middle.contains(segments), "{middle}");
 }
 
+/// Two trains that meet at station 2, where both are booked: the first later than it could leave, the
+/// second before it is there.
+const BOOKED: &str = "3\n2\n2\n2\n2\nS 5 4\nS 5 4\n2\n1 3 0 200 1 20 1 20\n3 1 0 200 2 15 0 15\n\
+                      2\n1 2 30\n2 2 14\n";
+
+#[test]
+fn bookings_in_words() {
+    let told = run_with(&["read", "-"], BOOKED.as_bytes()).answer();
+    assert!(told.starts_with("3 stations, 2 segments, 2 trains, 2 bookings\n\n"));
+    let trains = "
+train 1, outbound, station 1 to station 3, weight 1
+  departs 00:00 (minute 0) or later, arrives 03:20 (minute 200) or earlier
+  is booked to leave station 2 at 00:30 (minute 30) or later
+  alone on the line it takes 50 minutes, 150 minutes to spare:
+    00:00 from station 1, 20 over segment 1, 00:20 at station 2, stop 1
+    00:30 from station 2, 20 over segment 2, 00:50 at station 3
+
+train 2, inbound, station 3 to station 1, weight 2
+  departs 00:00 (minute 0) or later, arrives 03:20 (minute 200) or earlier
+  is booked to leave station 2 at 00:14 (minute 14) or later
+  alone on the line it takes 30 minutes, 170 minutes to spare:
+    00:00 from station 3, 15 over segment 2, 00:15 at station 2, stop 0
+    00:15 from station 2, 15 over segment 1, 00:30 at station 1
+";
+    assert!(told.ends_with(trains), "{told}");
+}
+
+#[test]
+fn booked_departures_on_the_sheet() {
+    let sheet = "\
+segment 1, stations 1 to 2 (S)
+  train  1  outbound  departs 00:00        arrives 00:20
+  train  2  inbound   departs 00:24        arrives 00:39        booked 00:14
+
+segment 2, stations 2 to 3 (S)
+  train  2  inbound   departs 00:00        arrives 00:15
+  train  1  outbound  departs 00:30        arrives 00:50        booked 00:30
+";
+    assert_eq!(run_with(&["lists", "-"], BOOKED.as_bytes()).answer(), sheet);
+}
+
 #[test]
 fn the_sheet_for_the_signallers() {
     let file = "2\n1\n1\n1\nD 5 4\n3\n1 2 1430 2000 2 15\n1 2 1420 2000 0 5\n1 2 1439 2000 0 5\n";
@@ -191,9 +232,15 @@ fn expected_sheet(
             "inbound "
         };
         let (departs, arrives) = (clock(minutes[at]), clock(minutes[at + 1]));
-        sheet += &format!(
-            "  train {number:>2}  {direction}  departs {departs:<11}  arrives {arrives}\n"
-        );
+        let row =
+            format!("  train {number:>2}  {direction}  departs {departs:<11}  arrives {arrives}");
+        let from = if train.outbound() { p + 1 } else { p + 2 };
+        let mut bookings = line.used_bookings().iter();
+        let booking = bookings.find(|it| (it.train, usize::from(it.station)) == (number, from));
+        sheet += &match booking {
+            None => row + "\n",
+            Some(booking) => format!("{row:<62}  booked {}\n", clock(booking.minute)),
+        };
     }
     if listed.is_empty() {
         sheet += "  no train\n";
@@ -204,8 +251,9 @@ fn expected_sheet(
 #[test]
 fn sheets_of_every_size() {
     let mut random = Random::new(61);
-    for (stations, trains) in sizes() {
-        let planned = planned(&mut random, stations, trains, Traffic::Mixed);
+    let draws = [planned, booked_planned];
+    for ((stations, trains), draw) in sizes().flat_map(|size| draws.map(|draw| (size, draw))) {
+        let planned = draw(&mut random, stations, trains, Traffic::Mixed);
         let Pair { file, timetable } = planned.pair();
         let (line, rows) = (&planned.line, rows(&timetable));
         let lists = lists(line).enumerate();

@@ -5,10 +5,11 @@ use std::collections::BTreeMap;
 use std::path::Path;
 
 use gaugeviolet::{check, plan, read, rewrite, Cause, Refusal, FILE_BYTES};
-use inputs::{damage_bytes, damage_lines, damaged, planned, sizes, Damage, Random, Traffic};
+use inputs::{booked_planned, damage_bytes, damage_lines, damaged, sizes};
+use inputs::{Damage, Random, Traffic};
 
 /// Every number of the scope document, told for place 7 where it has a place, else for 0; and its cause.
-const LIST: [(u32, u32, &str, Cause); 17] = [
+const LIST: [(u32, u32, &str, Cause); 19] = [
     (1, 0, "the line file has more than 4,096 bytes", Cause::FileLength),
     (
         2,
@@ -83,6 +84,19 @@ const LIST: [(u32, u32, &str, Cause); 17] = [
         Cause::OrderList,
     ),
     (17, 0, "the total is not the weighted delay of the minutes", Cause::Total),
+    (
+        18,
+        7,
+        "train 7: at a middle station it departs before the minute booked there",
+        Cause::Booking,
+    ),
+    (
+        19,
+        7,
+        "line 7: the booking is not in rising order of train and then station, or its station is not \
+         a middle one of its train's path",
+        Cause::BookingPlace,
+    ),
 ];
 
 fn sentence(number: u32, place: u32) -> String {
@@ -111,7 +125,7 @@ fn the_place_is_told() {
 
 #[test]
 fn another_number_is_told_plainly() {
-    for number in [0, 18, 31, u32::MAX] {
+    for number in [0, 20, 31, u32::MAX] {
         assert_eq!(
             sentence(number, 3),
             format!("refused with number {number} at place 3, which has no sentence")
@@ -136,7 +150,7 @@ fn every_number_of_the_list_has_its_cause() {
         assert_eq!(expected.number(), number);
     }
     assert_eq!(Cause::ALL, LIST.map(|(.., cause)| cause));
-    assert_eq!((cause(0), cause(18)), (None, None));
+    assert_eq!((cause(0), cause(20)), (None, None));
 }
 
 /// How often the library refused with each number.
@@ -192,7 +206,7 @@ fn what_is_refused_of_the_samples() {
             refused.note(check(&file, b""));
         }
     }
-    refused.ends([1, 2, 3, 5, 6, 8].into_iter());
+    refused.ends([1, 2, 3, 5, 6, 8, 19].into_iter());
 }
 
 #[test]
@@ -201,7 +215,7 @@ fn what_is_refused_of_damaged_texts() {
     let mut refused = Refused::default();
     for (stations, trains) in sizes() {
         let traffic = random.one_of(&[Traffic::Mixed, Traffic::Full]);
-        let planned = planned(&mut random, stations, trains, traffic);
+        let planned = booked_planned(&mut random, stations, trains, traffic);
         for damage in [Damage::ALL; 20].concat() {
             let pair = damaged(&mut random, &planned, damage);
             refused.note(check(&pair.file, &pair.timetable));
@@ -214,5 +228,5 @@ fn what_is_refused_of_damaged_texts() {
         refused.file(&long);
     }
     // 5 comes from solving alone.
-    refused.ends((1..=17).filter(|&number| number != 5));
+    refused.ends((1..=19).filter(|&number| number != 5));
 }

@@ -2,46 +2,21 @@
 //! small files, the walk on Saturdays where it ends, and the search on larger ones. Each timetable printed
 //! passes the check, and a refusal changes no lent byte.
 
+mod solved;
+
 use std::cell::Cell;
 use std::path::Path;
 
 use gaugeviolet::on_callers_stack::solve;
-use gaugeviolet::{check, TIMETABLE_BYTES};
 use independent::search::search_within;
 use independent::walk::solve_within;
-use independent::{Line, Refusal};
+use independent::Line;
 use inputs::{beside_another, beside_walks, short_walks, small_walks};
-use inputs::{saturday, some_saturday, Answer, Random, Style};
+use inputs::{saturday, some_saturday, Random, Style};
+use solved::solved;
 
 /// So many plans are more than the library's searches that do not look ahead take up.
 const LONG_SEARCH: u64 = 30_000;
-
-/// What the library answers: the text, or number and place with every lent byte as before.
-fn solved(file: &[u8]) -> Answer {
-    let mut lent = [0xa5; TIMETABLE_BYTES];
-    match solve(file, &mut lent) {
-        Ok(length) => {
-            assert!(
-                lent[length..].iter().all(|&byte| byte == 0xa5),
-                "bytes past the text"
-            );
-            assert_eq!(
-                check(file, &lent[..length]),
-                Ok(()),
-                "the check of what was printed"
-            );
-            Ok(lent[..length].to_vec())
-        }
-        Err(refusal) => {
-            assert!(
-                lent.iter().all(|&byte| byte == 0xa5),
-                "a byte changed with {refusal}"
-            );
-            let (number, place) = (refusal.number, refusal.place);
-            Err(Refusal { number, place })
-        }
-    }
-}
 
 #[test]
 fn small_files_beside_every_order() {
@@ -109,23 +84,24 @@ fn six_where_a_byte_is_missing() {
     assert_eq!(lent, text);
 }
 
-/// The samples of a real size, one with its stored timetable and one without any, beside the search.
+/// The samples of a real size, two with their stored timetables and one without any, beside the search.
 #[test]
 fn the_sample_saturdays() {
     let samples = Path::new(env!("CARGO_MANIFEST_DIR")).join("../../samples");
     let bytes = |name: &str| std::fs::read(samples.join(name)).expect("a sample");
-    let lines = ["saturday.line", "saturday-full.line"].map(|name| {
-        let line = independent::read(&bytes(name));
+    let names = ["saturday", "saturday-booked", "saturday-full"];
+    let lines = names.map(|name| {
+        let line = independent::read(&bytes(&format!("{name}.line")));
         line.expect("a line file")
     });
     let search = |line: &Line| search_within(line, 300_000).ok();
     let outcomes = beside_another(lines.into_iter(), search, solved);
     assert_eq!(
         (outcomes.lines, outcomes.without, outcomes.delayed),
-        (2, 1, 1)
+        (3, 1, 2)
     );
-    assert_eq!(
-        solved(&bytes("saturday.line")),
-        Ok(bytes("saturday.timetable"))
-    );
+    for name in ["saturday", "saturday-booked"] {
+        let line = bytes(&format!("{name}.line"));
+        assert_eq!(solved(&line), Ok(bytes(&format!("{name}.timetable"))));
+    }
 }

@@ -1,12 +1,15 @@
 //! The library's check beside the independent one, on some hundred thousand pairs of a line file and
 //! a timetable: right ones, damaged ones, and unlawful minutes with the lists and total of their own.
 
+mod checked;
+
+use checked::Compared;
 use gaugeviolet::{FILE_BYTES, TIMETABLE_BYTES};
 use independent::rules::Minutes;
 use independent::{Limits, Line, Train};
 use inputs::{
-    damage_bytes, damage_lines, damaged, full_size_planned, planned, shown, sizes, small_planned,
-    with_one_byte_damaged, Damage, Density, Fields, Least, Pair, Planned, Random, Seen, Traffic,
+    damage_bytes, damage_lines, damaged, full_size_planned, planned, sizes, small_planned,
+    with_one_byte_damaged, Damage, Density, Fields, Least, Pair, Planned, Random, Traffic,
 };
 
 // What each test must at least have seen stands before it; here are the inputs of all of them.
@@ -29,40 +32,6 @@ const _: () = assert!(ALL >= 200_000);
 
 const FILE_A: &[u8] = include_bytes!("../../../samples/a.line");
 const TIMETABLE_A: &[u8] = include_bytes!("../../../samples/a.timetable");
-
-/// What has been compared so far.
-#[derive(Default)]
-struct Compared {
-    seen: Seen,
-}
-
-impl Compared {
-    /// Compares the check of one pair.
-    fn pair(&mut self, file: &[u8], timetable: &[u8]) {
-        let expected = independent::check(file, timetable);
-        let expected = expected.map_err(|refusal| (refusal.number, refusal.place));
-        let answer = gaugeviolet::check(file, timetable);
-        let answer = answer.map_err(|refusal| (refusal.number, refusal.place));
-        assert!(
-            answer == expected,
-            "{answer:?} and not {expected:?} for {} with {}",
-            shown(file),
-            shown(timetable)
-        );
-        self.seen.input(expected);
-    }
-
-    /// Compares the check of these minutes, with the lists and the total that follow from them.
-    fn rows(&mut self, line: &Line, rows: &[Vec<u16>]) {
-        let minutes = Minutes::of_rows(line, rows);
-        let Pair { file, timetable } = Planned {
-            line: *line,
-            minutes,
-        }
-        .pair();
-        self.pair(&file, &timetable);
-    }
-}
 
 fn random_planned(random: &mut Random) -> Planned {
     let (stations, trains) = (random.within(2, 12), random.within(0, 12));

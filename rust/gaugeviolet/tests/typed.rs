@@ -1,10 +1,11 @@
 //! Typed access to lines and timetables, and the builder, beside the independent code; and waits beside
 //! the rules.
 
-use gaugeviolet::{check, plan, Line, LineBuilder, Reason, Segment, Timetable, Train, Wait};
+use gaugeviolet::{check, plan, Booking, Line, LineBuilder, Reason, Segment, Timetable};
+use gaugeviolet::{Train, Wait};
 use independent::rules::{free_arrival, last_arrival, weighted_delay, Minutes};
-use inputs::{line, planned, saturday, sizes, walk_line};
-use inputs::{Density, Pair, Planned, Random, Shape, Style, Traffic};
+use inputs::{booked_planned, line, planned, saturday, sizes, walk_line, with_bookings};
+use inputs::{Booked, Density, Pair, Planned, Random, Shape, Style, Traffic};
 
 /// The train as the independent reader has it, in the crate's form.
 fn same_train(train: &independent::Train) -> Train {
@@ -24,11 +25,24 @@ fn same_train(train: &independent::Train) -> Train {
     }
 }
 
+/// The booking in the crate's form.
+fn same_booking(booking: &independent::Booking) -> Booking {
+    Booking {
+        train: u32::from(booking.train),
+        station: u32::from(booking.station),
+        minute: u32::from(booking.minute),
+    }
+}
+
 #[test]
 fn lines_of_every_size() {
     let mut random = Random::new(31);
-    for (stations, trains) in sizes() {
-        let drawn = line(&mut random, stations, trains, Density::Dense);
+    for ((stations, trains), booked) in sizes().flat_map(|size| [(size, false), (size, true)]) {
+        let mut drawn = line(&mut random, stations, trains, Density::Dense);
+        if booked {
+            let times = [Booked::InAnyCase, Booked::Later(30), Booked::AnyTime];
+            drawn = with_bookings(&mut random, &drawn, &times);
+        }
         let file = independent::write(&drawn).expect("a line within the limits");
         let line = Line::read(&file).expect("an accepted file");
         let tracks = drawn.tracks[..usize::from(stations)].iter();
@@ -43,11 +57,13 @@ fn lines_of_every_size() {
         assert_eq!(line.segments().len(), drawn.used_segments().len());
         let expected: Vec<Train> = drawn.used_trains().iter().map(same_train).collect();
         assert_eq!(line.trains(), expected);
-        for (own, drawn) in line.trains().iter().zip(drawn.used_trains()) {
-            assert_eq!(own.free_arrival(), free_arrival(drawn));
-            let segments = (0..drawn.legs()).map(|leg| drawn.segment(leg) as u32 + 1);
+        for (i, (own, train)) in line.trains().iter().zip(drawn.used_trains()).enumerate() {
+            assert_eq!(line.free_arrival(i as u32 + 1), free_arrival(&drawn, i));
+            let segments = (0..train.legs()).map(|leg| train.segment(leg) as u32 + 1);
             assert!(segments.eq((0..own.legs()).map(|leg| own.segment(leg))));
         }
+        let bookings = drawn.used_bookings().iter().map(same_booking);
+        assert_eq!(line.bookings(), bookings.collect::<Vec<Booking>>());
         assert_eq!(rebuilt(&line).build().as_ref(), Ok(&line));
         assert_eq!(line.file(), file);
     }
@@ -70,7 +86,44 @@ fn rebuilt(line: &Line) -> LineBuilder {
     for train in line.trains() {
         builder = builder.train(train.clone());
     }
+    for &booking in line.bookings() {
+        builder = builder.booking(booking);
+    }
     builder
+}
+
+/// Trains are numbered anew, and each keeps its own minutes at its own stations.
+#[test]
+fn fewer_trains_keep_their_bookings() {
+    let mut random = Random::new(35);
+    let mut kept = 0;
+    for (stations, trains) in sizes().filter(|&(_, trains)| trains > 0) {
+        let drawn = line(&mut random, stations, trains, Density::Dense);
+        let drawn = with_bookings(&mut random, &drawn, &[Booked::AnyTime]);
+        let file = independent::write(&drawn).expect("a line within the limits");
+        let line = Line::read(&file).expect("an accepted file");
+        let mut numbers: Vec<u32> = (1..=u32::from(trains)).collect();
+        numbers.retain(|_| random.below(3) > 0);
+        if random.below(2) == 0 {
+            numbers.reverse();
+        }
+        let fewer = line.with_trains(&numbers);
+        for (own, &number) in (1..).zip(&numbers) {
+            assert_eq!(fewer.train(own), line.train(number));
+            let at = |line: &Line, train| {
+                let stations = 1..=u32::from(stations);
+                stations
+                    .map(|it| line.booked(train, it))
+                    .collect::<Vec<_>>()
+            };
+            assert_eq!(at(&fewer, own), at(&line, number));
+            assert_eq!(fewer.free_legs(own), line.free_legs(number));
+        }
+        assert_eq!(fewer.trains().len(), numbers.len());
+        kept += fewer.bookings().len();
+    }
+    println!("{kept} bookings kept");
+    assert!(kept >= 500);
 }
 
 #[test]
@@ -103,7 +156,7 @@ fn timetables_of_every_size() {
                 own.last_arrival(number),
                 u32::from(last_arrival(&minutes, i, train))
             );
-            let late = own.last_arrival(number) - free_arrival(train);
+            let late = own.last_arrival(number) - free_arrival(&line, i);
             assert_eq!(own.delay(number), late);
         }
         let text = String::from_utf8(timetable).expect("a text");
@@ -125,13 +178,23 @@ fn row(timetable: &Timetable, train: u32) -> Vec<u16> {
         .collect()
 }
 
-/// Holds that the waits of a timetable are its delays.
+/// Holds that the waits of a timetable are its delays. Of a train with bookings that is so of what it waits
+/// after these, unless it stands for a later one the shorter for it.
 fn hold_delays(timetable: &Timetable) {
+    let line = timetable.line();
     for train in timetable.numbers() {
         let waits = timetable.waits();
         let own = waits.iter().filter(|wait| wait.train == train);
-        let waited: u32 = own.map(|wait| wait.until - wait.from).sum();
-        assert_eq!(waited, timetable.delay(train));
+        let waited: u32 = own
+            .map(|wait| {
+                let booked = line.booked(train, wait.station).unwrap_or(0);
+                wait.until - booked.max(wait.from)
+            })
+            .sum();
+        match line.bookings().iter().any(|it| it.train == train) {
+            true => assert!(waited >= timetable.delay(train)),
+            false => assert_eq!(waited, timetable.delay(train)),
+        }
     }
 }
 
@@ -174,19 +237,25 @@ fn a_minute_earlier(timetable: &Timetable, text: &str, wait: &Wait) -> String {
     lines.join("\n") + "\n"
 }
 
-/// Holds that a wait of the best timetable ends because of a train: a minute earlier a rule is broken
-/// where it is. Gives whether that is at a station.
-fn hold_wait_of_best(timetable: &Timetable, text: &str, wait: &Wait) -> bool {
-    let last = *wait.reasons.last().expect("a train that is waited for");
+/// Holds that a wait of the best timetable ends because of a train or a booking: a minute earlier a rule
+/// is broken where it is. Gives the number of that rule.
+fn hold_wait_of_best(timetable: &Timetable, text: &str, wait: &Wait) -> u32 {
+    let last = *wait.reasons.last().expect("what is waited for");
     assert_eq!(wait.idle, 0);
-    assert_ne!(last.train(), wait.train);
-    assert_eq!(wait.trains().last(), Some(&last.train()));
+    assert_ne!(last.train(), Some(wait.train));
+    if let Some(train) = last.train() {
+        assert_eq!(wait.trains().last(), Some(&train));
+    }
     let earlier = a_minute_earlier(timetable, text, wait);
     let refusal = check(timetable.line().file(), earlier.as_bytes());
     let refusal = refusal.expect_err("a broken rule");
+    let booked = timetable.line().booked(wait.train, wait.station);
     let expected = match last {
+        // What a minute earlier breaks for the others too, it breaks for the booking first.
+        _ if booked == Some(wait.until) => (18, wait.train),
         Reason::Segment { segment, .. } => (14, segment),
         Reason::Station { station, .. } => (15, station),
+        Reason::Booking { .. } => panic!("{}", wait.sentence()),
     };
     assert_eq!(
         (refusal.number, refusal.place),
@@ -194,18 +263,21 @@ fn hold_wait_of_best(timetable: &Timetable, text: &str, wait: &Wait) -> bool {
         "{}",
         wait.sentence()
     );
-    refusal.number == 15
+    refusal.number
 }
 
 #[test]
 fn waits_of_the_best_timetable() {
     let mut random = Random::new(33);
-    let mut waits = [0; 2];
-    for turn in 0..120 {
-        let line = match turn % 4 {
+    let mut waits = std::collections::BTreeMap::new();
+    for turn in 0..180 {
+        let mut line = match turn % 4 {
             0 => walk_line(&mut random, 6, 6, Shape::OneTrack),
             style => saturday(&mut random, 8, 9, Style::ALL[style]),
         };
+        if turn % 3 == 0 {
+            line = with_bookings(&mut random, &line, &[Booked::InAnyCase, Booked::Later(20)]);
+        }
         let file = independent::write(&line).expect("a line within the limits");
         let Ok(best) = plan(&file) else { continue };
         let line = Line::read(&file).expect("an accepted file");
@@ -214,12 +286,12 @@ fn waits_of_the_best_timetable() {
         let text = String::from_utf8(best).expect("a text");
         for wait in timetable.waits() {
             hold_reasons(&timetable, &wait);
-            let at_station = hold_wait_of_best(&timetable, &text, &wait);
-            waits[usize::from(at_station)] += 1;
+            let number = hold_wait_of_best(&timetable, &text, &wait);
+            *waits.entry(number).or_insert(0) += 1;
         }
     }
-    println!("waits for a segment and for a station: {waits:?}");
-    assert!(waits[0] >= 200 && waits[1] >= 10);
+    println!("waits by the rule that ends them: {waits:?}");
+    assert!(waits[&14] >= 200 && waits[&15] >= 10 && waits[&18] >= 50);
 }
 
 /// In a timetable by another hand a train may wait for none: a minute earlier no rule between trains is
@@ -228,8 +300,9 @@ fn waits_of_the_best_timetable() {
 fn waits_of_any_timetable() {
     let mut random = Random::new(34);
     let mut kinds = [0; 3];
-    for _ in 0..400 {
-        let planned = planned(&mut random, 5, 4, Traffic::Mixed);
+    for turn in 0..600 {
+        let draw = [planned, planned, booked_planned][turn % 3];
+        let planned = draw(&mut random, 5, 4, Traffic::Mixed);
         let Pair { file, timetable } = planned.pair();
         let line = Line::read(&file).expect("an accepted file");
         let text = String::from_utf8(timetable).expect("a text");
@@ -240,17 +313,18 @@ fn waits_of_any_timetable() {
             kinds[kind_of_wait(&timetable, &text, &wait)] += 1;
         }
     }
-    println!("waits for a train, for none, and for one and then for none: {kinds:?}");
+    println!("waits for something, for no train, and for one and then the other: {kinds:?}");
     assert!(kinds[0] >= 100 && kinds[1] >= 20 && kinds[2] >= 20);
 }
 
-/// 0 for a wait that ends because of a train, 1 for one without any, 2 for one that goes on after.
+/// 0 for a wait that ends because of a train or a booking, 1 for one without any, 2 for one that goes on
+/// after.
 fn kind_of_wait(timetable: &Timetable, text: &str, wait: &Wait) -> usize {
     let earlier = a_minute_earlier(timetable, text, wait);
     let refused = check(timetable.line().file(), earlier.as_bytes());
-    let between_trains = refused.is_err_and(|why| [14, 15].contains(&why.number));
+    let in_the_way = refused.is_err_and(|why| [14, 15, 18].contains(&why.number));
     let told = wait.sentence();
-    assert_eq!(wait.idle == 0, between_trains, "{told}");
+    assert_eq!(wait.idle == 0, in_the_way, "{told}");
     match (&wait.reasons[..], wait.idle) {
         (_, 0) => 0,
         ([], idle) => {

@@ -7,7 +7,7 @@ use std::time::Instant;
 
 use gaugeviolet::Line;
 use independent::rules::{free_arrival, last_arrival};
-use inputs::{planned, saturday, sizes, Pair, Random, Style, Traffic};
+use inputs::{booked_planned, planned, saturday, sizes, Pair, Random, Style, Traffic};
 use run::{long_with, on, run, run_with, sample_text, written};
 
 #[test]
@@ -24,15 +24,44 @@ train 2 arrives 00:39, delay 9 minutes, weight 2: 18
     assert_eq!(on("why", &["a.line", "a.timetable"]).answer(), words);
 }
 
+/// Standing for a booking is told and costs nothing by itself.
+#[test]
+fn a_booking_that_a_train_stands_for() {
+    let file = "3\n2\n2\n2\n2\nS 5 4\nS 5 4\n2\n1 3 0 200 1 20 1 20\n3 1 0 200 2 15 0 15\n\
+                2\n1 2 30\n2 2 20\n";
+    let words = "\
+total weighted delay 8
+
+train 1 arrives 00:50, no delay
+  train 1 waits 9 minutes at station 2, from 00:21 to 00:30, for its booked minute
+
+train 2 arrives 00:39, delay 4 minutes, weight 2: 8
+  train 2 waits 9 minutes at station 2, from 00:15 to 00:24, for its booked minute and train 1 on \
+segment 1
+";
+    assert_eq!(run_with(&["why", "-"], file.as_bytes()).answer(), words);
+}
+
+/// A train that its booking makes too late.
+#[test]
+fn a_booking_that_makes_it_impossible() {
+    let file = "3\n2\n2\n2\n2\nS 5 4\nS 5 4\n1\n1 3 0 49 1 20 1 20\n1\n1 2 30\n";
+    let told = run_with(&["why", "-"], file.as_bytes()).answer();
+    let row = "  train 1: station 1 to station 3, departs 00:00 or later, alone it arrives 00:50 \
+               (booked to leave station 2 at 00:30), latest 00:49\n";
+    assert!(told.contains(row), "{told}");
+}
+
 /// The delay of each train, worked apart; its waits are held elsewhere.
 #[test]
 fn delays_of_every_size() {
     let mut random = Random::new(62);
-    for (stations, trains) in sizes() {
-        let planned = planned(&mut random, stations, trains, Traffic::Mixed);
+    let draws = [planned, booked_planned];
+    for ((stations, trains), draw) in sizes().flat_map(|size| draws.map(|draw| (size, draw))) {
+        let planned = draw(&mut random, stations, trains, Traffic::Mixed);
         let (line, minutes) = (&planned.line, &planned.minutes);
         let delays = line.used_trains().iter().enumerate().map(|(i, train)| {
-            let late = u32::from(last_arrival(minutes, i, train)) - free_arrival(train);
+            let late = u32::from(last_arrival(minutes, i, train)) - free_arrival(line, i);
             (late, late * u32::from(train.weight))
         });
         let (delays, costs): (Vec<u32>, Vec<u32>) = delays.unzip();

@@ -6,7 +6,7 @@ use crate::{Line, Refusal};
 
 /// Holds that `timetable` is a lawful timetable of `file` with the order lists and the total that
 /// follow from its minutes. Otherwise the first number in the order of the scope document: those of
-/// the file (1 to 4), then 7, 8 and 9 over the whole text, then 10 to 15, 16, 17.
+/// the file (1 to 4 and 19), then 7, 8 and 9 over the whole text, then 10 to 12, 18, 13 to 15, 16, 17.
 pub fn check(file: &[u8], timetable: &[u8]) -> Result<(), Refusal> {
     let line = crate::read(file)?;
     let timetable = timetable::read(&line, timetable)?;

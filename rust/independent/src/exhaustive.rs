@@ -6,7 +6,8 @@
 //! after another: intervals of which no more than so many share a minute can be shared out to so many
 //! tracks. So each lawful timetable keeps some choice of an order for each segment, and of tracks
 //! with an order on each track for each station. Among the timetables that keep one choice the
-//! least minutes are the best, as each of them is at or below that of any other.
+//! least minutes are the best, as each of them is at or below that of any other. Bookings, like
+//! earliest, are floors under departures and change nothing of this.
 //!
 //! The planner therefore goes through every choice, works out its least minutes, and keeps the best.
 //! It puts the trains in one after another, each at every position of every order that it has a part
@@ -15,7 +16,7 @@
 //! only raise minutes. Nothing is ever given up for its delay.
 
 use crate::rules::{weighted_delay, Minutes};
-use crate::{timetable, Kind, Line, Refusal};
+use crate::{timetable, Booking, Kind, Line, Refusal};
 
 /// The work that was allowed ran out before every choice was tried.
 #[derive(Clone, Copy, Debug, PartialEq, Eq)]
@@ -207,10 +208,27 @@ impl<'a> Search<'a> {
         });
     }
 
-    /// Each departure no later than any timetable can have it: earliest.
+    /// Each departure no later than any timetable can have it: earliest, or what is booked there.
     fn alone(&self) -> Vec<i32> {
-        let earliest = |leg: &Leg| i32::from(self.line.trains[leg.train].earliest);
-        self.legs.iter().map(earliest).collect()
+        let floor = |leg: &Leg| {
+            let earliest = self.line.trains[leg.train].earliest;
+            i32::from(earliest.max(self.booked(leg).unwrap_or(0)))
+        };
+        self.legs.iter().map(floor).collect()
+    }
+
+    /// The minute booked at the station that this leg leaves, if there is one.
+    fn booked(&self, leg: &Leg) -> Option<u16> {
+        let train = &self.line.trains[leg.train];
+        let station = match train.outbound() {
+            true => usize::from(train.origin) + leg.leg,
+            false => usize::from(train.origin) - leg.leg,
+        };
+        let here = |booking: &&Booking| {
+            (usize::from(booking.train), usize::from(booking.station)) == (leg.train + 1, station)
+        };
+        let booking = self.line.used_bookings().iter().find(here)?;
+        Some(booking.minute)
     }
 
     /// Goes on from `step` with every position for its train. `least` are the least departures that

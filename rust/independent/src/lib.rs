@@ -1,6 +1,6 @@
-//! Line files and timetables in plain Rust, from the scope document alone: reading and writing, the
-//! rules, the check, a planner that tries every order, one that walks through plans, and one that
-//! searches through them.
+//! Line files and timetables in plain Rust, from the scope document and the change requests alone:
+//! reading and writing, the rules, the check, a planner that tries every order, one that walks through
+//! plans, and one that searches through them.
 //!
 //! Nothing here comes from the proved crates or calls them: the tests compare the two, so a mistake
 //! has to be made twice to pass. The readers, the writers and the check allocate nothing (only
@@ -20,6 +20,7 @@ pub mod search;
 pub mod timetable;
 pub mod walk;
 
+mod bookings;
 mod checker;
 mod position;
 mod reader;
@@ -27,6 +28,10 @@ mod tables;
 mod text;
 mod writer;
 
+#[cfg(test)]
+mod booking_examples;
+#[cfg(test)]
+mod booking_readings;
 #[cfg(test)]
 mod examples;
 #[cfg(test)]
@@ -36,6 +41,7 @@ mod test_texts;
 #[cfg(test)]
 mod timetable_readings;
 
+pub use bookings::Booking;
 pub use checker::check;
 pub use reader::read;
 pub use writer::{rewrite, write, write_into};
@@ -48,6 +54,8 @@ pub const STATIONS: usize = 12;
 pub const SEGMENTS: usize = STATIONS - 1;
 /// The most trains of a line.
 pub const TRAINS: usize = 12;
+/// The most bookings of a line.
+pub const BOOKINGS: usize = 120;
 
 /// A range of a field, both ends included.
 #[derive(Clone, Copy, Debug, PartialEq, Eq)]
@@ -67,6 +75,8 @@ impl Limits {
     pub const GAP: Limits = Limits::new(1, 60);
     /// How many trains.
     pub const TRAIN_COUNT: Limits = Limits::new(0, TRAINS as u16);
+    /// How many bookings, where the section is there: it is never empty.
+    pub const BOOKING_COUNT: Limits = Limits::new(1, BOOKINGS as u16);
     /// A minute of the timetable.
     pub const MINUTE: Limits = Limits::new(0, 2879);
     /// A train's weight.
@@ -92,12 +102,12 @@ impl Limits {
 /// its place.
 #[derive(Clone, Copy, Debug, PartialEq, Eq, PartialOrd, Ord)]
 pub struct Refusal {
-    /// Of a line file: 1 too long, 2 form, 3 range, 4 destination equals origin. 5 no timetable, 6
-    /// lent bytes too few. Of a timetable: 7 too long, 8 form, 9 range, 10 to 15 the rule broken, 16
-    /// order lists, 17 total.
+    /// Of a line file: 1 too long, 2 form, 3 range, 4 destination equals origin, 19 a booking out of
+    /// order or not at a middle station. 5 no timetable, 6 lent bytes too few. Of a timetable: 7 too
+    /// long, 8 form, 9 range, 10 to 15 and 18 the rule broken, 16 order lists, 17 total.
     pub number: u32,
-    /// The line of the fault for 2, 3, 4, 8 and 9; the lowest train for 10 to 13, segment for 14,
-    /// station for 15 and list for 16. All of them count from 1; any other number has 0.
+    /// The line of the fault for 2, 3, 4, 8, 9 and 19; the lowest train for 10 to 13 and 18, segment for
+    /// 14, station for 15 and list for 16. All of them count from 1; any other number has 0.
     pub place: u32,
 }
 
@@ -138,6 +148,13 @@ impl Refusal {
     pub(crate) const fn same_station(line: u32) -> Refusal {
         Refusal {
             number: 4,
+            place: line,
+        }
+    }
+
+    pub(crate) const fn misbooked(line: u32) -> Refusal {
+        Refusal {
+            number: 19,
             place: line,
         }
     }
@@ -232,7 +249,7 @@ impl Train {
 
 /// A line: what a line file says. Entries beyond a count are 0 (a kind is S) after reading and are
 /// ignored in writing.
-#[derive(Clone, Copy, Debug, Default, PartialEq, Eq)]
+#[derive(Clone, Copy, Debug, PartialEq, Eq)]
 pub struct Line {
     /// How many stations there are.
     pub station_count: u16,
@@ -244,6 +261,24 @@ pub struct Line {
     pub train_count: u16,
     /// The trains.
     pub trains: [Train; TRAINS],
+    /// How many bookings there are; without any the file has no section for them.
+    pub booking_count: u16,
+    /// The bookings, rising by train and then by station.
+    pub bookings: [Booking; BOOKINGS],
+}
+
+impl Default for Line {
+    fn default() -> Line {
+        Line {
+            station_count: 0,
+            tracks: [0; STATIONS],
+            segments: [Segment::default(); SEGMENTS],
+            train_count: 0,
+            trains: [Train::default(); TRAINS],
+            booking_count: 0,
+            bookings: [Booking::default(); BOOKINGS],
+        }
+    }
 }
 
 impl Line {

@@ -2,7 +2,7 @@
 //! their ways out, and the best so far.
 //!
 //! A plan is a set of choices "this one first" with the least minutes that meet them and rules 10 to
-//! 12. It is held as its departures alone. Only what follows from the latest choice is raised, and it
+//! 12 and 18. It is held as its departures alone. Only what follows from the latest choice is raised, and it
 //! is put back when the choice is.
 
 use crate::rules::Minutes;

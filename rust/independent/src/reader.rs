@@ -1,10 +1,10 @@
 //! Reading a line file: once through the bytes, field by field.
 
 use crate::position::{Position, LINE_FEED, SPACE};
-use crate::{Kind, Limits, Line, Refusal, Segment, Train, FILE_BYTES};
+use crate::{Booking, Kind, Limits, Line, Refusal, Segment, Train, FILE_BYTES};
 
 /// Reads a line file. A field's form comes first, then the byte after it, then its range, then (at
-/// a destination) whether it equals the origin.
+/// a destination) whether it equals the origin, or (at a booking's station) whether the booking suits.
 pub fn read(file: &[u8]) -> Result<Line, Refusal> {
     if file.len() > FILE_BYTES {
         return Err(Refusal::TOO_LONG);
@@ -14,6 +14,7 @@ pub fn read(file: &[u8]) -> Result<Line, Refusal> {
     at.stations(&mut line)?;
     at.segments(&mut line)?;
     at.trains(&mut line)?;
+    at.bookings(&mut line)?;
     at.at_the_end()?;
     Ok(line)
 }
@@ -67,6 +68,32 @@ impl Position<'_> {
         }
         runs[last] = self.number(LINE_FEED, Limits::RUN)?;
         Ok(())
+    }
+
+    /// The bookings, if anything follows the trains: the section is left off where there are none.
+    fn bookings(&mut self, line: &mut Line) -> Result<(), Refusal> {
+        if self.bytes.is_empty() {
+            return Ok(());
+        }
+        line.booking_count = self.number(LINE_FEED, Limits::BOOKING_COUNT)?;
+        for at in 0..usize::from(line.booking_count) {
+            line.bookings[at] = self.booking(line, at)?;
+        }
+        Ok(())
+    }
+
+    /// The booking at this place, from 0, behind those that `line` has already.
+    fn booking(&mut self, line: &Line, at: usize) -> Result<Booking, Refusal> {
+        let mut booking = Booking {
+            train: self.number(SPACE, Limits::new(1, line.train_count))?,
+            station: self.number(SPACE, Limits::new(1, line.station_count))?,
+            minute: 0,
+        };
+        if !booking.suits(&line.trains, line.bookings[..at].last()) {
+            return Err(Refusal::misbooked(self.line));
+        }
+        booking.minute = self.number(LINE_FEED, Limits::MINUTE)?;
+        Ok(booking)
     }
 
     /// A kind and the space after it.

@@ -1,6 +1,6 @@
 //! The examples of the scope document and the settled readings of its open points, one by one.
 
-use crate::test_texts::{refused, with};
+use crate::test_texts::{refused, with, writing_gives};
 use crate::{read, rewrite, write, write_into, Kind, Line, Refusal, Segment, FILE_BYTES};
 
 const FILE_A: &str = include_str!("../../../samples/a.line");
@@ -16,17 +16,6 @@ fn line_a() -> Line {
 /// File A with its line `place` (from 1) replaced.
 fn a_with(place: usize, replaced: &str) -> String {
     with(FILE_A, place, replaced)
-}
-
-/// Holds that writing `line` is refused with the line's place, whatever is lent, and changes nothing.
-fn writing_gives(line: &Line, number: u32, place: u32) {
-    let expected = Refusal { number, place };
-    assert_eq!(write(line), Err(expected));
-    for lent_bytes in [0, 1, FILE_BYTES] {
-        let mut lent = vec![0xA5; lent_bytes];
-        assert_eq!(write_into(line, &mut lent), Err(expected));
-        assert!(lent.iter().all(|&byte| byte == 0xA5));
-    }
 }
 
 #[test]
@@ -92,8 +81,8 @@ fn reading_1_place_of_a_fault_at_and_past_a_line_feed() {
     assert_eq!(of("2\n2\n2\n1\nS 5\n"), refused(2, 5));
     assert_eq!(of("3\n"), refused(2, 2));
     assert_eq!(of("3\n\n"), refused(2, 2));
-    assert_eq!(of(&format!("{FILE_A}0\n")), refused(2, 11));
     assert_eq!(of(&format!("{FILE_A}\n")), refused(2, 11));
+    assert_eq!(of(&format!("{FILE_A}x\n")), refused(2, 11));
     assert_eq!(of(FILE_A.trim_end()), refused(2, 10));
     assert_eq!(of(&FILE_A[..FILE_A.len() - 20]), refused(2, 10));
 }

@@ -1,4 +1,4 @@
-//! The rules of a timetable, 10 to 15, and what follows from its minutes: delays and order lists.
+//! The rules of a timetable, 10 to 15 and 18, and what follows from its minutes: delays and order lists.
 //!
 //! A line is within the limits wherever one is asked for here.
 
@@ -100,13 +100,14 @@ impl Spans {
     }
 }
 
-/// The first rule from 10 to 15 that is broken, with its lowest train, segment or station. Each rule
-/// is judged over all trains before the next one.
+/// The first rule that is broken, with its lowest train, segment or station: 10 to 15, with 18 between
+/// 12 and 13. Each rule is judged over all trains before the next one.
 pub fn first_breach(line: &Line, minutes: &Minutes) -> Result<(), Refusal> {
-    let rules: [(u32, Rule); 6] = [
+    let rules: [(u32, Rule); 7] = [
         (10, sets_out_too_early),
         (11, runs_otherwise),
         (12, stops_too_short),
+        (18, leaves_before_its_booking),
         (13, arrives_too_late),
         (14, gap_too_short),
         (15, tracks_too_few),
@@ -156,6 +157,18 @@ fn stops_too_short(line: &Line, minutes: &Minutes) -> Option<usize> {
             minutes.departures[train.segment(leg)][number] < arrival + train.stops[leg - 1]
         })
     })
+}
+
+/// Rule 18: no departure is before its booking. The bookings rise by train, so the first one that is
+/// broken has the lowest.
+fn leaves_before_its_booking(line: &Line, minutes: &Minutes) -> Option<usize> {
+    let broken = line.used_bookings().iter().find(|booking| {
+        let number = usize::from(booking.train) - 1;
+        let train = &line.trains[number];
+        let segment = train.segment(train.leg_from(booking.station));
+        minutes.departures[segment][number] < booking.minute
+    });
+    broken.map(|booking| usize::from(booking.train) - 1)
 }
 
 /// Rule 13: the last arrival is not after latest.
@@ -302,19 +315,26 @@ pub fn last_arrival(minutes: &Minutes, number: usize, train: &Train) -> u16 {
     minutes.arrivals[train.segment(train.legs() - 1)][number]
 }
 
-/// Earliest plus all runs and stops: up to 7,919, past the last minute of a timetable.
+/// The earliest last arrival of a train, by its number from 0, were it alone on the line, its bookings
+/// kept: up to 7,919, past the last minute of a timetable.
 #[inline]
-pub fn free_arrival(train: &Train) -> u32 {
-    let legs = train.legs();
-    let times = train.runs[..legs].iter().chain(&train.stops[..legs - 1]);
-    u32::from(train.earliest) + times.map(|&time| u32::from(time)).sum::<u32>()
+pub fn free_arrival(line: &Line, number: usize) -> u32 {
+    let train = &line.trains[number];
+    let floors = line.floors(number);
+    let last = train.legs() - 1;
+    let mut ready = u32::from(train.earliest);
+    for leg in 0..last {
+        let minutes = u32::from(train.runs[leg]) + u32::from(train.stops[leg]);
+        ready = (ready + minutes).max(u32::from(floors[leg + 1]));
+    }
+    ready + u32::from(train.runs[last])
 }
 
 /// The sum of weight times delay. A delay below 0, which no lawful timetable has, counts as 0.
 pub fn weighted_delay(line: &Line, minutes: &Minutes) -> u32 {
     let delay = |(number, train): (usize, &Train)| {
         let arrival = u32::from(last_arrival(minutes, number, train));
-        u32::from(train.weight) * arrival.saturating_sub(free_arrival(train))
+        u32::from(train.weight) * arrival.saturating_sub(free_arrival(line, number))
     };
     line.used_trains().iter().enumerate().map(delay).sum()
 }

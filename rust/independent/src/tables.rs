@@ -62,7 +62,8 @@ pub(crate) struct Tables {
     pub(crate) by_train: Vec<u8>,
     /// The minutes from departure to arrival.
     pub(crate) run: PerEvent<i16>,
-    /// The latest departure with which the train can still be in by its latest.
+    /// The latest departure with which the train can still be in by its latest, were nothing booked
+    /// behind it: a later one is too late in any case.
     pub(crate) limit: PerEvent<i16>,
     /// The train's next departure, or [`NONE`].
     pub(crate) next: PerEvent<u8>,
@@ -213,15 +214,18 @@ impl Station {
     }
 }
 
-/// Each departure as early as the train alone could have it; some may be past the day.
+/// Each departure as early as the train alone could have it, its bookings kept; some may be past the
+/// day. Raising only makes departures later, so no plan has one before its booking.
 pub(crate) fn free_departures(line: &Line) -> PerEvent<i16> {
     let mut departures = [0; EVENTS];
     for (number, train) in line.used_trains().iter().enumerate() {
+        let floors = line.floors(number);
         let mut minute = train.earliest;
         for leg in 0..train.legs() {
             if leg > 0 {
                 minute += train.runs[leg - 1] + train.stops[leg - 1];
             }
+            minute = minute.max(floors[leg]);
             departures[usize::from(event(train.segment(leg), number))] = minute as i16;
         }
     }

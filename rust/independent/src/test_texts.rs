@@ -1,7 +1,8 @@
-//! What the tests of this crate share: refusals, texts with a line replaced, minutes put to the check.
+//! What the tests of this crate share: refusals, texts with a line replaced, minutes put to the check,
+//! records that are not written.
 
 use crate::rules::Minutes;
-use crate::{check, read, timetable, Line, Refusal};
+use crate::{check, read, timetable, write, write_into, Line, Refusal, FILE_BYTES};
 
 pub(crate) fn refused<T>(number: u32, place: u32) -> Result<T, Refusal> {
     Err(Refusal { number, place })
@@ -28,4 +29,15 @@ pub(crate) fn minutes_checked(file: impl AsRef<[u8]>, rows: &[&[u16]]) -> Result
     let file = file.as_ref();
     let text = timetable::write(&line(file), &minutes(file, rows));
     check(file, &text)
+}
+
+/// Holds that writing `line` is refused with the line's place, whatever is lent, and changes nothing.
+pub(crate) fn writing_gives(line: &Line, number: u32, place: u32) {
+    let expected = Refusal { number, place };
+    assert_eq!(write(line), Err(expected));
+    for lent_bytes in [0, 1, FILE_BYTES] {
+        let mut lent = vec![0xA5; lent_bytes];
+        assert_eq!(write_into(line, &mut lent), Err(expected));
+        assert!(lent.iter().all(|&byte| byte == 0xA5));
+    }
 }

@@ -270,7 +270,7 @@ fn reading_19_free_arrival_past_the_last_minute() {
         "240 240 ".repeat(10)
     );
     let line = line(&file);
-    assert_eq!(free_arrival(&line.trains[0]), 7919);
+    assert_eq!(free_arrival(&line, 0), 7919);
     // Such a timetable breaks a rule, so its delay is never asked for; it is 0.
     assert_eq!(weighted_delay(&line, &Minutes::default()), 0);
     assert_eq!(minutes_checked(&file, &[&[0; 22]]), refused(10, 1));

@@ -1,20 +1,21 @@
 //! Writing a line: its fields in the reader's order, each held to its range.
 
 use crate::text::{Text, SPARE};
-use crate::{Limits, Line, Refusal, Segment, Train, FILE_BYTES, SEGMENTS};
+use crate::{Booking, Limits, Line, Refusal, Segment, Train, FILE_BYTES, SEGMENTS};
 
 /// The bytes of the longest line within the limits: 39 for the stations, 91 for the segments, 3 for
-/// the train count, and 102 for each of 12 trains.
-const LONGEST: usize = 1357;
+/// the train count, 102 for each of 12 trains, 4 for the booking count, and 92 for the bookings of each
+/// train with one digit, 102 for those of each with two.
+const LONGEST: usize = 39 + 91 + 3 + 12 * 102 + 4 + 9 * 92 + 3 * 102;
 
-/// The text of `line`, or 3 or 4 with the line that the first bad field would have.
+/// The text of `line`, or 3, 4 or 19 with the line that the first bad field would have.
 pub fn write(line: &Line) -> Result<Vec<u8>, Refusal> {
     let mut lent = [0; FILE_BYTES];
     let length = write_into(line, &mut lent)?;
     Ok(lent[..length].to_vec())
 }
 
-/// Writes `line` to the front of `lent` and returns the text's length; 3 or 4 as in [`write()`], then
+/// Writes `line` to the front of `lent` and returns the text's length; 3, 4 or 19 as in [`write()`], then
 /// 6 where `lent` has fewer bytes than the text. A refusal changes no lent byte.
 pub fn write_into(line: &Line, lent: &mut [u8]) -> Result<usize, Refusal> {
     check(line)?;
@@ -28,7 +29,8 @@ pub fn rewrite(file: &[u8], lent: &mut [u8]) -> Result<usize, Refusal> {
     write_into(&crate::read(file)?, lent)
 }
 
-/// The first field of `line` that is outside its range, or a destination that equals its origin.
+/// The first field of `line` that is outside its range, or a destination that equals its origin, or a
+/// booking that does not suit.
 fn check(line: &Line) -> Result<(), Refusal> {
     field(line.station_count, Limits::STATION_COUNT, 1)?;
     let stations = usize::from(line.station_count);
@@ -49,7 +51,7 @@ fn check(line: &Line) -> Result<(), Refusal> {
         place += 1;
         check_train(train, Limits::new(1, line.station_count), place)?;
     }
-    Ok(())
+    check_bookings(line, place + 1)
 }
 
 fn check_train(train: &Train, stations: Limits, place: u32) -> Result<(), Refusal> {
@@ -72,6 +74,25 @@ fn check_train(train: &Train, stations: Limits, place: u32) -> Result<(), Refusa
     } else {
         Err(Refusal::range(place))
     }
+}
+
+/// The bookings, whose count would stand on the line `place`. Without any nothing is written there.
+fn check_bookings(line: &Line, place: u32) -> Result<(), Refusal> {
+    if line.booking_count == 0 {
+        return Ok(());
+    }
+    field(line.booking_count, Limits::BOOKING_COUNT, place)?;
+    let mut before = None;
+    for (booking, place) in line.used_bookings().iter().zip(place + 1..) {
+        field(booking.train, Limits::new(1, line.train_count), place)?;
+        field(booking.station, Limits::new(1, line.station_count), place)?;
+        if !booking.suits(&line.trains, before) {
+            return Err(Refusal::misbooked(place));
+        }
+        field(booking.minute, Limits::MINUTE, place)?;
+        before = Some(booking);
+    }
+    Ok(())
 }
 
 #[inline]
@@ -98,6 +119,12 @@ impl Text<{ LONGEST + SPARE }> {
         for train in &line.trains[..usize::from(line.train_count)] {
             self.train(train);
         }
+        if line.booking_count > 0 {
+            self.number(line.booking_count, b'\n');
+            for booking in line.used_bookings() {
+                self.booking(booking);
+            }
+        }
     }
 
     fn segment(&mut self, segment: &Segment) {
@@ -119,5 +146,11 @@ impl Text<{ LONGEST + SPARE }> {
             self.number(stop, b' ');
         }
         self.number(train.runs[last], b'\n');
+    }
+
+    fn booking(&mut self, booking: &Booking) {
+        self.number(booking.train, b' ');
+        self.number(booking.station, b' ');
+        self.number(booking.minute, b'\n');
     }
 }

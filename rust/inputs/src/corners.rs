@@ -2,9 +2,9 @@
 
 use independent::rules::{free_arrival, last_arrival, weighted_delay, Minutes};
 use independent::walk::solve_within;
-use independent::{Kind, Limits, Line, Train};
+use independent::{Booking, Kind, Limits, Line, Train};
 
-use crate::parts::used_parts;
+use crate::parts::{put_bookings, used_parts};
 
 /// The most plans of a walk that shows what a line has.
 const PLANS: u64 = 100_000;
@@ -102,6 +102,11 @@ fn has_a_tie(line: &Line, best: &Minutes) -> bool {
 fn numbered_backwards(line: &Line) -> Line {
     let mut backwards = *line;
     used_parts(&mut backwards).2.reverse();
+    let bookings = line.used_bookings().iter().map(|&booking| Booking {
+        train: line.train_count + 1 - booking.train,
+        ..booking
+    });
+    put_bookings(&mut backwards, bookings.collect());
     backwards
 }
 
@@ -154,7 +159,7 @@ fn is_just_in_time(line: &Line, best: &Minutes) -> bool {
     let mut trains = line.used_trains().iter().enumerate();
     trains.any(|(i, train)| {
         let arrival = last_arrival(best, i, train);
-        arrival == train.latest && u32::from(arrival) > free_arrival(train)
+        arrival == train.latest && u32::from(arrival) > free_arrival(line, i)
     })
 }
 

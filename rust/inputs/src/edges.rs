@@ -31,16 +31,16 @@ pub(crate) fn at_the_edges(random: &mut Random, line: &Line, best: Option<&Minut
 }
 
 fn at_the_edge(random: &mut Random, line: &Line, best: &Minutes, edge: Edge) -> Line {
+    let arrival = |(i, train): (usize, &Train)| last_arrival(best, i, train);
+    let arrivals: Vec<u16> = line.used_trains().iter().enumerate().map(arrival).collect();
+    let late = |&i: &usize| u32::from(arrivals[i]) > free_arrival(line, i);
+    let delayed: Vec<usize> = (0..arrivals.len()).filter(late).collect();
     let mut line = *line;
     let trains = used_parts(&mut line).2;
-    let arrival = |(i, train): (usize, &Train)| last_arrival(best, i, train);
-    let arrivals: Vec<u16> = trains.iter().enumerate().map(arrival).collect();
     match edge {
         Edge::JustInTime => just_in_time(random, trains, &arrivals),
         Edge::MinuteTooLate => {
             just_in_time(random, trains, &arrivals);
-            let late = |&i: &usize| u32::from(arrivals[i]) > free_arrival(&trains[i]);
-            let delayed: Vec<usize> = (0..trains.len()).filter(late).collect();
             let one = match delayed[..] {
                 [] => random.below(trains.len()),
                 _ => random.one_of(&delayed),
@@ -49,14 +49,25 @@ fn at_the_edge(random: &mut Random, line: &Line, best: &Minutes, edge: Edge) -> 
         }
         Edge::EndOfDay => {
             let last = arrivals.iter().max().expect("there is a train");
-            let later = Limits::MINUTE.most + random.within(0, 4) - 2 - last;
-            for train in trains {
-                train.earliest = within_the_day(train.earliest + later);
-                train.latest = within_the_day(train.latest + later);
-            }
+            // Up to two minutes earlier where the last one is in with the day: that wraps round.
+            let later = (Limits::MINUTE.most + random.within(0, 4) - 2).wrapping_sub(*last);
+            move_all_times(&mut line, later);
         }
     }
     line
+}
+
+/// Moves the times of all trains, and their bookings, within the day.
+fn move_all_times(line: &mut Line, later: u16) {
+    let moved = |minute: u16| minute.wrapping_add(later).min(Limits::MINUTE.most);
+    for train in used_parts(line).2 {
+        train.earliest = moved(train.earliest);
+        train.latest = moved(train.latest);
+    }
+    let bookings = line.bookings[..usize::from(line.booking_count)].iter_mut();
+    for booking in bookings {
+        booking.minute = moved(booking.minute);
+    }
 }
 
 /// Draws each second latest arrival to the one that there is.
@@ -64,8 +75,4 @@ fn just_in_time(random: &mut Random, trains: &mut [Train], arrivals: &[u16]) {
     for (train, &arrival) in trains.iter_mut().zip(arrivals) {
         train.latest = random.one_of(&[train.latest, arrival]);
     }
-}
-
-fn within_the_day(minute: u16) -> u16 {
-    minute.min(Limits::MINUTE.most)
 }

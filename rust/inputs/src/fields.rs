@@ -9,7 +9,7 @@ pub struct Fields {
 }
 
 impl Fields {
-    /// The fields of `line`, which is within the limits.
+    /// The fields of `line`, which is within the limits; its bookings need not be, but for their count.
     pub fn of(line: &Line) -> Fields {
         let stations = usize::from(line.station_count);
         let trains = usize::from(line.train_count);
@@ -45,6 +45,7 @@ impl Fields {
             numbers.pop();
             lines.push(numbers.iter().map(u16::to_string).collect());
         }
+        lines.extend(booking_lines(line));
         Fields { lines }
     }
 
@@ -78,4 +79,17 @@ impl Fields {
         altered.lines[line][at] = replaced.to_string();
         altered.text()
     }
+}
+
+/// The lines of the section of bookings, if there are any.
+fn booking_lines(line: &Line) -> Vec<Vec<String>> {
+    if line.booking_count == 0 {
+        return Vec::new();
+    }
+    let mut lines = vec![vec![line.booking_count.to_string()]];
+    lines.extend(line.used_bookings().iter().map(|booking| {
+        let numbers = [booking.train, booking.station, booking.minute];
+        numbers.iter().map(u16::to_string).collect()
+    }));
+    lines
 }

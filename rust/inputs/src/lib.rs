@@ -1,15 +1,19 @@
 //! Line files and timetables for tests and benchmarks: random lines within the limits, lines for the
-//! planners, Saturdays, lawful timetables, texts with fields altered, texts with bytes damaged; and the
-//! count of what they have and of what came of them.
+//! planners, Saturdays, all of these with and without bookings, lawful timetables, texts with fields
+//! altered, texts with bytes damaged; and the count of what they have and of what came of them.
 //! Everything comes from a seed, so a failure can be seen again.
 
 #![forbid(unsafe_code)]
 
 mod beside;
+mod booked_planned;
+mod booking_corners;
+mod bookings;
 mod corners;
 mod damage;
 mod edges;
 mod fields;
+mod misbooked;
 mod parts;
 mod planned;
 mod random;
@@ -20,15 +24,22 @@ mod timetable_damage;
 mod walks;
 
 pub use beside::{beside_another, beside_walks, Answer, Outcomes};
+pub use booked_planned::{booked_planned, booked_small_planned};
+pub use booked_planned::{fully_booked_planned, with_harder_demands};
+pub use booking_corners::{BookingCorner, BookingCorners};
+pub use bookings::{booked_full_size, booked_saturday, booked_small_line};
+pub use bookings::{with_bookings, with_one_booking, Booked};
 pub use corners::{Corner, Corners};
 pub use damage::{damage_bytes, damage_lines, with_one_byte_damaged};
 pub use fields::Fields;
+pub use misbooked::{misbooked, Misbooking};
 pub use planned::{full_size_planned, planned, small_line, small_planned, Pair, Planned, Traffic};
 pub use random::Random;
 pub use saturdays::{saturday, some_saturday, Style};
 pub use seen::{Least, Seen};
 pub use shown::shown;
 pub use timetable_damage::{damaged, Damage};
+pub use walks::{booked_short_walks, booked_small_walks};
 pub use walks::{dense_line, dense_walk, short_walk, short_walks, small_walks, walk_line};
 pub use walks::{LineWalk, Shape};
 

@@ -1,6 +1,6 @@
 //! The parts of a line and of a train that are in use, for the generators to draw one after another.
 
-use independent::{Line, Segment, Train};
+use independent::{Booking, Line, Segment, Train};
 
 /// A line of this size with nothing drawn yet.
 pub(crate) fn of_size(stations: u16, trains: u16) -> Line {
@@ -21,8 +21,23 @@ pub(crate) fn used_parts(line: &mut Line) -> (&mut [u16], &mut [Segment], &mut [
     )
 }
 
+/// Earliest plus all runs and stops: the free arrival of a train without bookings.
+pub(crate) fn unbooked_arrival(train: &Train) -> u16 {
+    let legs = train.legs();
+    let times = train.runs[..legs].iter().chain(&train.stops[..legs - 1]);
+    train.earliest + times.sum::<u16>()
+}
+
 /// The runs of the train's legs and the stops between them.
 pub(crate) fn used_runs_and_stops(train: &mut Train) -> (&mut [u16], &mut [u16]) {
     let legs = train.legs();
     (&mut train.runs[..legs], &mut train.stops[..legs - 1])
+}
+
+/// Gives the line these bookings and no others, in their order.
+pub(crate) fn put_bookings(line: &mut Line, mut bookings: Vec<Booking>) {
+    bookings.sort_by_key(|booking| (booking.train, booking.station));
+    line.booking_count = bookings.len() as u16;
+    line.bookings = Line::default().bookings;
+    line.bookings[..bookings.len()].copy_from_slice(&bookings);
 }

@@ -3,7 +3,7 @@
 use independent::rules::{first_breach, Minutes};
 use independent::{exhaustive, Kind, Limits, Line, Segment, Train, STATIONS, TRAINS};
 
-use crate::parts::{of_size, used_parts, used_runs_and_stops};
+use crate::parts::{of_size, unbooked_arrival, used_parts, used_runs_and_stops};
 use crate::Random;
 
 /// The last minute of a timetable.
@@ -216,7 +216,7 @@ fn small_train(random: &mut Random, stations: u16) -> Train {
     runs.fill_with(|| random.within(1, 3));
     stops.fill_with(|| random.one_of(&[0, 0, 1, 2]));
     let spare = random.one_of(&[0, 1, 2, 3, 4, 5, 6, 7]);
-    train.latest = independent::rules::free_arrival(&train) as u16 + spare;
+    train.latest = unbooked_arrival(&train) + spare;
     train
 }
 

@@ -1,10 +1,9 @@
 //! Saturdays of a small railway, as its planner would type them: ordinary trains each way, and race
 //! specials in bunches.
 
-use independent::rules::free_arrival;
 use independent::{Kind, Limits, Line, Segment, Train};
 
-use crate::parts::{of_size, used_parts, used_runs_and_stops};
+use crate::parts::{of_size, unbooked_arrival, used_parts, used_runs_and_stops};
 use crate::Random;
 
 /// What kind of a Saturday it is.
@@ -166,7 +165,7 @@ impl Saturday<'_> {
             *run = own_run(self.random, self.usual_runs[segment]).clamp(5, 20);
         }
         stops.fill_with(|| self.random.one_of(stop_choices));
-        train.latest = self.latest(free_arrival(&train) as u16);
+        train.latest = self.latest(unbooked_arrival(&train));
         self.trains.push(train);
     }
 
@@ -227,7 +226,7 @@ mod tests {
         for style in Style::ALL {
             let mut loose = 0;
             some(style, |line| {
-                let spare = |train: &Train| u32::from(train.latest) - free_arrival(train);
+                let spare = |train: &Train| train.latest - unbooked_arrival(train);
                 let trains = line.used_trains().iter();
                 loose += trains.filter(|train| spare(train) > 90).count();
             });

@@ -1,13 +1,12 @@
 //! Random lines for the walk through plans.
 
 use independent::plans::Found;
-use independent::rules::free_arrival;
 use independent::walk::solve_within;
 use independent::{exhaustive, Kind, Limits, Line, Segment, Train};
 
 use crate::edges::at_the_edges;
-use crate::parts::{of_size, used_parts, used_runs_and_stops};
-use crate::{shown, small_line, Fields, Random};
+use crate::parts::{of_size, unbooked_arrival, used_parts, used_runs_and_stops};
+use crate::{shown, small_line, with_bookings, with_one_booking, Booked, Fields, Random};
 
 /// What the trains of a line have to do with each other.
 #[derive(Clone, Copy, Debug, PartialEq, Eq)]
@@ -93,7 +92,7 @@ fn train(random: &mut Random, stations: u16, shape: Shape) -> Train {
     let ends = crate::path(random, stations, density);
     let mut train = train_between(random, ends, latest_start, 1, &[0, 0, 1, 5]);
     match shape {
-        Shape::Tight => train.latest = free_arrival(&train) as u16 + random.within(0, 60),
+        Shape::Tight => train.latest = unbooked_arrival(&train) + random.within(0, 60),
         Shape::ZeroWeights => train.weight = random.one_of(&[0, 0, 0, 1]),
         _ => {}
     }
@@ -156,8 +155,40 @@ pub struct LineWalk {
     pub walked: Found,
 }
 
+/// What becomes of a line that is drawn.
+type Finish = fn(&mut Random, Line) -> Line;
+
+/// It has no bookings.
+fn unbooked(_: &mut Random, line: Line) -> Line {
+    line
+}
+
+/// It has bookings, if a train has a middle station: when the trains could leave in any case, a little
+/// later or much later, and now and then near the end of the day.
+fn booked(random: &mut Random, line: Line) -> Line {
+    let times = random.one_of(&[
+        &[Booked::InAnyCase][..],
+        &[Booked::Later(5)],
+        &[Booked::InAnyCase, Booked::Later(30)],
+        &[Booked::InAnyCase, Booked::Later(3), Booked::Later(60)],
+        &[Booked::InAnyCase, Booked::InAnyCase, Booked::EndOfDay],
+        &[Booked::AnyTime, Booked::InAnyCase, Booked::LastMinute],
+    ]);
+    match random.below(4) {
+        0 if line.used_trains().iter().any(|train| train.legs() > 1) => {
+            let one = random.one_of(times);
+            with_one_booking(random, &line, one)
+        }
+        _ => with_bookings(random, &line, times),
+    }
+}
+
 /// A random line of any size and this shape, whose walk takes up no more than `limit` plans.
 pub fn short_walk(random: &mut Random, shape: Shape, limit: u64) -> LineWalk {
+    short_walk_of(random, shape, limit, unbooked)
+}
+
+fn short_walk_of(random: &mut Random, shape: Shape, limit: u64, finish: Finish) -> LineWalk {
     let (most_stations, most_trains) = match shape {
         Shape::Sparse => (12, 12),
         Shape::Wide => (5, 8),
@@ -167,6 +198,7 @@ pub fn short_walk(random: &mut Random, shape: Shape, limit: u64) -> LineWalk {
         let stations = random.within(2, most_stations);
         let trains = random.within(0, most_trains);
         let line = walk_line(random, stations, trains, shape);
+        let line = finish(random, line);
         if let Ok(walked) = solve_within(&line, limit) {
             return LineWalk { line, walked };
         }
@@ -176,10 +208,19 @@ pub fn short_walk(random: &mut Random, shape: Shape, limit: u64) -> LineWalk {
 /// Lines of [`short_walk`], of every shape in turn and without end; and each altered so that its best
 /// timetable just holds, just fails, or ends with the day, where that walk is no longer either.
 pub fn short_walks(seed: u64, limit: u64) -> impl Iterator<Item = LineWalk> {
+    short_walks_of(seed, limit, unbooked)
+}
+
+/// The same with bookings. Lines on which no train has a middle station are among them.
+pub fn booked_short_walks(seed: u64, limit: u64) -> impl Iterator<Item = LineWalk> {
+    short_walks_of(seed, limit, booked)
+}
+
+fn short_walks_of(seed: u64, limit: u64, finish: Finish) -> impl Iterator<Item = LineWalk> {
     let mut random = Random::new(seed);
     let shapes = Shape::ALL.into_iter().cycle();
     shapes.flat_map(move |shape| {
-        let short = short_walk(&mut random, shape, limit);
+        let short = short_walk_of(&mut random, shape, limit, finish);
         with_altered(&mut random, short, |line| solve_within(line, limit).ok())
     })
 }
@@ -187,13 +228,28 @@ pub fn short_walks(seed: u64, limit: u64) -> impl Iterator<Item = LineWalk> {
 /// Small lines where mistakes would hide, without end, and each altered as in [`short_walks`]. Trying every
 /// order of them finds what the walk does.
 pub fn small_walks(seed: u64) -> impl Iterator<Item = LineWalk> {
+    small_walks_of(seed, small_size, unbooked)
+}
+
+/// The same with bookings, each line with one at least.
+pub fn booked_small_walks(seed: u64) -> impl Iterator<Item = LineWalk> {
+    let walks = small_walks_of(seed, small_size_with_stops, booked);
+    walks.filter(|walk| walk.line.booking_count > 0)
+}
+
+fn small_walks_of(
+    seed: u64,
+    size: fn(&mut Random) -> (u16, u16),
+    finish: Finish,
+) -> impl Iterator<Item = LineWalk> {
     let mut random = Random::new(seed);
     let drawn = std::iter::repeat_with(move || {
-        let (stations, trains) = small_size(&mut random);
+        let (stations, trains) = size(&mut random);
         let line = match random.below(Shape::ALL.len() + 1) {
             0 => small_line(&mut random, stations, trains),
             shape => walk_line(&mut random, stations, trains, Shape::ALL[shape - 1]),
         };
+        let line = finish(&mut random, line);
         match beside_every_order(&line) {
             Some(walked) => {
                 with_altered(&mut random, LineWalk { line, walked }, beside_every_order)
@@ -202,6 +258,11 @@ pub fn small_walks(seed: u64) -> impl Iterator<Item = LineWalk> {
         }
     });
     drawn.flatten()
+}
+
+/// A size of [`small_size`] with a middle station.
+fn small_size_with_stops(random: &mut Random) -> (u16, u16) {
+    random.one_of(&[(3, 2), (3, 3), (3, 4), (4, 2), (4, 3), (5, 2), (5, 3)])
 }
 
 /// A size of which every order is mostly tried quickly.

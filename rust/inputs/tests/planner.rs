@@ -3,9 +3,9 @@
 use independent::exhaustive::best;
 use independent::rules::{first_breach, free_arrival, weighted_delay, Minutes};
 use independent::{Line, Train};
-use inputs::{small_line, Random};
+use inputs::{booked_small_line, small_line, Random};
 
-/// Every row of minutes with which the train, were it alone, keeps rules 10 to 13.
+/// Every row of minutes with which the train, were it alone and without bookings, keeps rules 10 to 13.
 fn rows_alone(train: &Train) -> Vec<Vec<u16>> {
     let mut rows: Vec<Vec<u16>> = vec![Vec::new()];
     for leg in 0..train.legs() {
@@ -92,16 +92,29 @@ impl Compared {
 /// Whether any train, of whatever weight, comes in after its free arrival.
 fn delayed(line: &Line, minutes: &Minutes) -> bool {
     let rows = minutes.rows(line);
-    let late =
-        |(train, row): (&Train, &Vec<u16>)| u32::from(row[row.len() - 1]) > free_arrival(train);
-    line.used_trains().iter().zip(&rows).any(late)
+    let late = |(i, row): (usize, &Vec<u16>)| u32::from(row[row.len() - 1]) > free_arrival(line, i);
+    rows.iter().enumerate().any(late)
 }
 
 fn compare(seed: u64, stations: u16, trains: u16, lines: usize) {
+    compare_of(small_line, seed, (stations, trains), lines);
+}
+
+/// The same with bookings, a few minutes after the trains could leave at most.
+fn compare_booked(seed: u64, stations: u16, trains: u16, lines: usize) {
+    compare_of(booked_small_line, seed, (stations, trains), lines);
+}
+
+fn compare_of(
+    draw: fn(&mut Random, u16, u16) -> Line,
+    seed: u64,
+    (stations, trains): (u16, u16),
+    lines: usize,
+) {
     let mut random = Random::new(seed);
     let mut compared = Compared::default();
     for _ in 0..lines {
-        compared.line(&small_line(&mut random, stations, trains));
+        compared.line(&draw(&mut random, stations, trains));
     }
     let Compared {
         lines,
@@ -136,4 +149,19 @@ fn three_stations_three_trains() {
 #[test]
 fn four_stations_two_trains() {
     compare(44, 4, 2, 500);
+}
+
+#[test]
+fn three_stations_two_trains_with_bookings() {
+    compare_booked(45, 3, 2, 3000);
+}
+
+#[test]
+fn three_stations_three_trains_with_bookings() {
+    compare_booked(46, 3, 3, 200);
+}
+
+#[test]
+fn four_stations_two_trains_with_bookings() {
+    compare_booked(47, 4, 2, 300);
 }

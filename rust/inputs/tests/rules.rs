@@ -2,8 +2,9 @@
 //! minute of the day, with nothing left out and nothing judged at once.
 
 use independent::rules::{first_breach, Minutes};
-use independent::{Kind, Line, Refusal};
-use inputs::{damaged, planned, sizes, Damage, Planned, Random, Traffic};
+use independent::{Booking, Kind, Line, Refusal};
+use inputs::{booked_planned, damaged, planned, sizes, with_harder_demands};
+use inputs::{Damage, Planned, Random, Traffic};
 
 /// A timetable as the scope document speaks of it; trains, legs, segments and stations from 1.
 struct Words<'a> {
@@ -51,7 +52,7 @@ impl Words<'_> {
             .find(|&leg| path[leg - 1].min(path[leg]) == segment)
     }
 
-    /// Whether the train keeps rule `number`, 10 to 13.
+    /// Whether the train keeps rule `number`, 10 to 13 or 18.
     fn train_keeps(&self, number: u32, train: usize) -> bool {
         let given = &self.line.trains[train - 1];
         let last = *self.legs(train).end();
@@ -65,8 +66,18 @@ impl Words<'_> {
                 let stop = i32::from(given.stops[leg - 2]);
                 self.departure(train, leg) >= self.arrival(train, leg - 1) + stop
             }),
+            18 => self.line.used_bookings().iter().all(|booking| {
+                usize::from(booking.train) != train || self.keeps_booking(train, booking)
+            }),
             _ => self.arrival(train, last) <= i32::from(given.latest),
         }
+    }
+
+    fn keeps_booking(&self, train: usize, booking: &Booking) -> bool {
+        let path = self.path(train);
+        let mut legs = self.legs(train);
+        let leg = legs.find(|&leg| path[leg - 1] == usize::from(booking.station));
+        self.departure(train, leg.expect("on its path")) >= i32::from(booking.minute)
     }
 
     /// Rule 14 with `first` going first.
@@ -123,7 +134,7 @@ impl Words<'_> {
 
     fn first_breach(&self) -> Result<(), Refusal> {
         let stations = usize::from(self.line.station_count);
-        for number in 10..=15 {
+        for number in [10, 11, 12, 18, 13, 14, 15] {
             let broken = match number {
                 14 => (1..stations).find(|&segment| !self.segment_keeps_14(segment)),
                 15 => (1..=stations).find(|&station| !self.station_keeps_15(station)),
@@ -166,13 +177,13 @@ fn after_damage(random: &mut Random, planned: &Planned) -> Vec<Option<u32>> {
     kinds.into_iter().map(number).collect()
 }
 
-#[test]
-fn the_rules_word_by_word() {
-    let mut random = Random::new(50);
-    let mut numbers = [0; 16];
+/// How often each number comes from lines of every size as `draw` draws them, and after damage to them.
+fn numbers_of(seed: u64, draw: impl Fn(&mut Random, u16, u16, Traffic) -> Planned) -> [usize; 20] {
+    let mut random = Random::new(seed);
+    let mut numbers = [0; 20];
     for (stations, trains) in sizes() {
         let traffic = random.one_of(&[Traffic::Mixed, Traffic::Full]);
-        let planned = planned(&mut random, stations, trains, traffic);
+        let planned = draw(&mut random, stations, trains, traffic);
         compare(&planned.line, &planned.minutes);
         for _ in 0..5 {
             for number in after_damage(&mut random, &planned) {
@@ -181,5 +192,47 @@ fn the_rules_word_by_word() {
         }
     }
     println!("broken, by rule: {:?}", &numbers[10..]);
-    assert!(numbers[10..].iter().all(|&times| times >= 20));
+    numbers
+}
+
+#[test]
+fn the_rules_word_by_word() {
+    let numbers = numbers_of(50, planned);
+    assert!(numbers[10..16].iter().all(|&times| times >= 20));
+}
+
+#[test]
+fn the_rules_with_bookings_word_by_word() {
+    let numbers = numbers_of(51, booked_planned);
+    assert!(numbers[10..16].iter().all(|&times| times >= 20));
+    assert!(numbers[18] >= 200);
+}
+
+/// Several rules broken at once, by several trains: the first one in their order counts, with its lowest
+/// train.
+#[test]
+fn several_rules_broken_word_by_word() {
+    let mut random = Random::new(52);
+    let mut numbers = [0; 20];
+    let (mut with_13, mut twice) = (0, 0);
+    for (stations, trains) in sizes() {
+        let planned = booked_planned(&mut random, stations, trains, Traffic::Mixed);
+        for _ in 0..20 {
+            let Planned { line, minutes } = with_harder_demands(&mut random, &planned);
+            let number = compare(&line, &minutes).unwrap_or(0);
+            numbers[number as usize] += 1;
+            let rows = minutes.rows(&line);
+            let words = Words { line: &line, rows };
+            let breaking = |number| {
+                let mut trains = words.trains().collect::<Vec<_>>();
+                trains.retain(|&train| !words.train_keeps(number, train));
+                trains.len()
+            };
+            with_13 += usize::from(number == 18 && breaking(13) > 0);
+            twice += usize::from(number == 18 && breaking(18) > 1);
+        }
+    }
+    println!("broken, by rule: {:?}", &numbers[10..]);
+    println!("18 with 13 broken too: {with_13}, by several trains: {twice}");
+    assert!(with_13 >= 200 && twice >= 200);
 }

@@ -1,7 +1,8 @@
 //! What the independent check says of planned lines after every kind of damage: each number with
 //! many places. A comparison of two checks over these inputs has then seen them all.
 
-use inputs::{damaged, planned, sizes, small_planned, Damage, Planned, Random, Seen, Traffic};
+use inputs::{booked_planned, booked_small_planned, damaged, planned, sizes, small_planned};
+use inputs::{Damage, Planned, Random, Seen, Traffic};
 
 /// Counts what the check says of the planned line after this damage.
 fn count(seen: &mut Seen, random: &mut Random, planned: &Planned, damage: Damage) {
@@ -50,20 +51,58 @@ fn every_number_is_seen_with_many_places() {
     assert!(seen.times(4) > 0);
 }
 
+/// The same with bookings: 18 with every train, and the other numbers as before.
 #[test]
-fn tight_small_lines() {
-    let mut random = Random::new(31);
+fn every_number_is_seen_with_bookings() {
+    let mut random = Random::new(34);
+    let mut seen = Seen::default();
+    for (stations, trains) in sizes().chain([(12, 12); 30]) {
+        let traffic = random.one_of(&[Traffic::Mixed, Traffic::Full]);
+        let planned = booked_planned(&mut random, stations, trains, traffic);
+        for _ in 0..25 {
+            for damage in Damage::ALL {
+                count(&mut seen, &mut random, &planned, damage);
+            }
+        }
+    }
+    seen.print("planned lines with bookings");
+    for (number, places) in [(10, 12), (11, 12), (12, 12), (13, 12), (18, 12)] {
+        assert_eq!(seen.places(number), places, "places of number {number}");
+    }
+    for number in (7..=17).chain([0, 2, 3, 18, 19]) {
+        assert!(seen.times(number) >= 150, "number {number}");
+    }
+}
+
+/// Counts what the check says of 1,000 lines as `draw` draws them after every kind of damage.
+fn count_damaged(seed: u64, draw: fn(&mut Random) -> Planned) -> Seen {
+    let mut random = Random::new(seed);
     let mut seen = Seen::default();
     for _ in 0..1000 {
-        let planned = small_planned(&mut random);
+        let planned = draw(&mut random);
         for damage in Damage::ALL {
             for _ in 0..3 {
                 count(&mut seen, &mut random, &planned, damage);
             }
         }
     }
+    seen
+}
+
+#[test]
+fn tight_small_lines() {
+    let seen = count_damaged(31, small_planned);
     seen.print("small lines");
     for number in 7..=17 {
+        assert!(seen.times(number) >= 20, "number {number}");
+    }
+}
+
+#[test]
+fn tight_small_lines_with_bookings() {
+    let seen = count_damaged(35, booked_small_planned);
+    seen.print("small lines with bookings");
+    for number in 7..=19 {
         assert!(seen.times(number) >= 20, "number {number}");
     }
 }

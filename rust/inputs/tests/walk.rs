@@ -6,7 +6,7 @@ use independent::rules::{weighted_delay, Minutes};
 use independent::walk::{plan_by_walk, solve, solve_within};
 use independent::{check, Kind, Line, Refusal};
 use inputs::{beside_walks, dense_line, short_walk, small_line, small_walks, walk_line};
-use inputs::{Random, Shape};
+use inputs::{booked_small_line, with_bookings, Booked, Random, Shape};
 
 fn text(line: &Line) -> String {
     let file = independent::write(line).expect("a line within the limits");
@@ -79,7 +79,7 @@ impl Words<'_> {
         minutes.arrivals[train.segment(train.legs() - 1)][i]
     }
 
-    /// From rules 10 to 12 and the choices alone, raised until nothing changes, or none where a
+    /// From rules 10 to 12 and 18 and the choices alone, raised until nothing changes, or none where a
     /// minute passes 2,879.
     fn least_minutes(&self) -> Option<Minutes> {
         let mut minutes = Minutes::default();
@@ -97,6 +97,7 @@ impl Words<'_> {
                     ready = arrival + train.stops[leg];
                 }
             }
+            self.keep_bookings(&mut minutes);
             for &choice in &self.choices {
                 self.keep(choice, &mut minutes);
             }
@@ -107,6 +108,15 @@ impl Words<'_> {
             if minutes == before {
                 return Some(minutes);
             }
+        }
+    }
+
+    /// Raises what is booked: the departure on the segment behind the station.
+    fn keep_bookings(&self, minutes: &mut Minutes) {
+        for booking in self.line.used_bookings() {
+            let i = usize::from(booking.train) - 1;
+            let (_, behind) = self.sides(usize::from(booking.station) - 1, i);
+            raise(&mut minutes.departures[behind][i], booking.minute);
         }
     }
 
@@ -305,6 +315,30 @@ fn small_lines_word_by_word() {
     let compared = compared("short times", 2000, |compared| {
         let (stations, trains) = (random.within(2, 6), random.within(0, 5));
         let line = small_line(&mut random, stations, trains);
+        compared.word_by_word(&line, 200);
+    });
+    assert!(compared.files >= 1900);
+}
+
+#[test]
+fn lines_with_bookings_word_by_word() {
+    let mut random = Random::new(67);
+    let times = [Booked::InAnyCase, Booked::Later(10), Booked::Later(60)];
+    let by_shape = compared_by_shape(400, |compared, shape| {
+        let (stations, trains) = (random.within(3, 7), random.within(1, 7));
+        let line = walk_line(&mut random, stations, trains, shape);
+        let line = with_bookings(&mut random, &line, &times);
+        compared.word_by_word(&line, 200);
+    });
+    assert!(by_shape.iter().all(|compared| compared.files >= 200));
+}
+
+#[test]
+fn small_lines_with_bookings_word_by_word() {
+    let mut random = Random::new(68);
+    let compared = compared("short times, booked", 2000, |compared| {
+        let (stations, trains) = (random.within(3, 6), random.within(1, 5));
+        let line = booked_small_line(&mut random, stations, trains);
         compared.word_by_word(&line, 200);
     });
     assert!(compared.files >= 1900);

@@ -10,7 +10,7 @@ use lib.ListN.{getD}
 use Rattle.line.specs.declared.Line.{Line}
 use Rattle.line.specs.Within.{Arrays}
 use Rattle.line.specs.Runnable.{Runnable}
-use Rattle.rules.specs.Statement.Paths.{train, legs, segmentOf, outOf, EachTrain}
+use Rattle.rules.specs.Statement.Paths.{booking, train, legs, segmentOf, outOf, EachTrain}
 use Rattle.rules.specs.Statement.Minutes.{departs}
 use Rattle.rules.specs.Statement.Rules.{NotBefore, Runs, Stops, TrainRules}
 use Rattle.rules.specs.StatementLaws.PathsLaws.{routed, segment-apart}
@@ -126,6 +126,7 @@ module _ (l : Line) (w : Runnable l) (r : Arrays l) where
           rule10 = floor-up l low m up i 0 (train l i .earliest) (h i n .rule10);
           rule11 = kept-runs q m k i n;
           rule12 = kept-stops q m k i n;
+          rule18 = λ j b e. floor-up l low m up i _ (booking l j .minute) (h i n .rule18 j b e);
         };
         choices = kept-choices q m k;
       }

@@ -1,4 +1,4 @@
--- No minutes that keep rules 10 to 12 are before those of the trains alone on the line, and these keep them; so they are the least.
+-- No minutes that keep rules 10 to 12 and 18 are before those of the trains alone on the line, and these keep them; so they are the least.
 use Prim.Native.Nat.{ℕ, zero, suc, _+_, _-_, _/_, _%_, _≤_, _<_}
 use mathlib.Core.Path.{_≡_, refl, sym, _∙_, ap}
 use mathlib.Core.Bool.{true, false, true≢false, false≢true}
@@ -18,9 +18,11 @@ use Rattle.line.specs.Runnable.{Runnable}
 use Rattle.rules.specs.Statement.Paths.{train, legs, runOf, segmentOf, Routed}
 use Rattle.rules.specs.Statement.Minutes.{departs, arrives, departure, arrival}
 use Rattle.rules.specs.StatementLaws.PathsLaws.{train-runnable, routed, legs-few, uses-leg, segment-below}
-use Rattle.rules.specs.StatementLaws.DelayLaws.{no-earlier}
+use Rattle.rules.specs.Statement.Bookings.{floorOf}
+use Rattle.rules.specs.StatementLaws.BookingsLaws.{kept-floors, booked-leg, floor-first}
+use Rattle.rules.specs.StatementLaws.DelayLaws.{no-earlier, delay-true}
 use Rattle.rules.specs.Check.RulesLaws.{free-start, free-next}
-use Rattle.rules.specs.Statement.Delay.{freeAfter, freeArrival, weightedDelay}
+use Rattle.rules.specs.Statement.Delay.{EarliestArrival, freeAfter, freeArrival, weightedDelay}
 use Rattle.orders.specs.declared.first.FirstPlan.{FirstPlan}
 use Rattle.orders.specs.LeastMinutes.Least.{Fit, IsLeast}
 use Rattle.orders.specs.Plan.Marks.{free}
@@ -118,6 +120,10 @@ module _ (l : Line) (w : Runnable l) (size : length (l .traffic .trains) ≡ 12)
       | no c ↦ rw (table-past (freeEntry l) 352 x (omega arith)) (omega arith)
     ]
 
+  floors-free : (i : ℕ) → i < l .traffic .«train_count» → EachBelow (legs l i) (λ k. floorOf l i k ≤ departure l (freeMinutes l) i k)
+  floors-free i h zero b = omega (arith, floor-first l w i)
+  floors-free i h (suc k) b = rw (← add-one) (omega (arith, departs-free i (k + 1) h (omega arith), free-next l i k))
+
   free-keeps : Keeps l free (freeMinutes l)
   free-keeps =
       record {
@@ -127,12 +133,18 @@ module _ (l : Line) (w : Runnable l) (size : length (l .traffic .trains) ≡ 12)
               omega (arith, departs-free i 0 h k, free-start l i));
           rule11 = λ k b. omega (arith, departs-free i k h b, arrives-free i k h b, run-free l i k);
           rule12 = λ k b. omega (arith, arrives-free i k h (omega arith), departs-free i (k + 1) h (omega arith), free-next l i k);
+          rule18 = kept-floors l (freeMinutes l) i (booked-leg l w i) (floors-free i h);
         };
         choices = λ c o s t. absurd (free-marked c t);
       }
 
   last-free : (i : ℕ) (h : i < l .traffic .«train_count») → arrival l (freeMinutes l) i (legs l i - 1) ≡ freeArrival l i
   last-free i h = arrives-free i (legs l i - 1) h (omega (arith, legs-few (train l i) (path i h) .0))
+
+  -- "Free arrival becomes the earliest possible last arrival of the train alone on the line, bookings kept"
+  pub free-earliest : (i : ℕ) → i < l .traffic .«train_count» → EarliestArrival l i (freeArrival l i)
+  free-earliest i h =
+      record { minutes = freeMinutes l; kept = free-keeps .trains i h; arrives = last-free i h; earliest = λ m k. delay-true l m i k w h }
 
   module _ (ends : FreeInTime l) where
     free-fit : Fit 352 (freeMinutes l)

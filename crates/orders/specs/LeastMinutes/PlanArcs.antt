@@ -1,4 +1,4 @@
--- Rules 10 to 12 and the choices of a plan as arcs, and the plan's least minutes.
+-- Rules 10 to 12 and 18 and the choices of a plan as arcs, and the plan's least minutes.
 use Prim.Native.Nat.{ℕ, suc, _+_, _*_, _-_}
 use mathlib.Core.Bool.{Bool, true, false, cond, _&&_}
 use mathlib.Core.List.{List, [], _∷_, _++_}
@@ -8,6 +8,7 @@ use Rattle.line.specs.declared.Segment.{Segment}
 use Rattle.line.specs.declared.Train.{Train}
 use Rattle.line.specs.declared.Line.{Line}
 use Rattle.rules.specs.Statement.Paths.{train, segmentCount, segment, runOf, stopOf, legs, segmentOf, sameWay, into, outOf}
+use Rattle.rules.specs.Statement.Bookings.{floorOf}
 use Rattle.rules.specs.Statement.Minutes.{departs, arrives}
 use Rattle.rules.specs.Statement.Rules.{middle}
 use Rattle.rules.specs.Conflict.Directions.{usesBetween}
@@ -43,8 +44,13 @@ runArcs l i k =
 abbrev pub stopArcs : Line → ℕ → ℕ → List Arc
 stopArcs l i k = after (arrivesAt l i k) (stopOf l i k) (departsAt l i (k + 1)) ∷ []
 
+-- 18: what is booked for leg k is a floor under its departure
+abbrev pub bookedArcs : Line → ℕ → ℕ → List Arc
+bookedArcs l i k = floorArc l i k (floorOf l i k) ∷ []
+
 unfoldable pub trainArcs : Line → ℕ → List Arc
-trainArcs l i = earlyArcs l i ++ (gather (runArcs l i) (legs l i) ++ gather (stopArcs l i) (legs l i - 1))
+trainArcs l i =
+    earlyArcs l i ++ (gather (runArcs l i) (legs l i) ++ (gather (stopArcs l i) (legs l i - 1) ++ gather (bookedArcs l i) (legs l i)))
 
 -- 14, by entries as `GapBy` by minutes
 abbrev pub gapArcs : Kind → Bool → Segment → ℕ → ℕ → ℕ → ℕ → List Arc

@@ -19,7 +19,9 @@ use Rattle.line.specs.Within.{Arrays}
 use Rattle.line.specs.Runnable.{Runnable}
 use Rattle.rules.specs.Statement.Paths.{train, segmentCount, segment, legs, segmentOf, sameWay, into, outbound, EachTrain}
 use Rattle.rules.specs.Statement.Minutes.{departs, arrives}
+use Rattle.rules.specs.Statement.Bookings.{floorOf}
 use Rattle.rules.specs.Statement.Rules.{NotBefore, TrainRules, GapBy}
+use Rattle.rules.specs.StatementLaws.BookingsLaws.{floors-kept, kept-floors, booked-leg}
 use Rattle.rules.specs.StatementLaws.PathsLaws.{routed, legs-few, segment-below, decides-middle, middle-few}
 use Rattle.rules.specs.Conflict.DirectionsLaws.{decides-between}
 use Rattle.orders.specs.LeastMinutes.NoLater.{slack}
@@ -31,7 +33,7 @@ use Rattle.orders.specs.LeastMinutes.ArcsLaws.{arcs-raise}
 use Rattle.orders.specs.Plan.Choices.{Choice, onSegment, atStation, Of, Shared, KeepsChoice}
 use Rattle.orders.specs.Plan.Marks.{Plan, marked}
 use Rattle.orders.specs.Plan.Plans.{Keeps}
-use Rattle.orders.specs.LeastMinutes.PlanArcs.{floorArc, earlyArcs, runArcs, stopArcs, trainArcs, gapArcs, choiceArcs, shared, chosenArcs, forPairs, arcs, rounds, least}
+use Rattle.orders.specs.LeastMinutes.PlanArcs.{floorArc, earlyArcs, runArcs, stopArcs, bookedArcs, trainArcs, gapArcs, choiceArcs, shared, chosenArcs, forPairs, arcs, rounds, least}
 
 -- ---- the arcs of a choice
 
@@ -87,7 +89,7 @@ module _ (P : Arc → Type 0) (l : Line) (q : Plan) (c : Choice) where
   unfolding chosenArcs
   chosen-each h s e = rw (and-eq-true-iff (marked q c) (shared l c) .1 (e, is-true (decides-shared l c) s)) at h
 
--- ---- the arcs of train i, for rules 10, 11 and 12
+-- ---- the arcs of train i, for rules 10, 11, 12 and 18
 
 module _ (P : Arc → Type 0) (l : Line) (i : ℕ) where
   abbrev runsAll : List Arc
@@ -102,18 +104,26 @@ module _ (P : Arc → Type 0) (l : Line) (i : ℕ) where
   abbrev EachStop : Type 0
   EachStop = EachBelow (legs l i - 1) (λ k. Each P (stopArcs l i k))
 
-  each-train : Each P (earlyArcs l i) → EachRun → EachStop → Each P (trainArcs l i)
-  unfolding trainArcs
-  each-train a b c =
-      each-append P (earlyArcs l i) (runsAll ++ stopsAll) a
-      (each-append P runsAll stopsAll (gather-each P (runArcs l i) (legs l i) b) (gather-each P (stopArcs l i) (legs l i - 1) c))
+  abbrev bookedAll : List Arc
+  bookedAll = gather (bookedArcs l i) (legs l i)
 
-  train-each : Each P (trainArcs l i) → Each P (earlyArcs l i) × EachRun × EachStop
+  abbrev EachBooked : Type 0
+  EachBooked = EachBelow (legs l i) (λ k. Each P (bookedArcs l i k))
+
+  each-train : Each P (earlyArcs l i) → EachRun → EachStop → EachBooked → Each P (trainArcs l i)
+  unfolding trainArcs
+  each-train a b c d =
+      each-append P (earlyArcs l i) (runsAll ++ (stopsAll ++ bookedAll)) a
+      (each-append P runsAll (stopsAll ++ bookedAll) (gather-each P (runArcs l i) (legs l i) b)
+      (each-append P stopsAll bookedAll (gather-each P (stopArcs l i) (legs l i - 1) c) (gather-each P (bookedArcs l i) (legs l i) d)))
+
+  train-each : Each P (trainArcs l i) → Each P (earlyArcs l i) × EachRun × EachStop × EachBooked
   unfolding trainArcs
   train-each h =
-      let a = each-parts P (earlyArcs l i) (runsAll ++ stopsAll) h in
-      let b = each-parts P runsAll stopsAll (a .1) in
-      (a .0, gather-parts P (runArcs l i) (legs l i) (b .0), gather-parts P (stopArcs l i) (legs l i - 1) (b .1))
+      let a = each-parts P (earlyArcs l i) (runsAll ++ (stopsAll ++ bookedAll)) h in
+      let b = each-parts P runsAll (stopsAll ++ bookedAll) (a .1) in
+      let c = each-parts P stopsAll bookedAll (b .1) in
+      (a .0, gather-parts P (runArcs l i) (legs l i) (b .0), gather-parts P (stopArcs l i) (legs l i - 1) (c .0), gather-parts P (bookedArcs l i) (legs l i) (c .1))
 
 module _ (l : Line) (m : List ℕ) (z : length m ≡ 352) (i : ℕ) where
   floor-kept : (k minute : ℕ) → NotBefore l m i k minute → KeepsArc m (floorArc l i k minute)
@@ -125,14 +135,16 @@ module _ (l : Line) (m : List ℕ) (z : length m ≡ 352) (i : ℕ) where
       (floor-kept 0 (train l i .earliest) (h .rule10), tt)
       (λ k n. (omega (arith, h .rule11 k n), (omega (arith, h .rule11 k n), tt)))
       (λ k n. (omega (arith, h .rule12 k n), tt))
+      (λ k n. (floor-kept k (floorOf l i k) (floors-kept l m i (h .rule18) k), tt))
 
-  kept-train : KeepsArcs (trainArcs l i) m → TrainRules l m i
-  kept-train h =
+  kept-train : Runnable l → KeepsArcs (trainArcs l i) m → TrainRules l m i
+  kept-train w h =
       let a = train-each (KeepsArc m) l i h in
       record {
         rule10 = omega (arith, a .0 .0);
         rule11 = λ k n. omega (arith, a .1 k n .0, a .1 k n .1 .0);
         rule12 = λ k n. omega (arith, a .2 k n .0);
+        rule18 = kept-floors l m i (booked-leg l w i) (λ k n. omega (arith, a .3 k n .0));
       }
 
 -- ---- the arcs of a plan
@@ -190,11 +202,11 @@ module _ (l : Line) (q : Plan) where
       (λ i n. train-kept l m (z .size) i (k .trains i n))
       (λ c o. each-chosen (KeepsArc m) l q c (λ s e. choice-kept l m c (k .choices c o s e)))
 
-  arcs-keep : (m : List ℕ) → Fit 352 m → KeepsArcs (arcs l q) m → Keeps l q m
-  arcs-keep m z h =
+  arcs-keep : Runnable l → (m : List ℕ) → Fit 352 m → KeepsArcs (arcs l q) m → Keeps l q m
+  arcs-keep w m z h =
       let a = arcs-each (KeepsArc m) h in
       record {
-        trains = λ i n. kept-train l m (z .size) i (a .0 i n);
+        trains = λ i n. kept-train l m (z .size) i w (a .0 i n);
         choices = λ c o s e. kept-choice l m c (chosen-each (KeepsArc m) l q c (a .1 c o) s e);
       }
 
@@ -221,6 +233,7 @@ module _ (l : Line) (w : Runnable l) (r : Arrays l) (q : Plan) where
       (departs-in _ i (at 0 (legs-few (train l i) t .0)) low, tt)
       (λ k h. (arrives-in _ i (at k h) low, (departs-in _ i (at k h) low, tt)))
       (λ k h. (departs-in _ i (at (k + 1) (omega arith)) low, tt))
+      (λ k h. (departs-in _ i (at k h) low, tt))
 
   choice-in : (c : Choice) → Of l c → Shared l c → AllIn (choiceArcs l c) 352
   choice-in (onSegment p i j) o s =
@@ -236,7 +249,7 @@ module _ (l : Line) (w : Runnable l) (r : Arrays l) (q : Plan) where
   raises =
       arcs-raise 352 (Keeps l q) (arcs l q)
       (each-arcs l q (λ a. a .to < 352) train-in (λ c o. each-chosen (λ a. a .to < 352) l q c (λ s _. choice-in c o s)))
-      (keeps-arcs l q) (arcs-keep l q)
+      (keeps-arcs l q) (arcs-keep l q w)
 
   rounds-enough : (s : List ℕ) → Fit 352 s → slack s < rounds
   unfolding rounds

@@ -10,7 +10,7 @@ use Rattle.rules.specs.Statement.Rules.{TrainRules}
 use Rattle.orders.specs.Plan.Choices.{Choice, Of, Shared, KeepsChoice}
 use Rattle.orders.specs.Plan.Marks.{Plan, marked}
 
--- the minutes keep rules 10 to 12 and the plan's choices
+-- the minutes keep rules 10 to 12 and 18 and the plan's choices
 pub record Keeps (l : Line) (p : Plan) (m : List ℕ) : Type 0 where
   pub trains : EachTrain l (TrainRules l m)
   pub choices : (c : Choice) → Of l c → Shared l c → marked p c ≡ true → KeepsChoice l m c

@@ -40,5 +40,6 @@ breachOf l m =
     orBreach (trainBreach 10 l m)
     (orBreach (trainBreach 11 l m)
     (orBreach (trainBreach 12 l m)
+    (orBreach (trainBreach 18 l m)
     (orBreach (trainBreach 13 l m)
-    (conflictBreach (conflictOf l m)))))
+    (conflictBreach (conflictOf l m))))))

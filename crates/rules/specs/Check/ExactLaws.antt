@@ -1,4 +1,4 @@
--- The first breach is none exactly when every rule from 10 to 15 is kept: each test of the scan decides its rule.
+-- The first breach is none exactly when every rule is kept, 10 to 15 and 18: each test of the scan decides its rule.
 use Prim.Native.Nat.{ℕ, _+_, _-_, _≤_, _<_}
 use mathlib.Core.Path.{_≡_, refl, sym, ap, _∙_}
 use mathlib.Core.Logic.{_⊎_, inl, inr, ⊎-elim}
@@ -28,7 +28,7 @@ use Rattle.rules.specs.Conflict.DirectionsLaws.{decides-on, same-way, ou
 use Rattle.rules.specs.Conflict.Conflicts.{gapBy, passage, keepsAfter, neitherFirst, clash, pairOn, segmentConflict, standsIn, standsAt, standingAt, crowdAt, crowdOn, stationConflict, conflictOf}
 use Rattle.rules.specs.Scan.StationLaws.{or-nothing, conflict-none, none-conflict, none-clash, clash-none, never-crowded, crowded-never, crowd-middle, crowd-first, crowd-last}
 use Rattle.rules.specs.StatementLaws.PathsLaws.{decides-middle, train-runnable}
-use Rattle.rules.specs.Check.RulesLaws.{decides-10, decides-11, decides-12, decides-13}
+use Rattle.rules.specs.Check.RulesLaws.{decides-10, decides-11, decides-12, decides-18, decides-13}
 use Rattle.rules.specs.Check.Breaches.{trainBreach, conflictBreach, breachOf}
 use Rattle.rules.specs.Check.BreachesLaws.{or-none, breach-none, none-breach}
 
@@ -124,7 +124,7 @@ nobody-stands l m s h t b =
 
 -- ---- the whole
 
--- every rule from 10 to 15 is kept
+-- every rule is kept, 10 to 15 and 18
 pub record KeptRules (l : Line) (m : List ℕ) : Type 0 where
   pub trains : EachTrain l (TrainRules l m)
   pub rule13 : EachTrain l (NotLate l m)
@@ -226,13 +226,15 @@ module _ (l : Line) (w : Within l) (a : Arrays l) (m : List ℕ) where
       let r10 = or-none (trainBreach 10 l m) _ e in
       let r11 = or-none (trainBreach 11 l m) _ (r10 .1) in
       let r12 = or-none (trainBreach 12 l m) _ (r11 .1) in
-      let r13 = or-none (trainBreach 13 l m) _ (r12 .1) in
+      let r18 = or-none (trainBreach 18 l m) _ (r12 .1) in
+      let r13 = or-none (trainBreach 13 l m) _ (r18 .1) in
       let c = clear-of (no-conflict _ (r13 .1)) in
       record {
         trains = λ i b. record {
           rule10 = decides-10 l m i .yea (none-breach 10 l m (r10 .0) i b);
           rule11 = decides-11 l m i .yea (none-breach 11 l m (r11 .0) i b);
           rule12 = decides-12 l m i .yea (none-breach 12 l m (r12 .0) i b);
+          rule18 = decides-18 l m i .yea (none-breach 18 l m (r18 .0) i b);
         };
         rule13 = λ i b. decides-13 l m i .yea (none-breach 13 l m (r13 .0) i b);
         rule14 = c .0;
@@ -246,8 +248,9 @@ module _ (l : Line) (w : Within l) (a : Arrays l) (m : List ℕ) where
       let b10 = sym (breach-none 10 l m (λ i b. is-true (decides-10 l m i) (k .trains i b .rule10))) in
       let b11 = sym (breach-none 11 l m (λ i b. is-true (decides-11 l m i) (k .trains i b .rule11))) in
       let b12 = sym (breach-none 12 l m (λ i b. is-true (decides-12 l m i) (k .trains i b .rule12))) in
+      let b18 = sym (breach-none 18 l m (λ i b. is-true (decides-18 l m i) (k .trains i b .rule18))) in
       let b13 = sym (breach-none 13 l m (λ i b. is-true (decides-13 l m i) (k .rule13 i b))) in
-      rw (b10, b11, b12, b13, clear-segments (k .rule14), clear-stations (k .rule15)) refl
+      rw (b10, b11, b12, b18, b13, clear-segments (k .rule14), clear-stations (k .rule15)) refl
 
   -- minutes in days are lawful exactly when no breach is found
   pub lawful-of : EachTrain l (InDays l m) → breachOf l m ≡ Breach.None → Lawful l m

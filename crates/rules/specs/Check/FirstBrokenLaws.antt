@@ -16,10 +16,10 @@ use Rattle.line.specs.Within.{Within, Arrays}
 use Rattle.rules.specs.declared.conflicts.Conflict.{Conflict}
 use Rattle.rules.specs.declared.rules.Breach.{Breach}
 use Rattle.rules.specs.Statement.Paths.{segmentCount, segment}
-use Rattle.rules.specs.Statement.FirstBroken.{CheckedRule, early, run, stop, late, gap, tracks, checkedOrder, numberOf, placesOf, HoldsAt, HoldsEverywhere, BrokenAt, FirstBroken}
+use Rattle.rules.specs.Statement.FirstBroken.{CheckedRule, early, run, stop, booked, late, gap, tracks, checkedOrder, numberOf, placesOf, HoldsAt, HoldsEverywhere, BrokenAt, FirstBroken}
 use Rattle.rules.specs.Check.Tests.{keepsRule}
 use Rattle.rules.specs.Check.Breaches.{orBreach, atTrain, trainBreach, conflictBreach, breachOf}
-use Rattle.rules.specs.Check.RulesLaws.{decides-10, decides-11, decides-12, decides-13}
+use Rattle.rules.specs.Check.RulesLaws.{decides-10, decides-11, decides-12, decides-18, decides-13}
 use Rattle.rules.specs.Check.ExactLaws.{segment-clear, clear-segment, station-clear, clear-station}
 use Rattle.rules.specs.Conflict.Conflicts.{orConflict, firstConflict, pairOn, segmentConflict, crowdOn, stationConflict, conflictOf}
 use Rattle.rules.specs.Conflict.LowestLaws.{OnlyOn, pair-only, OnlyAt, crowd-only}
@@ -210,11 +210,13 @@ module _ (l : Line) (w : Within l) (a : Arrays l) (m : List ℕ) where
   all-say =
       let b14 = conflictBreach (conflictOf l m) in
       let b13 = orBreach (trainBreach 13 l m) b14 in
-      let b12 = orBreach (trainBreach 12 l m) b13 in
-      says-then l m early (run ∷ stop ∷ late ∷ gap ∷ tracks ∷ []) (trainBreach 10 l m) (orBreach (trainBreach 11 l m) b12) (train-says l m early refl (decides-10 l m)) (
-      says-then l m run (stop ∷ late ∷ gap ∷ tracks ∷ []) (trainBreach 11 l m) b12 (train-says l m run refl (decides-11 l m)) (
-      says-then l m stop (late ∷ gap ∷ tracks ∷ []) (trainBreach 12 l m) b13 (train-says l m stop refl (decides-12 l m)) (
-      says-then l m late (gap ∷ tracks ∷ []) (trainBreach 13 l m) b14 (train-says l m late refl (decides-13 l m)) conflicts-say)))
+      let b18 = orBreach (trainBreach 18 l m) b13 in
+      let b12 = orBreach (trainBreach 12 l m) b18 in
+      says-then l m early (run ∷ stop ∷ booked ∷ late ∷ gap ∷ tracks ∷ []) (trainBreach 10 l m) (orBreach (trainBreach 11 l m) b12) (train-says l m early refl (decides-10 l m)) (
+      says-then l m run (stop ∷ booked ∷ late ∷ gap ∷ tracks ∷ []) (trainBreach 11 l m) b12 (train-says l m run refl (decides-11 l m)) (
+      says-then l m stop (booked ∷ late ∷ gap ∷ tracks ∷ []) (trainBreach 12 l m) b18 (train-says l m stop refl (decides-12 l m)) (
+      says-then l m booked (late ∷ gap ∷ tracks ∷ []) (trainBreach 18 l m) b13 (train-says l m booked refl (decides-18 l m)) (
+      says-then l m late (gap ∷ tracks ∷ []) (trainBreach 13 l m) b14 (train-says l m late refl (decides-13 l m)) conflicts-say))))
 
   -- the breach that is found is the first that the minutes have
   pub first-broken : (k p : ℕ) → breachOf l m ≡ Breach.Rule k p → FirstBroken l m checkedOrder k p
@@ -242,19 +244,21 @@ places-most : (l : Line) → Within l → (r : CheckedRule) → placesOf l r ≤
 places-most l w early = w .trains .1
 places-most l w run = w .trains .1
 places-most l w stop = w .trains .1
+places-most l w booked = w .trains .1
 places-most l w late = w .trains .1
 places-most l w gap = omega (arith, w .stations .1)
 places-most l w tracks = w .stations .1
 
-number-bounds : (r : CheckedRule) → (10 ≤ numberOf r) × (numberOf r ≤ 15)
+number-bounds : (r : CheckedRule) → (10 ≤ numberOf r) × (numberOf r ≤ 18)
 number-bounds early = (omega arith, omega arith)
 number-bounds run = (omega arith, omega arith)
 number-bounds stop = (omega arith, omega arith)
+number-bounds booked = (omega arith, omega arith)
 number-bounds late = (omega arith, omega arith)
 number-bounds gap = (omega arith, omega arith)
 number-bounds tracks = (omega arith, omega arith)
 
-pub broken-bounds : (l : Line) (m : List ℕ) → Within l → (rs : List CheckedRule) (n p : ℕ) → FirstBroken l m rs n p → (10 ≤ n) × (n ≤ 15) × (1 ≤ p) × (p ≤ 12)
+pub broken-bounds : (l : Line) (m : List ℕ) → Within l → (rs : List CheckedRule) (n p : ℕ) → FirstBroken l m rs n p → (10 ≤ n) × (n ≤ 18) × (1 ≤ p) × (p ≤ 12)
 broken-bounds l m w [] n p x = absurd x
 broken-bounds l m w (r ∷ rs) n p (inl x) =
     let b = number-bounds r in

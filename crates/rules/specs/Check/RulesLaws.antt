@@ -1,8 +1,8 @@
--- Laws of free arrival and weighted delay, of the tests of rules 10 to 13 (each test decides its rule), and of who stands by rule 15.
-use Prim.Native.Nat.{ℕ, zero, suc, _+_, _*_, _-_, _≤_, _<_}
+-- Laws of free arrival and weighted delay, of the tests of rules 10 to 13 and 18 (each test decides its rule), and of who stands by rule 15.
+use Prim.Native.Nat.{ℕ, zero, suc, _+_, _*_, _-_, _≤_, _<_, max}
 use mathlib.Core.Path.{_≡_, refl, sym, _∙_, ap}
 use mathlib.Core.Logic.{⊎-elim}
-use mathlib.Core.Bool.{Bool, true}
+use mathlib.Core.Bool.{Bool, true, false, true≢false}
 use mathlib.Core.List.{List}
 use native.Mathlib.Nat.{mul-zero, mul-le-mul, mul-le-mul-left}
 use native.Mathlib.Numerals.{add-one}
@@ -11,7 +11,7 @@ use borrow.Author.Tests.{ne-eqb}
 use lib.ListN.{getD}
 use lib.Dec.{leb}
 use Rattle.finite.specs.Decide.{Decides}
-use Rattle.finite.specs.DecideLaws.{is-true, decides-and, decides-le, decides-eq}
+use Rattle.finite.specs.DecideLaws.{is-true, is-false, decides-self, decides-and, decides-if, decides-le, decides-eq}
 use Rattle.finite.specs.Below.{EachBelow, count, sum}
 use Rattle.finite.specs.LoopLaws.{count-grows, sum-more, decides-all}
 use Rattle.finite.specs.BelowLaws.{sum-most, sum-grows}
@@ -19,12 +19,14 @@ use Rattle.line.specs.declared.Train.{Train}
 use Rattle.line.specs.declared.Line.{Line}
 use Rattle.line.specs.Record.{legsOf}
 use Rattle.line.specs.Runnable.{Runnable}
-use Rattle.rules.specs.Statement.Paths.{train, runOf, stopOf, legs, tracksAt, EachTrain}
+use Rattle.rules.specs.Statement.Paths.{train, booking, legFrom, runOf, stopOf, legs, tracksAt, EachTrain}
 use Rattle.rules.specs.Statement.Minutes.{departure, arrival, lastArrival}
 use Rattle.rules.specs.StatementLaws.PathsLaws.{routed-runnable, legs-few, train-or-past, run-most, stop-most, decides-middle}
+use Rattle.rules.specs.Statement.Bookings.{floorOf}
+use Rattle.rules.specs.StatementLaws.BookingsLaws.{floor-most}
 use Rattle.rules.specs.Statement.Delay.{freeAfter, freeArrival, delay, weightedDelay}
-use Rattle.rules.specs.Statement.Rules.{InDays, NotEarly, Runs, Stops, NotLate, stands, Stands, standing, Room}
-use Rattle.rules.specs.Check.Tests.{departureOf, arrivalOf, startsRight, runsRight, stopsRight, endsRight, keepsRule}
+use Rattle.rules.specs.Statement.Rules.{InDays, NotEarly, Runs, Stops, KeepsBookings, NotLate, stands, Stands, standing, Room}
+use Rattle.rules.specs.Check.Tests.{departureOf, arrivalOf, startsRight, runsRight, stopsRight, keepsBooking, bookedRight, endsRight, keepsRule}
 
 -- ---- free arrival
 
@@ -33,15 +35,10 @@ module _ (l : Line) (i : ℕ) where
   unfolding freeAfter
   free-start = refl
 
-  -- the stop after leg k and the run over the next
-  pub free-next : (k : ℕ) → freeAfter l i (k + 1) ≡ freeAfter l i k + stopOf l i k + runOf l i (k + 1)
+  -- the stop after leg k, up to the booking, and the run over the next
+  pub free-next : (k : ℕ) → freeAfter l i (k + 1) ≡ max (freeAfter l i k + stopOf l i k) (floorOf l i (k + 1)) + runOf l i (k + 1)
   unfolding freeAfter
   free-next k = rw add-one refl
-
-  -- the same with the runs and stops of the train
-  pub free-step : (k : ℕ) {a : ℕ} {runs stops : List ℕ} → runs ≡ train l i .runs → stops ≡ train l i .stops → a ≡ freeAfter l i k →
-      a + getD stops k 0 + getD runs (k + 1) 0 ≡ freeAfter l i (k + 1)
-  free-step k r s e = rw (r, s, e, free-next k) refl
 
   -- it fits 16 bits
   pub free-most : Runnable l → i < l .traffic .«train_count» → (k : ℕ) → k < legs l i → freeAfter l i k ≤ 3359 + 720 * k
@@ -50,7 +47,7 @@ module _ (l : Line) (i : ℕ) where
       omega (arith, free-start, first, run-most l i w h 0 b)
   free-most w h (suc k) b =
       rw (← add-one)
-      (omega (arith, free-next k, free-most w h k (omega arith), stop-most l i w h k (omega arith), run-most l i w h (k + 1) (omega arith)))
+      (omega (arith, free-next k, free-most w h k (omega arith), stop-most l i w h k (omega arith), run-most l i w h (k + 1) (omega arith), floor-most l i w (k + 1)))
 
 -- ---- weighted delay
 
@@ -114,6 +111,10 @@ RunAt t m i k = arrivalOf t m i k ≡ departureOf t m i k + getD (t .runs) k 0
 abbrev pub StopAt : Train → List ℕ → ℕ → ℕ → Type 0
 StopAt t m i k = arrivalOf t m i k + getD (t .stops) k 0 ≤ departureOf t m i (k + 1)
 
+-- booking j is kept, if it is one of train i
+abbrev pub BookingAt : Line → List ℕ → ℕ → ℕ → Type 0
+BookingAt l m i j = booking l j .train ≡ i + 1 → booking l j .minute ≤ departure l m i (legFrom (train l i) (booking l j .station))
+
 module _ (l : Line) (m : List ℕ) (i : ℕ) where
   pub decides-starts : Decides (NotEarly l m i) (startsRight l m i)
   unfolding startsRight
@@ -126,6 +127,25 @@ module _ (l : Line) (m : List ℕ) (i : ℕ) where
   pub decides-stops : Decides (Stops l m i) (stopsRight l m i)
   unfolding stopsRight
   decides-stops = decides-all (StopAt (train l i) m i) _ (legs l i - 1) (λ k _. decides-le _ _)
+
+  pub decides-booked : Decides (KeepsBookings l m i) (bookedRight l m i)
+  unfolding bookedRight
+  decides-booked =
+      decides-all (BookingAt l m i) _ (l .booked .«booking_count») (λ j _. decides-if (decides-eq _ _) (decides-le _ _))
+
+  -- as a loop over the bookings finds it
+  abbrev pub BookingKept : ℕ → Type 0
+  BookingKept j = keepsBooking (train l i) m i (booking l j) ≡ true
+
+  decides-kept : Decides (EachBelow (l .booked .«booking_count») BookingKept) (bookedRight l m i)
+  unfolding bookedRight
+  decides-kept = decides-all BookingKept _ (l .booked .«booking_count») (λ j _. decides-self _)
+
+  pub all-booked : EachBelow (l .booked .«booking_count») BookingKept → true ≡ bookedRight l m i
+  all-booked h = sym (is-true decides-kept h)
+
+  pub one-broken : (j : ℕ) → j < l .booked .«booking_count» → keepsBooking (train l i) m i (booking l j) ≡ false → false ≡ bookedRight l m i
+  one-broken j b e = sym (is-false decides-kept (λ h. true≢false (sym (h j b) ∙ e)))
 
   pub decides-ends : Decides (NotLate l m i) (endsRight l m i)
   unfolding endsRight
@@ -153,6 +173,10 @@ module _ (l : Line) (m : List ℕ) (i : ℕ) where
   unfolding keepsRule
   decides-12 = decides-stops
 
+  pub decides-18 : Decides (KeepsBookings l m i) (keepsRule 18 l m i)
+  unfolding keepsRule
+  decides-18 = decides-booked
+
   pub decides-13 : Decides (NotLate l m i) (keepsRule 13 l m i)
   unfolding keepsRule
   decides-13 = decides-ends
@@ -171,13 +195,17 @@ module _ (l : Line) (m : List ℕ) (i : ℕ) where
     unfolding keepsRule
     keeps-stops e h = rw e h
 
+    pub keeps-booked : n ≡ 18 → r ≡ bookedRight l m i → r ≡ keepsRule n l m i
+    unfolding keepsRule
+    keeps-booked e h = rw e h
+
     pub keeps-end : n ≡ 13 → r ≡ endsRight l m i → r ≡ keepsRule n l m i
     unfolding keepsRule
     keeps-end e h = rw e h
 
-  pub keeps-other : (n : ℕ) → (n ≡ 10 → ⊥) → (n ≡ 11 → ⊥) → (n ≡ 12 → ⊥) → (n ≡ 13 → ⊥) → true ≡ keepsRule n l m i
+  pub keeps-other : (n : ℕ) → (n ≡ 10 → ⊥) → (n ≡ 11 → ⊥) → (n ≡ 12 → ⊥) → (n ≡ 18 → ⊥) → (n ≡ 13 → ⊥) → true ≡ keepsRule n l m i
   unfolding keepsRule
-  keeps-other n a b c d = rw (ne-eqb n 10 a, ne-eqb n 11 b, ne-eqb n 12 c, ne-eqb n 13 d) refl
+  keeps-other n a b c e d = rw (ne-eqb n 10 a, ne-eqb n 11 b, ne-eqb n 12 c, ne-eqb n 18 e, ne-eqb n 13 d) refl
 
 -- ---- rule 15
 

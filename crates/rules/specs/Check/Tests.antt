@@ -1,12 +1,13 @@
--- Rules 10 to 13 as tests of one train of a line and its minutes; train i of the minutes m.
+-- Rules 10 to 13 and 18 as tests of one train of a line and its minutes; train i of the minutes m.
 use Prim.Native.Nat.{ℕ, _+_, _-_}
-use mathlib.Core.Bool.{Bool, true, cond}
+use mathlib.Core.Bool.{Bool, true, cond, not, _||_}
 use mathlib.Core.List.{List}
 use lib.Dec.{leb, eqb}
 use Rattle.finite.specs.Below.{all}
 use Rattle.line.specs.declared.Train.{Train}
+use Rattle.line.specs.declared.Booking.{Booking}
 use Rattle.line.specs.declared.Line.{Line}
-use Rattle.rules.specs.Statement.Paths.{train, runOf, stopOf, legs, segmentOf}
+use Rattle.rules.specs.Statement.Paths.{train, booking, legFrom, runOf, stopOf, legs, segmentOf}
 use Rattle.rules.specs.Statement.Minutes.{departsOn, arrivesOn, departure, arrival, lastArrival}
 
 -- the minutes of leg k of a train on this path
@@ -25,6 +26,13 @@ runsRight l m i = all (λ k. eqb (arrival l m i k) (departure l m i k + runOf l 
 unfoldable pub stopsRight : Line → List ℕ → ℕ → Bool
 stopsRight l m i = all (λ k. leb (arrival l m i k + stopOf l i k) (departure l m i (k + 1))) (legs l i - 1)
 
+-- of one booking, if it is one of the train
+abbrev pub keepsBooking : Train → List ℕ → ℕ → Booking → Bool
+keepsBooking t m i b = not (eqb (b .train) (i + 1)) || leb (b .minute) (departureOf t m i (legFrom t (b .station)))
+
+unfoldable pub bookedRight : Line → List ℕ → ℕ → Bool
+bookedRight l m i = all (λ j. keepsBooking (train l i) m i (booking l j)) (l .booked .«booking_count»)
+
 unfoldable pub endsRight : Line → List ℕ → ℕ → Bool
 endsRight l m i = leb (lastArrival l m i) (train l i .latest)
 
@@ -34,5 +42,6 @@ keepsRule n l m i =
     cond (eqb n 10) (startsRight l m i)
     (cond (eqb n 11) (runsRight l m i)
     (cond (eqb n 12) (stopsRight l m i)
+    (cond (eqb n 18) (bookedRight l m i)
     (cond (eqb n 13) (endsRight l m i)
-    true)))
+    true))))

@@ -1,23 +1,33 @@
 -- Weighted delay, and when one timetable is to be preferred to another; the best timetable (demand 3).
-use Prim.Native.Nat.{ℕ, zero, suc, _+_, _*_, _-_, _<_}
+use Prim.Native.Nat.{ℕ, zero, suc, _+_, _*_, _-_, _≤_, _<_, max}
 use mathlib.Core.Path.{_≡_}
 use mathlib.Core.Logic.{_⊎_}
 use mathlib.Core.List.{List}
 use Rattle.finite.specs.Below.{EachBelow, sum}
 use Rattle.line.specs.declared.Line.{Line}
 use Rattle.rules.specs.Statement.Paths.{train, runOf, stopOf, legs, EachTrain, EachLeg}
+use Rattle.rules.specs.Statement.Bookings.{floorOf}
 use Rattle.rules.specs.Statement.Minutes.{departure, arrival, lastArrival}
-use Rattle.rules.specs.Statement.Rules.{Lawful}
+use Rattle.rules.specs.Statement.Rules.{TrainRules, Lawful}
 
--- "Free arrival is earliest plus all runs and stops": when train i, alone on the line, arrives after its leg k
+-- "the earliest possible last arrival of the train alone on the line, bookings kept": train i arrives at a in some minutes that keep its own rules, and
+-- in none before
+pub record EarliestArrival (l : Line) (i a : ℕ) : Type 0 where
+  pub minutes : List ℕ
+  pub kept : TrainRules l minutes i
+  pub arrives : lastArrival l minutes i ≡ a
+  pub earliest : (m : List ℕ) → TrainRules l m i → a ≤ lastArrival l m i
+
+-- when train i, alone on the line, arrives after its leg k: it departs when its stop is over, and not before its booking. After the last leg that is
+-- its free arrival, and the earliest (`free-earliest` in `orders/LeastMinutes/FirstPlanLaws`).
 unfoldable pub freeAfter : Line → ℕ → ℕ → ℕ
 freeAfter l i zero = train l i .earliest + runOf l i 0
-freeAfter l i (suc k) = freeAfter l i k + stopOf l i k + runOf l i (suc k)
+freeAfter l i (suc k) = max (freeAfter l i k + stopOf l i k) (floorOf l i (suc k)) + runOf l i (suc k)
 
 abbrev pub freeArrival : Line → ℕ → ℕ
 freeArrival l i = freeAfter l i (legs l i - 1)
 
--- "A train's delay is its last arrival less its free arrival"; of minutes that keep rules 10 to 12 the difference is never cut off
+-- "A train's delay is its last arrival less its free arrival"; of minutes that keep rules 10 to 12 and 18 the difference is never cut off
 -- at 0 (`delay-true` in `StatementLaws/DelayLaws`)
 abbrev pub delay : Line → List ℕ → ℕ → ℕ
 delay l m i = lastArrival l m i - freeArrival l i

@@ -7,24 +7,26 @@ use mathlib.Core.List.{List, [], _∷_}
 use Rattle.finite.specs.Below.{EachBelow}
 use Rattle.line.specs.declared.Line.{Line}
 use Rattle.rules.specs.Statement.Paths.{segmentCount}
-use Rattle.rules.specs.Statement.Rules.{NotEarly, Runs, Stops, NotLate, Apart, Room}
+use Rattle.rules.specs.Statement.Rules.{NotEarly, Runs, Stops, KeepsBookings, NotLate, Apart, Room}
 
 pub data CheckedRule : Type 0 where
   early : CheckedRule
   run : CheckedRule
   stop : CheckedRule
+  booked : CheckedRule
   late : CheckedRule
   gap : CheckedRule
   tracks : CheckedRule
 
--- the rules in the order in which they are checked
+-- the rules in the order in which they are checked: "A departure before its booking is 18, .. checked after 12"
 abbrev pub checkedOrder : List CheckedRule
-checkedOrder = early ∷ run ∷ stop ∷ late ∷ gap ∷ tracks ∷ []
+checkedOrder = early ∷ run ∷ stop ∷ booked ∷ late ∷ gap ∷ tracks ∷ []
 
 abbrev pub numberOf : CheckedRule → ℕ
 numberOf early = 10
 numberOf run = 11
 numberOf stop = 12
+numberOf booked = 18
 numberOf late = 13
 numberOf gap = 14
 numberOf tracks = 15
@@ -34,6 +36,7 @@ abbrev pub placesOf : Line → CheckedRule → ℕ
 placesOf l early = l .traffic .«train_count»
 placesOf l run = l .traffic .«train_count»
 placesOf l stop = l .traffic .«train_count»
+placesOf l booked = l .traffic .«train_count»
 placesOf l late = l .traffic .«train_count»
 placesOf l gap = segmentCount l
 placesOf l tracks = l .track .«station_count»
@@ -42,6 +45,7 @@ abbrev pub HoldsAt : Line → List ℕ → CheckedRule → ℕ → Type 0
 HoldsAt l m early i = NotEarly l m i
 HoldsAt l m run i = Runs l m i
 HoldsAt l m stop i = Stops l m i
+HoldsAt l m booked i = KeepsBookings l m i
 HoldsAt l m late i = NotLate l m i
 HoldsAt l m gap p = Apart l m p
 HoldsAt l m tracks s = Room l m s

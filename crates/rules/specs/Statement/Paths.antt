@@ -8,8 +8,9 @@ use lib.Dec.{ltb}
 use Rattle.finite.specs.Below.{EachBelow}
 use Rattle.line.specs.declared.Segment.{Segment}
 use Rattle.line.specs.declared.Train.{Train}
+use Rattle.line.specs.declared.Booking.{Booking}
 use Rattle.line.specs.declared.Line.{Line}
-use Rattle.line.specs.Record.{noSegment, legsOf}
+use Rattle.line.specs.Record.{noSegment, noBooking, legsBetween, legsOf}
 
 -- what stands past the last entry of the trains
 abbrev pub pastTrain : Train
@@ -27,6 +28,9 @@ segment l p = getD (l .track .segments) p noSegment
 
 abbrev pub tracksAt : Line → ℕ → ℕ
 tracksAt l s = getD (l .track .tracks) s 0
+
+abbrev pub booking : Line → ℕ → Booking
+booking l j = getD (l .booked .bookings) j noBooking
 
 -- the run over leg k of train i, and the stop after it, in travel order
 abbrev pub runOf : Line → ℕ → ℕ → ℕ
@@ -63,6 +67,10 @@ segmentBetween o d k = cond (ltb o d) (o - 1 + k) (o - 1 - 1 - k)
 
 abbrev pub segmentOf : Train → ℕ → ℕ
 segmentOf t k = segmentBetween (t .origin) (t .destination) k
+
+-- the leg that begins at a station of its path, by the station's number
+abbrev pub legFrom : Train → ℕ → ℕ
+legFrom t s = legsBetween (t .origin) s
 
 -- station s is a middle one of its path
 abbrev pub Middle : Train → ℕ → Type 0

@@ -1,4 +1,4 @@
--- Rules 10 to 15 of a timetable, in the words and the order of document 01.
+-- Rules 10 to 15 and 18 of a timetable, in the words and the order of documents 01 and 02.
 use Prim.Native.Nat.{ℕ, _+_, _-_, _≤_, _<_, min, max}
 use mathlib.Core.Path.{_≡_}
 use mathlib.Core.Logic.{_⊎_}
@@ -10,7 +10,7 @@ use Rattle.line.specs.declared.Kind.{Kind}
 use Rattle.line.specs.declared.Segment.{Segment}
 use Rattle.line.specs.declared.Train.{Train}
 use Rattle.line.specs.declared.Line.{Line}
-use Rattle.rules.specs.Statement.Paths.{train, segmentCount, segment, tracksAt, runOf, stopOf, legs, originAt, destinationAt, sameWay, Uses, Middle, into, outOf, EachTrain, EachLeg}
+use Rattle.rules.specs.Statement.Paths.{train, booking, legFrom, segmentCount, segment, tracksAt, runOf, stopOf, legs, originAt, destinationAt, sameWay, Uses, Middle, into, outOf, EachTrain, EachLeg}
 use Rattle.rules.specs.Statement.Minutes.{departsOn, arrivesOn, departure, arrival, lastArrival}
 
 -- "a departure and an arrival, each 0 to 2,879, for each of its segments"
@@ -33,11 +33,18 @@ Runs l m i = EachLeg l i (λ k. arrival l m i k ≡ departure l m i k + runOf l 
 abbrev pub Stops : Line → List ℕ → ℕ → Type 0
 Stops l m i = EachBelow (legs l i - 1) (λ k. arrival l m i k + stopOf l i k ≤ departure l m i (k + 1))
 
+-- 18 (document 02, K1): a departure is not before its booking
+abbrev pub KeepsBookings : Line → List ℕ → ℕ → Type 0
+KeepsBookings l m i =
+    EachBelow (l .booked .«booking_count»)
+    (λ j. booking l j .train ≡ i + 1 → NotBefore l m i (legFrom (train l i) (booking l j .station)) (booking l j .minute))
+
 -- the rules of train i by itself that the least minutes of a plan keep ("the least minutes that meet them and rules 10 to 12")
 pub record TrainRules (l : Line) (m : List ℕ) (i : ℕ) : Type 0 where
   pub rule10 : NotEarly l m i
   pub rule11 : Runs l m i
   pub rule12 : Stops l m i
+  pub rule18 : KeepsBookings l m i
 
 -- 13: the last arrival is not after latest
 abbrev pub NotLate : Line → List ℕ → ℕ → Type 0

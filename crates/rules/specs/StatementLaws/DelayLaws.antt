@@ -1,4 +1,4 @@
--- No train arrives before its free arrival: in minutes that keep rules 10 to 12 its delay is the difference itself, and is not cut off at 0.
+-- No train arrives before its free arrival: in minutes that keep rules 10 to 12 and 18 its delay is the difference itself, and is not cut off at 0.
 use Prim.Native.Nat.{ℕ, zero, suc, _+_, _-_, _≤_, _<_}
 use mathlib.Core.Path.{_≡_, ap}
 use mathlib.Core.Logic.{⊎-elim}
@@ -15,6 +15,7 @@ use Rattle.rules.specs.Statement.Minutes.{arrival, lastArrival}
 use Rattle.rules.specs.Statement.Rules.{TrainRules}
 use Rattle.rules.specs.Statement.Delay.{freeAfter, freeArrival, delay}
 use Rattle.rules.specs.StatementLaws.PathsLaws.{train-or-past, routed-runnable, legs-few}
+use Rattle.rules.specs.StatementLaws.BookingsLaws.{floors-kept}
 use Rattle.rules.specs.Check.RulesLaws.{free-start, free-next}
 
 module _ (l : Line) (m : List ℕ) (i : ℕ) (h : TrainRules l m i) where
@@ -23,7 +24,7 @@ module _ (l : Line) (m : List ℕ) (i : ℕ) (h : TrainRules l m i) where
   no-earlier zero b = omega (arith, h .rule10, h .rule11 0 b, free-start l i)
   no-earlier (suc k) b =
       rw (← add-one)
-      (omega (arith, no-earlier k (omega arith), h .rule12 k (omega arith), h .rule11 (k + 1) (omega arith), free-next l i k))
+      (omega (arith, no-earlier k (omega arith), h .rule12 k (omega arith), h .rule11 (k + 1) (omega arith), free-next l i k, floors-kept l m i (h .rule18) (k + 1)))
 
   module _ (w : Runnable l) (n : i < l .traffic .«train_count») where
     -- and after the last; a train past the last of the record has no leg, and 0 for its free arrival

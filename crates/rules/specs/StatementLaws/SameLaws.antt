@@ -20,6 +20,7 @@ use Rattle.rules.specs.Lists.Orders.{listsOn, orderList, orderLists}
 use Rattle.rules.specs.Lists.LanesLaws.{test-lane}
 use Rattle.rules.specs.Lists.OrdersLaws.{ordered-same}
 use Rattle.rules.specs.StatementLaws.PathsLaws.{uses-leg, decides-middle, middle-legs, legs-few, routed}
+use Rattle.rules.specs.StatementLaws.BookingsLaws.{booked-leg}
 
 pub same-sym : (l : Line) (m m′ : List ℕ) → Same l m m′ → Same l m′ m
 same-sym l m m′ s i n k r = (sym (s i n k r .0), sym (s i n k r .1))
@@ -83,6 +84,7 @@ module _ (l : Line) (m m′ : List ℕ) (s : Same l m m′) where
         rule10 = omega (arith, h .trains i n .rule10, s i n 0 (has-legs i n) .0);
         rule11 = λ k r. omega (arith, h .trains i n .rule11 k r, s i n k r .0, s i n k r .1);
         rule12 = λ k r. omega (arith, h .trains i n .rule12 k r, s i n k (omega arith) .1, s i n (k + 1) (omega arith) .0);
+        rule18 = λ j b e. omega (arith, h .trains i n .rule18 j b e, s i n _ (booked-leg l (within-runnable l w) i j b e) .0);
       };
       rule13 = λ i n. omega (arith, h .rule13 i n, last-same i n);
       rule14 = λ p b i n j o e u v. ⊎-elim (λ x. inl (before-same p i j n o u v x)) (λ x. inr (before-same p j i o n v u x)) (h .rule14 p b i n j o e u v);

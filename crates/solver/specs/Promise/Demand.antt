@@ -17,7 +17,7 @@ use Rattle.text.specs.Writing.LendLaws.{lent-there, lent-only, text-written, te
 use Rattle.line.specs.declared.Line.{Line}
 use Rattle.line.specs.File.{lineFile, answered}
 use Rattle.line.specs.Within.{Within, Arrays}
-use Rattle.line.specs.PlaceLaws.{file-refusal}
+use Rattle.line.specs.PlaceLaws.{FileNumber, file-refusal}
 use Rattle.line.specs.RoundTripLaws.{accepts-read}
 use Rattle.rules.specs.Statement.Rules.{Lawful}
 use Rattle.rules.specs.Statement.Delay.{Best}
@@ -170,33 +170,37 @@ module _ (file entry exit : List ℕ) (r : Written) (solving : Solving file entr
           passed file (take n exit) (record { line = l; end = c; accepted = accepted; minutes = p .minutes; lawful = p .best .lawful; text = p .text })
       go (Parsed.bad m p) accepted = absurd (not-length (sym e ∙ refused-so m p accepted .0))
 
--- ---- the bounds of an answer: a length is at most 4,096; a refusal is by 1 to 6, at a place of at most 4,097
+-- ---- the bounds of an answer: a length is at most 4,096; a refusal is by 1 to 6 or by 19, at a place of at most 4,097
 
 abbrev pub AnswerBounded : Written → Type 0
 AnswerBounded (Written.Length n) = n ≤ 4096
-AnswerBounded (Written.Refused n p) = (1 ≤ n) × (n ≤ 6) × (p ≤ 4097)
+AnswerBounded (Written.Refused n p) = (((1 ≤ n) × (n ≤ 6)) ⊎ (n ≡ 19)) × (p ≤ 4097)
 
 line-bounded : (l : Line) → Within l → Arrays l → {entry exit : List ℕ} {r : Written} → LineSolved l entry exit r → AnswerBounded r
-line-bounded l w a {entry} {exit} {r} solved = ⊎-elim found-one (λ h. rw (solved .none h .0) (omega arith, omega arith, omega arith)) (decided l w a)
+line-bounded l w a {entry} {exit} {r} solved = ⊎-elim found-one (λ h. rw (solved .none h .0) (inl (omega arith, omega arith), omega arith)) (decided l w a)
   where
     found-one : HasBest l → AnswerBounded r
     found-one h =
         let lent = solved .best (h .minutes) (h .best) in
         elim (decLe (length (timetableText l (h .minutes))) (length entry)) [
           | yes fits ↦ rw (text-written lent fits .0) (timetable-fits l (h .minutes) w (h .best .lawful .days))
-          | no long ↦ rw (text-refused lent (omega arith) .0) (omega arith, omega arith, omega arith)
+          | no long ↦ rw (text-refused lent (omega arith) .0) (inl (omega arith, omega arith), omega arith)
         ]
 
 pub answer-bounded : (file entry exit : List ℕ) (r : Written) → Solving file entry exit r → AnswerBounded r
 answer-bounded file entry exit r solving = go (lineFile file) refl
   where
+    by-file : {n : ℕ} → FileNumber n → ((1 ≤ n) × (n ≤ 6)) ⊎ (n ≡ 19)
+    by-file (inl (low, high)) = inl (low, omega (arith, high))
+    by-file (inr e) = inr e
+
     go : (a : Parsed Line) → lineFile file ≡ a → AnswerBounded r
     go (Parsed.got l c) e =
         let within = accepted-within file l c e in
         line-bounded l (within .0) (within .1) (subst (λ (x : Parsed Line). SolvedAs x entry exit r) e solving)
     go (Parsed.bad n p) e =
         let x = file-refusal file n p e in
-        rw (refused-so file entry exit r solving n p e .0) (omega (arith, x .number), omega (arith, x .number), x .place)
+        rw (refused-so file entry exit r solving n p e .0) (by-file (x .number), x .place)
 
 -- ---- nothing is left free
 

@@ -22,7 +22,7 @@ pub record LineSolved (l : Line) (entry exit : List ℕ) (r : Written) : Type 0 
   pub none : ((m : List ℕ) → Lawful l m → ⊥) → Refuses 5 0 entry exit r
   pub best : (m : List ℕ) → Best l m → Lent (Spelling.text (timetableText l m)) entry exit r
 
--- of what reading gives: a file that is refused is refused with its number, 1 to 4, and its place
+-- of what reading gives: a file that is refused is refused with its number, 1 to 4 or 19, and its place
 abbrev pub SolvedAs : Parsed Line → List ℕ → List ℕ → Written → Type 0
 SolvedAs (Parsed.bad n p) entry exit r = Refuses n p entry exit r
 SolvedAs (Parsed.got l c) entry exit r = LineSolved l entry exit r

@@ -8,6 +8,8 @@ use lib.Seq.{sets}
 use Rattle.text.specs.declared.Cursor.{Cursor}
 use Rattle.text.specs.Reading.Parsed.{Parsed, thenRead, mapParsed, many}
 use Rattle.text.specs.Reading.ParsedLaws.{many-done, many-step, many-stop}
+use Rattle.text.specs.Sections.Chained.{chained}
+use Rattle.text.specs.Sections.ChainedLaws.{chained-done, chained-step, chained-stop}
 
 -- k parts, their values laid into xs from index i on
 abbrev pub layMany : {A : Type 0} → ℕ → (ℕ → List ℕ → Cursor → Parsed A) → List ℕ → Cursor → List A → ℕ → Parsed (List A)
@@ -32,3 +34,24 @@ module _ {A : Type 0} (part : ℕ → List ℕ → Cursor → Parsed A) (k j : �
 
   pub lay-stop : k ≡ suc j → (n m : ℕ) → part j s c ≡ Parsed.bad n m → layMany k part s c xs i ≡ Parsed.bad n m
   lay-stop z n m e = ap (λ (r : Parsed (List A)). mapParsed (λ ys. sets xs i ys) r) (many-stop part k j s c z n m e)
+
+-- ---- each after those before it
+
+-- k parts, each told what those before it come to, their values laid into xs from index i on
+abbrev pub layChain : {S A : Type 0} → (S → A → S) → (S → List ℕ → Cursor → Parsed A) → ℕ → S → List ℕ → Cursor → List A → ℕ → Parsed (List A)
+layChain after part k so-far s c xs i = mapParsed (λ ys. sets xs i ys) (chained after part k so-far s c)
+
+module _ {S A : Type 0} (after : S → A → S) (part : S → List ℕ → Cursor → Parsed A) (k j : ℕ) (so-far : S) (s : List ℕ) (c : Cursor) (xs : List A) (i : ℕ) where
+  pub chain-lay-done : k ≡ 0 → layChain after part k so-far s c xs i ≡ Parsed.got xs c
+  chain-lay-done z = ap (λ (r : Parsed (List A)). mapParsed (λ ys. sets xs i ys) r) (chained-done after part k 0 so-far s c z)
+
+  pub chain-lay-step : k ≡ suc j → (x : A) (next : Cursor) → part so-far s c ≡ Parsed.got x next →
+      layChain after part k so-far s c xs i ≡ layChain after part j (after so-far x) s next (set xs i x) (i + 1)
+  chain-lay-step z x next e =
+      rw (add-one i) (
+      ap (λ (r : Parsed (List A)). mapParsed (λ ys. sets xs i ys) r) (chained-step after part k j so-far s c z x next e)
+      ∙ lay-cons (chained after part j (after so-far x) s next) xs i x
+      )
+
+  pub chain-lay-stop : k ≡ suc j → (n m : ℕ) → part so-far s c ≡ Parsed.bad n m → layChain after part k so-far s c xs i ≡ Parsed.bad n m
+  chain-lay-stop z n m e = ap (λ (r : Parsed (List A)). mapParsed (λ ys. sets xs i ys) r) (chained-stop after part k j so-far s c z n m e)

@@ -7,7 +7,6 @@ use mathlib.Core.Bool.{Bool, true, false, not, _&&_, and-eq-true-iff, true≢fal
 use mathlib.Core.List.{List, [], _∷_}
 use native.Mathlib.Omega.{arith}
 use borrow.Author.Tests.{le-ltb, ltb-true, ltb-false}
-use lib.Dec.{ltb}
 use lib.ListN.{length, drop-of-length-le}
 use Rattle.text.specs.declared.Cursor.{Cursor}
 use Rattle.text.specs.Reading.Choice.{pick}
@@ -15,10 +14,23 @@ use Rattle.text.specs.Reading.Bytes.{from}
 use Rattle.text.specs.Reading.BytesLaws.{at-length, from-cons}
 use Rattle.text.specs.Reading.Parsed.{Parsed, thenRead}
 use Rattle.text.specs.Reading.ParsedLaws.{then-got, pick-got, got-is, Reads, at-end, reads-then}
+use Rattle.finite.specs.Each.{Each}
 use Rattle.text.specs.Elements.EachThen.{eachThen}
 use Rattle.text.specs.Places.Lines.{HoldsOn}
 use Rattle.text.specs.Places.LinesLaws.{stands-then, stands-test}
 use Rattle.text.specs.Sections.Chained.{chained, EachAfter, left, optionalAt, nothing, optionalText}
+
+-- what holds of each element after those before it, in other words
+pub each-after-map : {S A : Type 0} (after : S → A → S) (P Q : S → A → Type 0) → ((so-far : S) (x : A) → P so-far x → Q so-far x) → (xs : List A) (so-far : S) →
+    EachAfter after P so-far xs → EachAfter after Q so-far xs
+each-after-map after P Q one [] so-far v = tt
+each-after-map after P Q one (x ∷ xs) so-far v = (one so-far x (v .0), each-after-map after P Q one xs (after so-far x) (v .1))
+
+-- what holds of each by itself
+pub each-of-after : {S A : Type 0} (after : S → A → S) (P : S → A → Type 0) (Q : A → Type 0) → ((so-far : S) (x : A) → P so-far x → Q x) → (xs : List A)
+    (so-far : S) → EachAfter after P so-far xs → Each Q xs
+each-of-after after P Q one [] so-far v = tt
+each-of-after after P Q one (x ∷ xs) so-far v = (one so-far x (v .0), each-of-after after P Q one xs (after so-far x) (v .1))
 
 -- ---- a step of the loop that reads them
 
@@ -35,6 +47,17 @@ module _ {S A : Type 0} (after : S → A → S) (part : S → List ℕ → Curso
   pub chained-stop : k ≡ suc j → (n p : ℕ) → part so-far s c ≡ Parsed.bad n p → chained after part k so-far s c ≡ Parsed.bad n p
   unfolding chained
   chained-stop z n p e = rw (z, e) refl
+
+-- as many are read as are asked for
+pub chained-length : {S A : Type 0} (after : S → A → S) (part : S → List ℕ → Cursor → Parsed A) (k : ℕ) (so-far : S) (s : List ℕ) (c : Cursor) (xs : List A)
+    (next : Cursor) → chained after part k so-far s c ≡ Parsed.got xs next → length xs ≡ k
+unfolding chained
+chained-length after part zero so-far s c xs next e = got-is (λ ys end. length ys ≡ 0) e refl
+chained-length after part (suc k) so-far s c xs next e =
+    let a = then-got (part so-far s c) _ xs next e in
+    let b = then-got (chained after part k (after so-far (a .value)) s (a .next)) _ xs next (a .after) in
+    got-is (λ ys end. length ys ≡ suc k) (b .after)
+    (ap suc (chained-length after part k (after so-far (a .value)) s (a .next) (b .value) (b .next) (b .first)))
 
 -- ---- what was read is its text, and a text is read as its value
 

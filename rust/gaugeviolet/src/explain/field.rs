@@ -2,8 +2,8 @@
 
 use std::fmt;
 
-/// A field, by what it says. Trains, stations, segments and order lists count from 1, and so do the
-/// places of trains in an order list. Later versions know more.
+/// A field, by what it says. Trains, stations, segments, bookings and order lists count from 1, and so do
+/// the places of trains in an order list. Later versions know more.
 #[non_exhaustive]
 #[derive(Clone, Copy, Debug, PartialEq, Eq, Hash)]
 #[allow(missing_docs, reason = "each name says it, and `Display` in words")]
@@ -46,6 +46,16 @@ pub enum Field {
         train: u32,
         station: u32,
     },
+    BookingCount,
+    BookedTrain {
+        booking: u32,
+    },
+    BookedStation {
+        booking: u32,
+    },
+    BookedMinute {
+        booking: u32,
+    },
     Departure {
         train: u32,
         segment: u32,
@@ -74,6 +84,7 @@ impl Field {
             self,
             Field::Earliest { .. }
                 | Field::Latest { .. }
+                | Field::BookedMinute { .. }
                 | Field::Departure { .. }
                 | Field::Arrival { .. }
         )
@@ -108,6 +119,10 @@ impl fmt::Display for Field {
             Field::Weight { train } => write!(f, "train {train}: weight"),
             Field::Run { train, segment } => write!(f, "train {train}: run over segment {segment}"),
             Field::Stop { train, station } => write!(f, "train {train}: stop at station {station}"),
+            Field::BookingCount => write!(f, "number of bookings"),
+            Field::BookedTrain { booking } => write!(f, "booking {booking}: train"),
+            Field::BookedStation { booking } => write!(f, "booking {booking}: station"),
+            Field::BookedMinute { booking } => write!(f, "booking {booking}: minute"),
             Field::Departure { train, segment } => {
                 write!(f, "train {train}: departure on segment {segment}")
             }

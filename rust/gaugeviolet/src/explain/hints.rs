@@ -47,6 +47,10 @@ fn in_place_of_field(text: &[u8], fault: &Fault) -> Option<String> {
     if fault.field == Field::End {
         return after_the_end(&text[fault.from..]);
     }
+    // After the trains the file ends or its bookings begin: what is blank was not meant as bookings.
+    if let (Field::BookingCount, Some(hint)) = (fault.field, after_the_end(&text[fault.from..])) {
+        return Some(hint);
+    }
     match (text.get(fault.from), token) {
         (None, _) if text.is_empty() => Some("the file is empty".into()),
         (None, _) => Some(format!("the text ends before the field `{}`", fault.field)),

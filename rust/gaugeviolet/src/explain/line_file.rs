@@ -1,7 +1,7 @@
 //! The first fault of a line file, field by field in the order of the file.
 
 use super::field::Field;
-use super::walker::{After, Allowed, Fault, Walker};
+use super::walker::{After, Allowed, Fault, Walker, Wrong};
 
 const STATIONS: Allowed = Allowed { least: 2, most: 12 };
 const TRACKS: Allowed = Allowed { least: 1, most: 12 };
@@ -10,6 +10,10 @@ const TRAINS: Allowed = Allowed { least: 0, most: 12 };
 pub(super) const TIME: Allowed = Allowed {
     least: 0,
     most: 2879,
+};
+const BOOKINGS: Allowed = Allowed {
+    least: 1,
+    most: 120,
 };
 const WEIGHT: Allowed = Allowed { least: 0, most: 99 };
 const RUN: Allowed = Allowed {
@@ -26,8 +30,13 @@ const STOP: Allowed = Allowed {
 pub(super) struct Known {
     pub stations: Option<u32>,
     pub trains: Option<u32>,
-    /// Origin and destination of the last train.
-    pub path: Option<(u32, u32)>,
+    /// Origin and destination of each train.
+    pub paths: Vec<(u32, u32)>,
+    pub bookings: Option<u32>,
+    /// The train of the last booking.
+    pub booked_train: Option<u32>,
+    /// Train and station of the booking before it.
+    pub booked_before: Option<(u32, u32)>,
 }
 
 /// Goes through the whole file.
@@ -40,6 +49,7 @@ pub(super) fn walk(file: &[u8], known: &mut Known) -> Result<(), Fault> {
     for train in 1..=trains {
         train_line(&mut walker, train, stations, known)?;
     }
+    booking_section(&mut walker, stations, known)?;
     walker.end()
 }
 
@@ -70,11 +80,15 @@ fn train_line(
     stations: u32,
     known: &mut Known,
 ) -> Result<(), Fault> {
-    known.path = None;
     let numbers = Allowed::from(1, stations);
     let origin = walker.ranged(Field::Origin { train }, numbers, After::Space)?;
-    let destination = walker.destination(Field::Destination { train }, numbers, origin)?;
-    known.path = Some((origin, destination));
+    let another = |station| {
+        let another = || format!("another station than the origin, {origin}");
+        (station == origin).then(another)
+    };
+    let field = Field::Destination { train };
+    let destination = walker.station(field, numbers, Wrong::SameStation, another)?;
+    known.paths.push((origin, destination));
     walker.ranged(Field::Earliest { train }, TIME, After::Space)?;
     walker.ranged(Field::Latest { train }, TIME, After::Space)?;
     walker.ranged(Field::Weight { train }, WEIGHT, After::Space)?;
@@ -99,4 +113,55 @@ fn journey(walker: &mut Walker, train: u32, origin: u32, destination: u32) -> Re
         }
     }
     Ok(())
+}
+
+/// The bookings with their count. Without bookings nothing stands there.
+fn booking_section(walker: &mut Walker, stations: u32, known: &mut Known) -> Result<(), Fault> {
+    if walker.at_end() {
+        return Ok(());
+    }
+    let bookings = walker.ranged(Field::BookingCount, BOOKINGS, After::LineFeed)?;
+    known.bookings = Some(bookings);
+    for booking in 1..=bookings {
+        booking_line(walker, booking, stations, known)?;
+    }
+    Ok(())
+}
+
+fn booking_line(
+    walker: &mut Walker,
+    booking: u32,
+    stations: u32,
+    known: &mut Known,
+) -> Result<(), Fault> {
+    let trains = Allowed::from(1, known.paths.len() as u32);
+    let train = walker.ranged(Field::BookedTrain { booking }, trains, After::Space)?;
+    known.booked_train = Some(train);
+    let instead = |station| booked_instead(known, train, station);
+    let numbers = Allowed::from(1, stations);
+    let field = Field::BookedStation { booking };
+    let station = walker.station(field, numbers, Wrong::BookingPlace, instead)?;
+    known.booked_before = Some((train, station));
+    walker.ranged(Field::BookedMinute { booking }, TIME, After::LineFeed)?;
+    Ok(())
+}
+
+/// What is allowed in the place of a booking that is not at a middle station of its train, or does not
+/// stand in order.
+fn booked_instead(known: &Known, train: u32, station: u32) -> Option<String> {
+    let (origin, destination) = known.paths[train as usize - 1];
+    let (low, high) = (origin.min(destination), origin.max(destination));
+    if !(low + 1..high).contains(&station) {
+        return Some(match high - low {
+            1 => format!("none: train {train} has no middle station"),
+            2 => format!("{}, the middle station of train {train}", low + 1),
+            _ => {
+                let (first, last) = (low + 1, high - 1);
+                format!("a number from {first} to {last}, the middle stations of train {train}")
+            }
+        });
+    }
+    let (before, there) = known.booked_before?;
+    ((train, station) <= (before, there))
+        .then(|| format!("a booking that comes after train {before} at station {there}"))
 }

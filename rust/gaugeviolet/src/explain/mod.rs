@@ -19,7 +19,7 @@ mod walker;
 pub use field::Field;
 pub use quotation::{Quotation, Text};
 
-use crate::{Cause, Line, Refusal, Timetable};
+use crate::{Cause, Line, Refusal, Timetable, Train};
 use line_file::Known;
 use walker::{Fault, Wrong};
 
@@ -64,7 +64,9 @@ impl Refusal {
         }
         match cause {
             Cause::FileLength => Some(too_long(file)),
-            Cause::FileForm | Cause::FileRange | Cause::SameStation => self.of_file(cause, file),
+            Cause::FileForm | Cause::FileRange | Cause::SameStation | Cause::BookingPlace => {
+                self.of_file(cause, file)
+            }
             Cause::NoTimetable => without_timetable(file),
             Cause::LentBytes => Some(whole(
                 "fewer lent bytes than the text has",
@@ -79,7 +81,9 @@ impl Refusal {
     fn is_of(&self, cause: Cause, file: &[u8], timetable: Option<&[u8]>) -> bool {
         match cause {
             Cause::NoTimetable | Cause::LentBytes => true,
-            _ if cause < Cause::NoTimetable => crate::read(file) == Err(*self),
+            _ if cause < Cause::NoTimetable || cause == Cause::BookingPlace => {
+                crate::read(file) == Err(*self)
+            }
             _ => timetable.is_some_and(|text| crate::check(file, text) == Err(*self)),
         }
     }
@@ -122,6 +126,7 @@ fn cause_in_file(wrong: Wrong) -> Cause {
         Wrong::Form | Wrong::After(_) => Cause::FileForm,
         Wrong::Range => Cause::FileRange,
         Wrong::SameStation => Cause::SameStation,
+        Wrong::BookingPlace => Cause::BookingPlace,
     }
 }
 
@@ -163,23 +168,25 @@ fn explained(text: Text, bytes: &[u8], fault: Fault, needed: Option<String>) -> 
 /// Of a file without a timetable: the first train that cannot be in time even alone, if there is one.
 fn without_timetable(file: &[u8]) -> Option<Explanation> {
     let line = Line::read(file).ok()?;
-    let late = |(_, train): &(usize, &crate::Train)| train.free_arrival() > train.latest;
-    let Some((at, train)) = line.trains().iter().enumerate().find(late) else {
+    let late = |&(number, train): &(u32, &Train)| line.free_arrival(number) > train.latest;
+    let Some((number, train)) = (1..).zip(line.trains()).find(late) else {
         return Some(whole(
             "trains that can each be in time alone, but not together",
             "trains that keep every rule together",
         ));
     };
-    let row = 2 * line.tracks().len() + 3 + at;
+    let row = 2 * line.tracks().len() + 2 + number as usize;
+    let kept = match line.bookings().iter().any(|it| it.train == number) {
+        true => ", bookings kept",
+        false => "",
+    };
     Some(Explanation {
         quotation: Quotation::field(Text::LineFile, file, row, 3),
-        field: Some(Field::Latest {
-            train: at as u32 + 1,
-        }),
+        field: Some(Field::Latest { train: number }),
         found: rules::minute(train.latest),
         allowed: format!(
-            "{} or later: earliest plus all runs and stops",
-            rules::minute(train.free_arrival())
+            "{} or later: earliest plus all runs and stops{kept}",
+            rules::minute(line.free_arrival(number))
         ),
         hints: Vec::new(),
     })

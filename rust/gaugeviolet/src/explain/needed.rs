@@ -25,7 +25,14 @@ pub(super) fn in_file(file: &[u8], fault: &Fault, known: &Known) -> Option<Strin
         | Field::Latest { train }
         | Field::Weight { train }
         | Field::Run { train, .. }
-        | Field::Stop { train, .. } => runs_and_stops(file, fault, train, known.path?),
+        | Field::Stop { train, .. } => runs_and_stops(file, fault, train, *known.paths.last()?),
+        Field::BookedStation { .. } if fault.wrong == Wrong::BookingPlace => {
+            let station = std::str::from_utf8(&file[fault.from..fault.to]).ok()?;
+            booking_place(known, known.booked_train?, station.parse().ok()?)
+        }
+        Field::BookingCount | Field::BookedTrain { .. } | Field::End => {
+            by_bookings(file, fault, known)
+        }
         _ => by_counts(file, fault, known),
     }
 }
@@ -66,13 +73,63 @@ fn by_counts(file: &[u8], fault: &Fault, known: &Known) -> Option<String> {
             counted(known.trains?, "train"),
             train - 1
         )),
+        _ => None,
+    }
+}
+
+/// What the counts of trains and bookings say of a line after the trains.
+fn by_bookings(file: &[u8], fault: &Fault, known: &Known) -> Option<String> {
+    let train_count = 2 * known.stations? + 2;
+    let trains = known.trains?;
+    let by_trains = format!("line {train_count} says {}", counted(trains, "train"));
+    let by_bookings = |bookings: u32| {
+        let line = train_count + trains + 1;
+        format!("line {line} says {}", counted(bookings, "booking"))
+    };
+    match fault.field {
+        Field::BookingCount if &file[fault.from..fault.to] == b"0" => {
+            Some("without bookings their section is left off; take the line away".into())
+        }
+        Field::BookingCount => Some(format!(
+            "{by_trains}, so the file ends after line {} or goes on with the number of bookings",
+            fault.line - 1
+        )),
+        Field::BookedTrain { booking } if fault.from == file.len() => Some(format!(
+            "{}, and there are only {}",
+            by_bookings(known.bookings?),
+            booking - 1
+        )),
+        Field::BookedTrain { .. } if fault.wrong == Wrong::Range => Some(by_trains),
         Field::End => Some(format!(
-            "line {train_count} says {}, so the file ends after line {}",
-            counted(known.trains?, "train"),
+            "{}, so the file ends after line {}",
+            by_bookings(known.bookings?),
             fault.line - 1
         )),
         _ => None,
     }
+}
+
+/// Why a train cannot be booked at a station, or not behind the booking before.
+fn booking_place(known: &Known, train: u32, station: u32) -> Option<String> {
+    let &(origin, destination) = known.paths.get(train as usize - 1)?;
+    let (low, high) = (origin.min(destination), origin.max(destination));
+    Some(if station == origin {
+        format!(
+            "station {station} is the origin of train {train}; its earliest minute says when it may \
+             leave there"
+        )
+    } else if station == destination {
+        format!("station {station} is the destination of train {train}, which does not leave it")
+    } else if !(low..=high).contains(&station) {
+        format!(
+            "train {train} goes from station {origin} to station {destination} and does not come to \
+             station {station}"
+        )
+    } else if known.booked_before == Some((train, station)) {
+        format!("train {train} is booked twice at station {station}; take one of them away")
+    } else {
+        "bookings stand in rising order of train, and of station for one train".into()
+    })
 }
 
 /// What is needed on the fault's line of a timetable.

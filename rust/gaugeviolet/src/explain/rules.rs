@@ -2,7 +2,7 @@
 //! names the train, segment, station or list, and here it is looked at.
 
 use super::field::Field;
-use crate::{counted, time_of_day, Cause, Kind, Leg, Segment, Timetable, Train};
+use crate::{counted, time_of_day, Cause, Kind, Leg, Line, Segment, Timetable, Train};
 
 /// Where to look and what is wrong there. Nothing where the place is not as the library says.
 pub(super) struct Breach {
@@ -20,10 +20,12 @@ pub(super) fn breach(timetable: &Timetable, cause: Cause, place: u32) -> Option<
         return None;
     }
     match cause {
-        Cause::Earliest | Cause::Run | Cause::Stop | Cause::Latest => {
-            let train = timetable.line().trains().get(place as usize - 1)?;
+        Cause::Earliest | Cause::Run | Cause::Stop | Cause::Latest | Cause::Booking => {
+            let line = timetable.line();
+            let train = line.trains().get(place as usize - 1)?;
             let looked_at = OfTrain {
                 number: place,
+                line,
                 train,
                 legs: timetable.legs(place),
             };
@@ -42,9 +44,10 @@ pub(super) fn minute(minute: u32) -> String {
     format!("minute {minute} ({})", time_of_day(minute))
 }
 
-/// Rules 10 to 13, which are about one train.
+/// Rules 10 to 13 and 18, which are about one train.
 struct OfTrain<'a> {
     number: u32,
+    line: &'a Line,
     train: &'a Train,
     legs: &'a [Leg],
 }
@@ -68,6 +71,11 @@ impl OfTrain<'_> {
                 let allowed = format!("{}: arrival plus the stop of {stop}", at_or_after(over));
                 (false, departure, allowed)
             }
+            Cause::Booking => {
+                let (booked, station) = (self.booked(leg)?, self.train.station(leg));
+                let allowed = format!("{}: booked at station {station}", at_or_after(booked));
+                (false, departure, allowed)
+            }
             _ => (
                 true,
                 arrival,
@@ -89,8 +97,14 @@ impl OfTrain<'_> {
             Cause::Earliest => leg == 0 && departure < self.train.earliest,
             Cause::Run => departure + self.train.run(leg) != arrival,
             Cause::Stop => leg > 0 && departure < self.legs[leg - 1].arrival + self.train.stop(leg),
+            Cause::Booking => self.booked(leg).is_some_and(|booked| departure < booked),
             _ => leg + 1 == self.legs.len() && arrival > self.train.latest,
         }
+    }
+
+    /// The minute that is booked for its departure with a leg.
+    fn booked(&self, leg: usize) -> Option<u32> {
+        self.line.booked(self.number, self.train.station(leg))
     }
 
     fn field(&self, leg: usize, arrives: bool) -> Field {

@@ -11,6 +11,8 @@ pub(super) enum Wrong {
     After(After),
     Range,
     SameStation,
+    /// A booking is out of order, or not at a middle station of its train.
+    BookingPlace,
 }
 
 /// The first fault of a text, with the bytes that it is about.
@@ -65,6 +67,7 @@ impl Allowed {
     fn in_words(self) -> String {
         match self {
             Allowed { least, most } if least == most => format!("the number {least}"),
+            Allowed { least, most } if least > most => "no number".to_string(),
             Allowed { least, most } => format!("a number from {least} to {most}"),
         }
     }
@@ -167,26 +170,32 @@ impl<'a> Walker<'a> {
         Err(self.read_fault(Wrong::Range, field, read, allowed.in_words()))
     }
 
-    /// A destination: within its range, and not the origin.
-    pub fn destination(
+    /// A station within its range, with the space after it. It is wrong all the same where `instead` says
+    /// what is allowed instead.
+    pub fn station(
         &mut self,
         field: Field,
         allowed: Allowed,
-        origin: u32,
+        wrong: Wrong,
+        instead: impl Fn(u32) -> Option<String>,
     ) -> Result<u32, Fault> {
         let read = self.number(field, 4, &allowed.in_words())?;
         self.after(field, After::Space)?;
-        let destination = self.within(field, read, allowed)?;
-        if destination != origin {
-            return Ok(destination);
+        let station = self.within(field, read, allowed)?;
+        match instead(station) {
+            None => Ok(station),
+            Some(instead) => Err(self.read_fault(wrong, field, read, instead)),
         }
-        let other = format!("another station than the origin, {origin}");
-        Err(self.read_fault(Wrong::SameStation, field, read, other))
+    }
+
+    /// Whether all of the text has been read.
+    pub fn at_end(&self) -> bool {
+        self.at == self.text.len()
     }
 
     /// The end of the text.
     pub fn end(&self) -> Result<(), Fault> {
-        if self.at == self.text.len() {
+        if self.at_end() {
             return Ok(());
         }
         let line = self.text[self.at..].split(|&byte| byte == b'\n').next();

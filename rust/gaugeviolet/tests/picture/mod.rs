@@ -74,6 +74,7 @@ pub fn hold(picture: &str, file: &[u8], timetable: &[u8]) {
     shown.beside_each_other(&heights);
     shown.stands(&axes, &heights);
     shown.waits(&axes, &heights);
+    shown.bookings(&axes, &heights);
     shown.train_labels();
     shown.delays();
     shown.lists_and_total();
@@ -341,6 +342,32 @@ impl Shown<'_> {
         }
     }
 
+    /// Exactly the bookings, each with its sign at station and departure; and what the sign means.
+    fn bookings(&self, axes: &Axes, heights: &Heights) {
+        let bookings = self.line.used_bookings();
+        let signs = self.of("path", "booked");
+        assert_eq!(signs.len(), bookings.len());
+        for (booking, sign) in bookings.iter().zip(signs) {
+            let (at, station) = (usize::from(booking.train) - 1, i64::from(booking.station));
+            let mut path = self.path(at).into_iter();
+            let leg = path.position(|it| it == station).expect("on its path");
+            let (x, y) = (
+                axes.point(self.rows[at][2 * leg], station).0,
+                heights[at][leg],
+            );
+            assert_eq!(sign.value("transform"), format!("translate({x} {y})"));
+            let words = format!(
+                "train {} is booked to leave station {station} at {} or later",
+                booking.train,
+                time_of_day(u32::from(booking.minute))
+            );
+            assert_eq!(sign.inside[0].text, words);
+        }
+        let meanings = self.of("text", "aside").into_iter();
+        let told = meanings.filter(|words| words.text.starts_with("is booked,"));
+        assert_eq!(told.count(), usize::from(!bookings.is_empty()));
+    }
+
     fn all_waits(&self) -> Vec<Waited> {
         let rows = self.rows.iter().enumerate();
         rows.flat_map(|(at, row)| self.waits_of(at, row)).collect()
@@ -401,7 +428,7 @@ impl Shown<'_> {
         for (at, row) in self.rows.iter().enumerate() {
             let train = &self.line.trains[at];
             let arrival = *row.last().expect("an arrival") as u32;
-            let (free, weight) = (free_arrival(train), u32::from(train.weight));
+            let (free, weight) = (free_arrival(&self.line, at), u32::from(train.weight));
             let delay = arrival - free;
             expected.extend([
                 (at + 1).to_string(),

@@ -1,15 +1,15 @@
--- `line::writing::fault_of` meets its contract: each `return` is the first fault of the checks made so far, and the counts without fault bound what is
--- checked next (`tells-number`). Assumes nothing.
+-- `line::writing::fault_of` meets its contract: each `return` is the first fault of the parts checked so far, and the counts of a part without fault bound
+-- what is checked next (`stations-fit`, `trains-fit`). Assumes nothing.
 use mathlib.Core.Path.{_∙_, sym}
 use native.Mathlib.Omega.{arith}
 use borrow.Author.Needs.{needs}
-use Rattle.line.specs.FaultLaws.{found-first, found-later, tells-number}
-use Rattle.line.specs.Writing.{faultOf}
+use Rattle.line.specs.FaultLaws.{found-first, found-later, tells-number, stations-fit, trains-fit}
+use Rattle.line.specs.Writing.{faultOf, bookedFaultOf}
 use Rattle.line.proofs.writing.fault_of.Statement.{statement}
 use Rattle.line.proofs.writing.fault_of.Tie as tie
 
-number-fault-requires : tie.Need-number-fault-requires
-number-fault-requires c κs = search needs
+track-fault-requires : tie.Need-track-fault-requires
+track-fault-requires c κs = search needs
 
 enum-told : tie.Need-enum-told
 enum-told c = search needs
@@ -19,15 +19,12 @@ enum-told-2 c = search needs
 
 returns : tie.Need-returns
 unfolding faultOf
-returns c = found-first _ (c .before .before .number-fault .ensures) (c .enum-told2 .given .1)
+returns c = found-first _ (c .before .before .track-fault .ensures) (c .enum-told2 .given .1)
 
-cast-n : tie.Need-cast-n
-cast-n c = search needs
-
-station-faults-requires : tie.Need-station-faults-requires
-station-faults-requires c κs =
-    let stations = c .before in
-    tells-number _ _ _ .holds (sym (stations .before .before .number-fault .ensures) ∙ stations .enum-told .given .1) .1
+traffic-fault-requires : tie.Need-traffic-fault-requires
+traffic-fault-requires c κs =
+    let track = c .before in
+    stations-fit _ (track .before .before .track-fault .ensures) (track .enum-told .given .1) .1
 
 enum-told-3 : tie.Need-enum-told-3
 enum-told-3 c = search needs
@@ -38,24 +35,27 @@ enum-told-4 c = search needs
 returns-2 : tie.Need-returns-2
 unfolding faultOf
 returns-2 c =
-    let stations = c .before .before .before .before in
-    found-later (stations .before .before .number-fault .ensures) (stations .enum-told .given .1)
-    (found-first _ (c .before .before .station-faults .ensures) (c .enum-told4 .given .1))
+    let track = c .before .before .before .before in
+    found-later (track .before .before .track-fault .ensures) (track .enum-told .given .1)
+    (found-first _ (c .before .before .traffic-fault .ensures) (c .enum-told4 .given .1))
 
-sub-segment-faults : tie.Need-sub-segment-faults
-sub-segment-faults c =
-    let stations = c .before .before .before .before .before in
-    let count = tells-number _ _ _ .holds (sym (stations .before .before .number-fault .ensures) ∙ stations .enum-told .given .1) in
-    omega arith
+cast-n : tie.Need-cast-n
+cast-n c = search needs
 
-add-segment-faults : tie.Need-add-segment-faults
-add-segment-faults c = search needs
+add-first : tie.Need-add-first
+add-first c = search needs
 
-segment-faults-requires : tie.Need-segment-faults-requires
-segment-faults-requires c κs =
-    let stations = c .before .before .before .before .before in
-    let count = tells-number _ _ _ .holds (sym (stations .before .before .number-fault .ensures) ∙ stations .enum-told .given .1) in
-    (omega arith, omega arith)
+add-first-2 : tie.Need-add-first-2
+add-first-2 c = search needs
+
+cast-first : tie.Need-cast-first
+cast-first c = search needs
+
+add-first-3 : tie.Need-add-first-3
+add-first-3 c = search needs
+
+number-fault-requires : tie.Need-number-fault-requires
+number-fault-requires c κs = search needs
 
 enum-told-5 : tie.Need-enum-told-5
 enum-told-5 c = search needs
@@ -64,96 +64,62 @@ enum-told-6 : tie.Need-enum-told-6
 enum-told-6 c = search needs
 
 returns-3 : tie.Need-returns-3
-unfolding faultOf
+unfolding faultOf bookedFaultOf
 returns-3 c =
-    let tracks = c .before .before .before .before in
-    let stations = tracks .before .before .before .before in
-    found-later (stations .before .before .number-fault .ensures) (stations .enum-told .given .1)
-    (found-later (tracks .before .before .station-faults .ensures) (tracks .enum-told3 .given .1)
-    (found-first _ (c .before .before .segment-faults .ensures) (c .enum-told6 .given .1)))
+    let traffic = c .before .before .before .before .before in
+    let track = traffic .before .before .before .before in
+    found-later (track .before .before .track-fault .ensures) (track .enum-told .given .1)
+    (found-later (traffic .before .before .traffic-fault .ensures) (traffic .enum-told3 .given .1)
+    (found-first _ (c .before .before .number-fault .ensures) (c .enum-told6 .given .1)))
 
-add-number-fault : tie.Need-add-number-fault
-add-number-fault c = search needs
+cast-booking-faults : tie.Need-cast-booking-faults
+cast-booking-faults c = search needs
 
-add-number-fault-2 : tie.Need-add-number-fault-2
-add-number-fault-2 c = search needs
+add-booking-faults : tie.Need-add-booking-faults
+add-booking-faults c = search needs
 
-number-fault-requires-2 : tie.Need-number-fault-requires-2
-number-fault-requires-2 c κs = search needs
-
-enum-told-7 : tie.Need-enum-told-7
-enum-told-7 c = search needs
-
-enum-told-8 : tie.Need-enum-told-8
-enum-told-8 c = search needs
+booking-faults-requires : tie.Need-booking-faults-requires
+booking-faults-requires c κs =
+    let bookings = c .before .before in
+    let traffic = bookings .before .before .before .before .before in
+    let track = traffic .before .before .before .before in
+    let count = stations-fit _ (track .before .before .track-fault .ensures) (track .enum-told .given .1) in
+    let trains = trains-fit _ _ (traffic .before .before .traffic-fault .ensures) (traffic .enum-told3 .given .1) in
+    let number = tells-number _ _ _ .holds (sym (bookings .before .before .number-fault .ensures) ∙ bookings .enum-told5 .given .1) in
+    (number .1, trains .1, omega arith)
 
 returns-4 : tie.Need-returns-4
-unfolding faultOf
+unfolding faultOf bookedFaultOf
 returns-4 c =
-    let segments = c .before .before .before in
-    let tracks = segments .before .before .before .before in
-    let stations = tracks .before .before .before .before in
-    found-later (stations .before .before .number-fault .ensures) (stations .enum-told .given .1)
-    (found-later (tracks .before .before .station-faults .ensures) (tracks .enum-told3 .given .1)
-    (found-later (segments .before .before .segment-faults .ensures) (segments .enum-told5 .given .1)
-    (found-first _ (c .before .before .number-fault2 .ensures) (c .enum-told8 .given .1))))
-
-cast-train-faults : tie.Need-cast-train-faults
-cast-train-faults c = search needs
-
-add-train-faults : tie.Need-add-train-faults
-add-train-faults c = search needs
-
-add-train-faults-2 : tie.Need-add-train-faults-2
-add-train-faults-2 c = search needs
-
-train-faults-requires : tie.Need-train-faults-requires
-train-faults-requires c κs =
-    let trains = c .before .before in
-    let stations = trains .before .before .before .before .before .before .before .before .before .before .before in
-    let count = tells-number _ _ _ .holds (sym (stations .before .before .number-fault .ensures) ∙ stations .enum-told .given .1) in
-    let number = tells-number _ _ _ .holds (sym (trains .before .before .number-fault2 .ensures) ∙ trains .enum-told7 .given .1) in
-    (number .1, count .1, omega arith)
-
-returns-5 : tie.Need-returns-5
-unfolding faultOf
-returns-5 c =
-    let trains = c .before .before .before in
-    let segments = trains .before .before .before in
-    let tracks = segments .before .before .before .before in
-    let stations = tracks .before .before .before .before in
-    found-later (stations .before .before .number-fault .ensures) (stations .enum-told .given .1)
-    (found-later (tracks .before .before .station-faults .ensures) (tracks .enum-told3 .given .1)
-    (found-later (segments .before .before .segment-faults .ensures) (segments .enum-told5 .given .1)
-    (found-later (trains .before .before .number-fault2 .ensures) (trains .enum-told7 .given .1) (c .train-faults .ensures))))
+    let bookings = c .before .before .before in
+    let traffic = bookings .before .before .before .before .before in
+    let track = traffic .before .before .before .before in
+    found-later (track .before .before .track-fault .ensures) (track .enum-told .given .1)
+    (found-later (traffic .before .before .traffic-fault .ensures) (traffic .enum-told3 .given .1)
+    (found-later (bookings .before .before .number-fault .ensures) (bookings .enum-told5 .given .1) (c .booking-faults .ensures)))
 
 pub fault-of-spec : {M : Type 1} → statement M
 fault-of-spec =
     tie.close
     (tie.spec
-    number-fault-requires
+    track-fault-requires
     enum-told
     enum-told-2
     returns
-    cast-n
-    station-faults-requires
+    traffic-fault-requires
     enum-told-3
     enum-told-4
     returns-2
-    sub-segment-faults
-    add-segment-faults
-    segment-faults-requires
+    cast-n
+    add-first
+    add-first-2
+    cast-first
+    add-first-3
+    number-fault-requires
     enum-told-5
     enum-told-6
     returns-3
-    add-number-fault
-    add-number-fault-2
-    number-fault-requires-2
-    enum-told-7
-    enum-told-8
-    returns-4
-    cast-train-faults
-    add-train-faults
-    add-train-faults-2
-    train-faults-requires
-    returns-5)
+    cast-booking-faults
+    add-booking-faults
+    booking-faults-requires
+    returns-4)

@@ -1,4 +1,4 @@
--- `line::writing::put_line` meets its contract: the six parts of the text are put one after the other, and each fits where all of them do. A train within
+-- `line::writing::put_line` meets its contract: the seven parts of the text are put one after the other, and each fits where all of them do. A train within
 -- the limits has a path. Assumes nothing.
 use native.Mathlib.Omega.{arith}
 use borrow.Author.Needs.{needs}
@@ -131,12 +131,59 @@ put-trains-requires c κs =
       ),
     )
 
+put-booked-requires : tie.Need-put-booked-requires
+put-booked-requires c κs =
+    let p6 = c .before .before .before .before in
+    let p5 = p6 .before .before .before .before .before in
+    let p4 = p5 .before .before .before .before .before in
+    let p3 = p4 .before .before .before .before in
+    let p2 = p3 .before .before .before .before in
+    let p1 = p2 .before .before .before .before in
+    let a = p1 .before .before .before .before .before .before in (
+      omega (arith, a .pre .0 .bookings),
+      omega (
+        arith,
+        line-size (a .args .line),
+        a .pre .1,
+        p1 .put-field .ensures .next,
+        p1 .put-field .kept .0,
+        p2 .put-stations .ensures .next,
+        p2 .put-stations .kept .0,
+        p3 .put-field2 .ensures .next,
+        p3 .put-field2 .kept .0,
+        p4 .put-segments .ensures .next,
+        p4 .put-segments .kept .0,
+        p5 .put-field3 .ensures .next,
+        p5 .put-field3 .kept .0,
+        p6 .put-trains .ensures .next,
+        p6 .put-trains .kept .0,
+      ),
+    )
+
 same-length : tie.Need-same-length
-same-length c = search needs
+same-length c =
+    let p7 = c .before .before in
+    let p6 = p7 .before .before .before .before .before in
+    let p5 = p6 .before .before .before .before .before in
+    let p4 = p5 .before .before .before .before .before in
+    let p3 = p4 .before .before .before .before in
+    let p2 = p3 .before .before .before .before in
+    let p1 = p2 .before .before .before .before in
+    omega (
+      arith,
+      p1 .put-field .kept .0,
+      p2 .put-stations .kept .0,
+      p3 .put-field2 .kept .0,
+      p4 .put-segments .kept .0,
+      p5 .put-field3 .kept .0,
+      p6 .put-trains .kept .0,
+      p7 .put-booked .kept .0,
+    )
 
 returns : tie.Need-returns
 returns c =
-    let p6 = c .before .before in
+    let p7 = c .before .before in
+    let p6 = p7 .before .before .before .before .before in
     let p5 = p6 .before .before .before .before .before in
     let p4 = p5 .before .before .before .before .before in
     let p3 = p4 .before .before .before .before in
@@ -145,7 +192,7 @@ returns c =
     let a = p1 .before .before .before .before .before .before in
     rw (line-parts (a .args .line)) (put-then (p1 .put-field .ensures)
     (put-then (p2 .put-stations .ensures) (put-then (p3 .put-field2 .ensures)
-    (put-then (p4 .put-segments .ensures) (put-then (p5 .put-field3 .ensures) (p6 .put-trains .ensures))))))
+    (put-then (p4 .put-segments .ensures) (put-then (p5 .put-field3 .ensures) (put-then (p6 .put-trains .ensures) (p7 .put-booked .ensures)))))))
 
 pub put-line-spec : {M : Type 1} → statement M
 put-line-spec =
@@ -164,5 +211,6 @@ put-line-spec =
     put-field-requires-3
     cast-put-trains
     put-trains-requires
+    put-booked-requires
     same-length
     returns)

@@ -39,6 +39,7 @@ sized c =
       segments = sym (length-map (c .args .line .track .segments) _) ∙ track .1 .0 .1 .0 .1;
       trains = sym (length-map (c .args .line .traffic .trains) _) ∙ trains .1 .0 .1;
       each-train = trains-sized (c .args .line .traffic .trains) (trains .0) (trains .1 .1);
+      bookings = sym (length-map (c .args .line .booked .bookings) _) ∙ c .good .0 .1 .1 .1 .1 .0 .1 .1 .1 .0 .1 .0 .1;
     }
 
 fault-of-requires : tie.Need-fault-of-requires

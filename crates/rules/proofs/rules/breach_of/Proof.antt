@@ -35,7 +35,8 @@ enum-told-4 c = search needs
 returns-2 : tie.Need-returns-2
 unfolding breachOf
 returns-2 c =
-    breach-later (c .before .before .before .before .before .train-breach .ensures) (c .before .before .before .enum-told .given .1)
+    let early = c .before .before .before in
+    breach-later (early .before .before .train-breach .ensures) (early .enum-told .given .1)
     (breach-first _ (c .before .before .train-breach2 .ensures) (c .enum-told4 .given .1))
 
 train-breach-requires-3 : tie.Need-train-breach-requires-3
@@ -50,9 +51,10 @@ enum-told-6 c = search needs
 returns-3 : tie.Need-returns-3
 unfolding breachOf
 returns-3 c =
-    breach-later (c .before .before .before .before .before .before .before .before .train-breach .ensures)
-    (c .before .before .before .before .before .before .enum-told .given .1)
-    (breach-later (c .before .before .before .before .before .train-breach2 .ensures) (c .before .before .before .enum-told3 .given .1)
+    let run = c .before .before .before in
+    let early = run .before .before .before in
+    breach-later (early .before .before .train-breach .ensures) (early .enum-told .given .1)
+    (breach-later (run .before .before .train-breach2 .ensures) (run .enum-told3 .given .1)
     (breach-first _ (c .before .before .train-breach3 .ensures) (c .enum-told6 .given .1)))
 
 train-breach-requires-4 : tie.Need-train-breach-requires-4
@@ -67,15 +69,38 @@ enum-told-8 c = search needs
 returns-4 : tie.Need-returns-4
 unfolding breachOf
 returns-4 c =
-    breach-later (c .before .before .before .before .before .before .before .before .before .before .before .train-breach .ensures)
-    (c .before .before .before .before .before .before .before .before .before .enum-told .given .1)
-    (breach-later (c .before .before .before .before .before .before .before .before .train-breach2 .ensures)
-    (c .before .before .before .before .before .before .enum-told3 .given .1)
-    (breach-later (c .before .before .before .before .before .train-breach3 .ensures) (c .before .before .before .enum-told5 .given .1)
+    let stop = c .before .before .before in
+    let run = stop .before .before .before in
+    let early = run .before .before .before in
+    breach-later (early .before .before .train-breach .ensures) (early .enum-told .given .1)
+    (breach-later (run .before .before .train-breach2 .ensures) (run .enum-told3 .given .1)
+    (breach-later (stop .before .before .train-breach3 .ensures) (stop .enum-told5 .given .1)
     (breach-first _ (c .before .before .train-breach4 .ensures) (c .enum-told8 .given .1))))
 
+train-breach-requires-5 : tie.Need-train-breach-requires-5
+train-breach-requires-5 c κs = search needs
+
+enum-told-9 : tie.Need-enum-told-9
+enum-told-9 c = search needs
+
+enum-told-10 : tie.Need-enum-told-10
+enum-told-10 c = search needs
+
+returns-5 : tie.Need-returns-5
+unfolding breachOf
+returns-5 c =
+    let booked = c .before .before .before in
+    let stop = booked .before .before .before in
+    let run = stop .before .before .before in
+    let early = run .before .before .before in
+    breach-later (early .before .before .train-breach .ensures) (early .enum-told .given .1)
+    (breach-later (run .before .before .train-breach2 .ensures) (run .enum-told3 .given .1)
+    (breach-later (stop .before .before .train-breach3 .ensures) (stop .enum-told5 .given .1)
+    (breach-later (booked .before .before .train-breach4 .ensures) (booked .enum-told7 .given .1)
+    (breach-first _ (c .before .before .train-breach5 .ensures) (c .enum-told10 .given .1)))))
+
 directions-of-requires : tie.Need-directions-of-requires
-directions-of-requires c κs = c .before .before .before .before .before .before .before .before .before .before .before .before .before .pre .0 .trains .1
+directions-of-requires c κs = c .before .before .before .before .before .before .before .before .before .before .before .before .before .before .before .before .pre .0 .trains .1
 
 layout-of-requires : tie.Need-layout-of-requires
 layout-of-requires c κs = search needs
@@ -85,7 +110,7 @@ slice-aggregate-lowest-conflict c = search needs
 
 lowest-conflict-requires : tie.Need-lowest-conflict-requires
 lowest-conflict-requires c κs =
-    let a = c .before .before .before .before .before .before .before .before .before .before .before .before .before .before .before .before in
+    let a = c .before .before .before .before .before .before .before .before .before .before .before .before .before .before .before .before .before .before .before in
     let y = c .before .layout-of .ensures in
     record {
       laid-out = rw y (a .pre .0 .stations .0, a .pre .0 .stations .1, a .pre .0 .trains .1);
@@ -95,28 +120,28 @@ lowest-conflict-requires c κs =
 
 conflict-breach-requires : tie.Need-conflict-breach-requires
 conflict-breach-requires c κs =
-    let a = c .before .before .before .before .before .before .before .before .before .before .before .before .before .before .before .before .before in
+    let a = c .before .before .before .before .before .before .before .before .before .before .before .before .before .before .before .before .before .before .before .before in
     let y = c .before .before .layout-of .ensures in
     let ds = c .before .before .before .directions-of .ensures in
     let x = conflict-told (a .args .line) (now (a .args .m)) _ _ _ y ds (c .lowest-conflict .ensures) in
     rw x (place-fits (a .args .line) (now (a .args .m)) (a .pre .0))
 
-returns-5 : tie.Need-returns-5
+returns-6 : tie.Need-returns-6
 unfolding breachOf
-returns-5 c =
-    let a =
-    c .before .before .before .before .before .before .before .before .before .before .before .before .before .before .before .before .before .before .args in
-    breach-later
-    (c .before .before .before .before .before .before .before .before .before .before .before .before .before .before .before .before .train-breach .ensures)
-    (c .before .before .before .before .before .before .before .before .before .before .before .before .before .before .enum-told .given .1)
-    (breach-later (c .before .before .before .before .before .before .before .before .before .before .before .before .before .train-breach2 .ensures)
-    (c .before .before .before .before .before .before .before .before .before .before .before .enum-told3 .given .1)
-    (breach-later (c .before .before .before .before .before .before .before .before .before .before .train-breach3 .ensures)
-    (c .before .before .before .before .before .before .before .before .enum-told5 .given .1)
-    (breach-later (c .before .before .before .before .before .before .before .train-breach4 .ensures)
-    (c .before .before .before .before .before .enum-told7 .given .1)
+returns-6 c =
+    let late = c .before .before .before .before .before in
+    let booked = late .before .before .before in
+    let stop = booked .before .before .before in
+    let run = stop .before .before .before in
+    let early = run .before .before .before in
+    let a = early .before .before .before .before .args in
+    breach-later (early .before .before .train-breach .ensures) (early .enum-told .given .1)
+    (breach-later (run .before .before .train-breach2 .ensures) (run .enum-told3 .given .1)
+    (breach-later (stop .before .before .train-breach3 .ensures) (stop .enum-told5 .given .1)
+    (breach-later (booked .before .before .train-breach4 .ensures) (booked .enum-told7 .given .1)
+    (breach-later (late .before .before .train-breach5 .ensures) (late .enum-told9 .given .1)
     (c .conflict-breach .ensures ∙ ap conflictBreach (conflict-told (a .line) (now (a .m)) _ _ _
-    (c .before .before .before .layout-of .ensures) (c .before .before .before .before .directions-of .ensures) (c .before .lowest-conflict .ensures))))))
+    (c .before .before .before .layout-of .ensures) (c .before .before .before .before .directions-of .ensures) (c .before .lowest-conflict .ensures)))))))
 
 pub breach-of-spec : {M : Type 1} → statement M
 breach-of-spec =
@@ -138,9 +163,13 @@ breach-of-spec =
     enum-told-7
     enum-told-8
     returns-4
+    train-breach-requires-5
+    enum-told-9
+    enum-told-10
+    returns-5
     directions-of-requires
     layout-of-requires
     slice-aggregate-lowest-conflict
     lowest-conflict-requires
     conflict-breach-requires
-    returns-5)
+    returns-6)

@@ -1,7 +1,7 @@
 -- `rules::rules::keeps_rule` meets its contract: each branch is the test of its rule, and a number of none is kept. Assumes nothing.
 use denote.Ref.{now}
 use borrow.Author.Needs.{needs}
-use Rattle.rules.specs.Check.RulesLaws.{keeps-start, keeps-runs, keeps-stops, keeps-end, keeps-other}
+use Rattle.rules.specs.Check.RulesLaws.{keeps-start, keeps-runs, keeps-stops, keeps-booked, keeps-end, keeps-other}
 use Rattle.rules.proofs.rules.keeps_rule.Statement.{statement}
 use Rattle.rules.proofs.rules.keeps_rule.Tie as tie
 
@@ -29,18 +29,27 @@ returns-3 c =
     let a = c .before .before .before .before .before in
     keeps-stops (a .args .line) (now (a .args .m)) (a .args .i) _ (c .before .if3 .taken) (c .stops-right .ensures)
 
-ends-right-requires : tie.Need-ends-right-requires
-ends-right-requires c κs = search needs
+booked-right-requires : tie.Need-booked-right-requires
+booked-right-requires c κs = search needs
 
 returns-4 : tie.Need-returns-4
 returns-4 c =
     let a = c .before .before .before .before .before .before in
-    keeps-end (a .args .line) (now (a .args .m)) (a .args .i) _ (c .before .if4 .taken) (c .ends-right .ensures)
+    keeps-booked (a .args .line) (now (a .args .m)) (a .args .i) _ (c .before .if4 .taken) (c .booked-right .ensures)
+
+ends-right-requires : tie.Need-ends-right-requires
+ends-right-requires c κs = search needs
 
 returns-5 : tie.Need-returns-5
 returns-5 c =
-    let a = c .before .before .before .before .before in
-    keeps-other (a .args .line) (now (a .args .m)) (a .args .i) _ (c .before .before .before .if1 .left) (c .before .before .if2 .left) (c .before .if3 .left) (c .if4 .left)
+    let a = c .before .before .before .before .before .before .before in
+    keeps-end (a .args .line) (now (a .args .m)) (a .args .i) _ (c .before .if5 .taken) (c .ends-right .ensures)
+
+returns-6 : tie.Need-returns-6
+returns-6 c =
+    let a = c .before .before .before .before .before .before in
+    keeps-other (a .args .line) (now (a .args .m)) (a .args .i) _ (c .before .before .before .before .if1 .left) (c .before .before .before .if2 .left)
+    (c .before .before .if3 .left) (c .before .if4 .left) (c .if5 .left)
 
 pub keeps-rule-spec : {M : Type 1} → statement M
 keeps-rule-spec =
@@ -52,6 +61,8 @@ keeps-rule-spec =
     returns-2
     stops-right-requires
     returns-3
-    ends-right-requires
+    booked-right-requires
     returns-4
-    returns-5)
+    ends-right-requires
+    returns-5
+    returns-6)

@@ -15,7 +15,8 @@ pub const COMMAND: Command = Command {
     help: "\
 For each segment, and on double track for each lane, the trains in the order in which
 they set out, with direction, departure and arrival as times of day. What falls on
-the second day is marked.
+the second day is marked. Where the departure is booked, the booked time stands at the
+end of the row: the train must not leave before it.
 
 example: gaugeviolet lists samples/saturday.line samples/saturday.timetable
 ",
@@ -48,12 +49,19 @@ fn sheet(timetable: &Timetable, list: &OrderList) -> String {
 }
 
 fn row(timetable: &Timetable, train: u32, segment: u32) -> String {
-    let direction = timetable.line().train(train).direction();
+    let path = timetable.line().train(train);
     let leg = timetable.leg_on(train, segment);
     let leg = leg.expect("a train of the segment's list goes there");
-    format!(
-        "  train {train:>2}  {direction:<8}  departs {:<11}  arrives {}\n",
-        time_of_day(leg.departure),
-        time_of_day(leg.arrival)
-    )
+    let (direction, departure) = (path.direction(), time_of_day(leg.departure));
+    let arrival = time_of_day(leg.arrival);
+    let front = format!("  train {train:>2}  {direction:<8}  departs {departure:<11}  arrives ");
+    let from = if path.outbound() {
+        segment
+    } else {
+        segment + 1
+    };
+    match timetable.line().booked(train, from) {
+        None => format!("{front}{arrival}\n"),
+        Some(booked) => format!("{front}{arrival:<11}  booked {}\n", time_of_day(booked)),
+    }
 }

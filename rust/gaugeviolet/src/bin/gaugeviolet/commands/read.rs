@@ -1,6 +1,6 @@
 //! The line in words.
 
-use gaugeviolet::{counted, time_of_day, Kind, Line, Segment, Train};
+use gaugeviolet::{counted, time_of_day, Kind, Leg, Line, Segment, Train};
 
 use crate::arguments::Arguments;
 use crate::command::{Command, Failure};
@@ -14,9 +14,9 @@ pub const COMMAND: Command = Command {
     summary: "the line in words, or what is wrong with its file",
     help: "\
 Reads a line file and says in words what it describes: the stations with their
-tracks, the segments with their gaps, and the trains with their times of day. So
-what was typed can be read over. A file with a mistake is refused; standard error
-then quotes the line, marks the fault and says what is allowed there.
+tracks, the segments with their gaps, and the trains with their times of day and
+their bookings. So what was typed can be read over. A file with a mistake is refused;
+standard error then quotes the line, marks the fault and says what is allowed there.
 
 example: gaugeviolet read samples/saturday.line
 ",
@@ -29,12 +29,7 @@ fn run(arguments: &Arguments) -> Result<Vec<u8>, Failure> {
 }
 
 fn in_words(line: &Line) -> String {
-    let mut words = format!(
-        "{}, {}, {}\n\n",
-        counted(line.tracks().len() as u32, "station"),
-        counted(line.segments().len() as u32, "segment"),
-        counted(line.trains().len() as u32, "train")
-    );
+    let mut words = counts(line);
     let station = |(number, &tracks): (u32, &u32)| {
         format!("station {number}: {}\n", counted(tracks, "track"))
     };
@@ -42,9 +37,22 @@ fn in_words(line: &Line) -> String {
     words.push('\n');
     let segments = (1..).zip(line.segments());
     words.extend(segments.map(|(number, segment)| segment_in_words(number, segment)));
-    let trains = (1..).zip(line.trains());
-    words.extend(trains.map(|(number, train)| train_in_words(number, train)));
+    let numbers = 1..=line.trains().len() as u32;
+    words.extend(numbers.map(|number| train_in_words(line, number)));
     words
+}
+
+/// How much there is of everything; of bookings only where there are any.
+fn counts(line: &Line) -> String {
+    let mut counts = vec![
+        counted(line.tracks().len() as u32, "station"),
+        counted(line.segments().len() as u32, "segment"),
+        counted(line.trains().len() as u32, "train"),
+    ];
+    if !line.bookings().is_empty() {
+        counts.push(counted(line.bookings().len() as u32, "booking"));
+    }
+    counts.join(", ") + "\n\n"
 }
 
 fn segment_in_words(number: u32, segment: &Segment) -> String {
@@ -64,15 +72,15 @@ fn segment_in_words(number: u32, segment: &Segment) -> String {
     )
 }
 
-fn train_in_words(number: u32, train: &Train) -> String {
-    let free = train.free_arrival();
+fn train_in_words(line: &Line, number: u32) -> String {
+    let (train, free) = (line.train(number), line.free_arrival(number));
     let spare = match train.latest.checked_sub(free) {
         Some(spare) => format!("{} to spare", counted(spare, "minute")),
         None => "which is too late".to_string(),
     };
     format!(
         "\ntrain {number}, {}, station {} to station {}, weight {}\n  \
-         departs {} or later, arrives {} or earlier\n  \
+         departs {} or later, arrives {} or earlier\n{}  \
          alone on the line it takes {}, {spare}:\n{}",
         train.direction(),
         train.origin,
@@ -80,9 +88,23 @@ fn train_in_words(number: u32, train: &Train) -> String {
         train.weight,
         minute(train.earliest),
         minute(train.latest),
+        bookings_in_words(line, number),
         counted(free - train.earliest, "minute"),
-        free_journey(train)
+        free_journey(train, &line.free_legs(number))
     )
+}
+
+/// The bookings of a train in travel order, a row for each.
+fn bookings_in_words(line: &Line, number: u32) -> String {
+    let train = line.train(number);
+    let stations = (1..train.legs()).map(|leg| train.station(leg));
+    let row = |station| {
+        let booked = minute(line.booked(number, station)?);
+        Some(format!(
+            "  is booked to leave station {station} at {booked} or later\n"
+        ))
+    };
+    stations.filter_map(row).collect()
 }
 
 /// A time of day with its minute, as the file has it.
@@ -91,11 +113,9 @@ fn minute(minute: u32) -> String {
 }
 
 /// The journey of a train that is alone on the line, a row for each of its legs.
-fn free_journey(train: &Train) -> String {
-    let mut departure = train.earliest;
+fn free_journey(train: &Train, legs: &[Leg]) -> String {
     let mut rows = String::new();
-    for leg in 0..train.legs() {
-        let arrival = departure + train.run(leg);
+    for (leg, &Leg { departure, arrival }) in legs.iter().enumerate() {
         rows += &format!(
             "    {} from station {}, {} over segment {}, {} at station {}",
             time_of_day(departure),
@@ -106,9 +126,7 @@ fn free_journey(train: &Train) -> String {
             train.station(leg + 1)
         );
         if leg + 1 < train.legs() {
-            let stop = train.stop(leg + 1);
-            rows += &format!(", stop {stop}");
-            departure = arrival + stop;
+            rows += &format!(", stop {}", train.stop(leg + 1));
         }
         rows.push('\n');
     }

@@ -26,7 +26,8 @@ pub const COMMAND: Command = Command {
     summary: "where trains wait for which; or why there is no timetable",
     help: "\
 Of a timetable: the delay of each train, and where it waits how long for which
-train. At its own origin a train waits in the yard, where it takes no track.
+train or for its booked minute. At its own origin a train waits in the yard, where it
+takes no track. Standing for a booking is no delay in itself.
 
 Of a line without a timetable: first the trains that cannot be in time even alone;
 then trains of the others that have no timetable together, and such that without

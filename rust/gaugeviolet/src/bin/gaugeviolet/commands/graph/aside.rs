@@ -3,7 +3,7 @@
 
 use gaugeviolet::{time_of_day, Timetable};
 
-use super::drawing::{BASE, ROW, SIGN};
+use super::drawing::{BASE, BOOKED, ROW, SIGN};
 use super::layout::Layout;
 use super::style::stroke;
 use super::svg::{element, group, line, text, Anchor, Attribute, Point};
@@ -32,7 +32,7 @@ pub fn aside(timetable: &Timetable, layout: &Layout) -> (String, u32) {
         &format!("total weighted delay: {}", timetable.total()),
     );
     column.table(timetable);
-    column.legend();
+    column.legend(timetable);
     column.orders(timetable);
     (column.drawn, column.at.y)
 }
@@ -53,7 +53,8 @@ impl Column {
     fn table(&mut self, timetable: &Timetable) {
         self.at.y += ROW / 2;
         self.cells("head", &NAMES.map(str::to_string));
-        for (number, train) in timetable.numbers().zip(timetable.line().trains()) {
+        let own = timetable.line();
+        for (number, train) in timetable.numbers().zip(own.trains()) {
             let delay = timetable.delay(number);
             let y = self.at.y - BASE;
             let piece = line(
@@ -71,7 +72,7 @@ impl Column {
                 &[
                     number.to_string(),
                     time_of_day(timetable.last_arrival(number)),
-                    time_of_day(train.free_arrival()),
+                    time_of_day(own.free_arrival(number)),
                     delay.to_string(),
                     train.weight.to_string(),
                     (delay * train.weight).to_string(),
@@ -92,23 +93,9 @@ impl Column {
         self.at.y += ROW;
     }
 
-    /// What the signs mean.
-    fn legend(&mut self) {
-        let middle = Point {
-            x: self.at.x + 5,
-            y: self.at.y - BASE,
-        };
-        let sign: [Attribute; 4] = [
-            (
-                "transform",
-                &format_args!("translate({} {})", middle.x, middle.y),
-            ),
-            ("d", &SIGN),
-            ("fill", &"#ffffff"),
-            ("stroke", &"#333333"),
-        ];
-        self.drawn += &element("path", &sign, "");
-        self.beside("waits beyond its stop or its earliest minute");
+    /// What the signs mean. That of a booked departure is there only where there is one.
+    fn legend(&mut self, timetable: &Timetable) {
+        self.sign(SIGN, "waits beyond its stop or its earliest minute");
         let (y, x) = (self.at.y - BASE, self.at.x);
         let dots = line("example", Point { x, y }, Point { x: x + 12, y });
         let style: [Attribute; 3] = [
@@ -118,7 +105,29 @@ impl Column {
         ];
         self.drawn += &group(&style, &dots);
         self.beside("waits in the yard of its origin, and takes no track there");
+        if !timetable.line().bookings().is_empty() {
+            self.sign(BOOKED, "is booked, and does not leave before that minute");
+        }
         self.at.y += ROW / 2;
+    }
+
+    /// A sign with its meaning.
+    fn sign(&mut self, sign: &str, words: &str) {
+        let middle = Point {
+            x: self.at.x + 5,
+            y: self.at.y - BASE,
+        };
+        let drawn: [Attribute; 4] = [
+            (
+                "transform",
+                &format_args!("translate({} {})", middle.x, middle.y),
+            ),
+            ("d", &sign),
+            ("fill", &"#ffffff"),
+            ("stroke", &"#333333"),
+        ];
+        self.drawn += &element("path", &drawn, "");
+        self.beside(words);
     }
 
     /// Words after a sign.

@@ -1,6 +1,6 @@
-//! The picture of a timetable: grid, stations, trains, their numbers and waits.
+//! The picture of a timetable: grid, stations, trains, their numbers, waits and booked departures.
 
-use gaugeviolet::{counted, time_of_day, Kind, Segment, Timetable, Train};
+use gaugeviolet::{counted, time_of_day, Booking, Kind, Segment, Timetable, Train};
 
 use super::aside;
 use super::layout::{Layout, TrainLabel, DAY, LABEL_HEIGHT, LABEL_WIDTH, NAMES_END};
@@ -10,6 +10,8 @@ use super::svg::{element, group, line, page, text, title, Anchor, Attribute, Poi
 
 /// The sign of a wait, around the minute of the departure.
 pub const SIGN: &str = "M0 -4L4 0L0 4L-4 0Z";
+/// The sign of a booked departure, around that of a wait.
+pub const BOOKED: &str = "M-6 -6H6V6H-6Z";
 /// The height of a line of text, and of the part from the middle of its letters down to its base line.
 pub const ROW: u32 = 18;
 pub const BASE: u32 = 4;
@@ -27,6 +29,7 @@ pub fn picture(timetable: &Timetable) -> String {
         segments(timetable.line().segments(), &layout),
         stands.iter().map(|stand| band(stand, &layout)).collect(),
         ways(timetable, &layout),
+        booked_departures(timetable, &layout),
         stands.iter().map(|stand| ends(stand, &layout)).collect(),
         stands.iter().map(|stand| sign(stand, &layout)).collect(),
         numbers(&layout),
@@ -175,6 +178,35 @@ fn way(timetable: &Timetable, number: u32, train: &Train, layout: &Layout) -> St
         ("points", &points),
     ];
     element("polyline", &attributes, &title(&words))
+}
+
+fn booked_departures(timetable: &Timetable, layout: &Layout) -> String {
+    let bookings = timetable.line().bookings().iter();
+    bookings
+        .map(|booking| booked_departure(timetable, booking, layout))
+        .collect()
+}
+
+/// The sign of a booked departure. It is pointed at anywhere within it.
+fn booked_departure(timetable: &Timetable, booking: &Booking, layout: &Layout) -> String {
+    let &Booking { train, station, .. } = booking;
+    let path = timetable.line().train(train);
+    let leg = path.origin.abs_diff(station) as usize;
+    let departure = timetable.legs(train)[leg].departure;
+    let Point { x, y } = layout.before_leg(train, leg, departure, station);
+    let words = format!(
+        "train {train} is booked to leave station {station} at {} or later",
+        time_of_day(booking.minute)
+    );
+    let attributes: [Attribute; 6] = [
+        ("class", &"booked"),
+        ("transform", &format_args!("translate({x} {y})")),
+        ("d", &BOOKED),
+        ("fill", &"none"),
+        ("pointer-events", &"all"),
+        ("stroke", colour(train)),
+    ];
+    element("path", &attributes, &title(&words))
 }
 
 /// Where a stand begins, or the wait in it, and where it ends.

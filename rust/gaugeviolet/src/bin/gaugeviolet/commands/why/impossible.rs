@@ -117,14 +117,25 @@ impl Impossible<'_> {
     fn row(&self, number: u32) -> String {
         let train = self.line.train(number);
         format!(
-            "  train {number}: station {} to station {}, departs {} or later, alone it arrives {}, \
+            "  train {number}: station {} to station {}, departs {} or later, alone it arrives {}{}, \
              latest {}\n",
             train.origin,
             train.destination,
             time_of_day(train.earliest),
-            time_of_day(train.free_arrival()),
+            time_of_day(self.line.free_arrival(number)),
+            self.bookings(number),
             time_of_day(train.latest)
         )
+    }
+
+    /// What is said of a train's bookings, if it has any.
+    fn bookings(&self, number: u32) -> String {
+        let own = self.line.bookings().iter().filter(|it| it.train == number);
+        let own = own.map(|it| format!("station {} at {}", it.station, time_of_day(it.minute)));
+        match &own.collect::<Vec<String>>()[..] {
+            [] => String::new(),
+            own => format!(" (booked to leave {})", own.join(", ")),
+        }
     }
 }
 

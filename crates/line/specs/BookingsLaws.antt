@@ -1,0 +1,72 @@
+-- Laws of bookings: where one may stand, their text, and their trains. Of where one may stand: the tests decide the statements; of the trains only the one
+-- booked matters, and of that only origin and destination, so that a booking within the limits is one too where their entries beyond the path are emptied.
+use Prim.Native.Nat.{ℕ, zero, suc, _-_, _≤_}
+use mathlib.Core.Path.{_≡_, refl, sym, ap, _∙_}
+use mathlib.Core.Bool.{Bool, _&&_}
+use mathlib.Core.List.{List, [], _∷_, map}
+use native.Mathlib.Omega.{arith}
+use borrow.Author.Tests.{ne-eqb}
+use lib.Dec.{eqb}
+use lib.ListN.{length, getD, take, length-map}
+use lib.Seq.{getD-take}
+use Rattle.text.specs.Reading.Choice.{pick}
+use Rattle.text.specs.Elements.EachThen.{eachThen}
+use Rattle.text.specs.Sections.Chained.{nothing, optionalText}
+use Rattle.finite.specs.Decide.{Decides}
+use Rattle.finite.specs.DecideLaws.{decides-lt, decides-eq, decides-and, decides-or}
+use Rattle.line.specs.declared.Train.{Train}
+use Rattle.line.specs.declared.Booking.{Booking}
+use Rattle.line.specs.declared.Booked.{Booked}
+use Rattle.line.specs.Record.{noTrain, tidyTrain}
+use Rattle.line.specs.Bookings.{Rises, rises, Between, between, numbered, bookable}
+use Rattle.line.specs.File.{null}
+use Rattle.line.specs.Spell.{field, bookingText, bookingsText, bookedText, unbooked}
+use Rattle.line.specs.Within.{BookingWithin}
+
+pub decides-rises : (a : Booking) (t s : ℕ) → Decides (Rises a t s) (rises a t s)
+decides-rises a t s = decides-or (decides-lt (a .train) t) (decides-and (decides-eq (a .train) t) (decides-lt (a .station) s))
+
+pub decides-between : (t : Train) (s : ℕ) → Decides (Between t s) (between t s)
+decides-between t s = decides-and (decides-lt _ _) (decides-lt _ _)
+
+pub decides-bookable : (trains : List Train) (a : Booking) (t s : ℕ) → Decides (Rises a t s × Between (numbered trains t) s) (bookable trains a t s)
+unfolding bookable
+decides-bookable trains a t s = decides-and (decides-rises a t s) (decides-between (numbered trains t) s)
+
+-- it is the same of the first t trains, for a train among them
+pub bookable-used : (t : ℕ) (trains : List Train) (a : Booking) (i s : ℕ) → 1 ≤ i → i ≤ t → bookable (take t trains) a i s ≡ bookable trains a i s
+unfolding bookable
+bookable-used t trains a i s low high = ap (λ (x : Train). rises a i s && between x s) (getD-take t trains (i - 1) noTrain (omega arith))
+
+-- the section of a record whose array has as many bookings as it counts
+pub booked-text : (b : Booked) (later : List ℕ) → length (take (b .«booking_count») (b .bookings)) ≡ b .«booking_count» →
+    optionalText unbooked bookedText b later ≡ optionalText null bookingsText (take (b .«booking_count») (b .bookings)) later
+unfolding optionalText
+booked-text b later many =
+    ap (λ (e : Bool). pick (e && nothing later) [] (bookedText b later)) (ap (λ (k : ℕ). eqb k 0) (sym many) ∙ none (take (b .«booking_count») (b .bookings)))
+    ∙ ap (λ (k : ℕ). pick (null (take (b .«booking_count») (b .bookings)) && nothing later) []
+    (field k 10 (eachThen bookingText (take (b .«booking_count») (b .bookings)) later))) (sym many)
+  where
+    none : (xs : List Booking) → eqb (length xs) 0 ≡ null xs
+    none [] = refl
+    none (x ∷ xs) = ne-eqb (suc (length xs)) 0 (omega arith)
+
+-- ---- trains with their entries beyond the path emptied
+
+ends-at : (ts : List Train) (j : ℕ) →
+    (getD (map tidyTrain ts) j noTrain .origin ≡ getD ts j noTrain .origin) × (getD (map tidyTrain ts) j noTrain .destination ≡ getD ts j noTrain .destination)
+unfolding tidyTrain
+ends-at [] j = (refl, refl)
+ends-at (t ∷ ts) zero = (refl, refl)
+ends-at (t ∷ ts) (suc j) = ends-at ts j
+
+pub within-tidy : (n : ℕ) (ts : List Train) (before b : Booking) → BookingWithin n ts before b → BookingWithin n (map tidyTrain ts) before b
+within-tidy n ts before b w =
+    let ends = ends-at ts (b .train - 1) in
+    record {
+      train = rw (length-map ts tidyTrain) (w .train);
+      station = w .station;
+      order = w .order;
+      middle = rw (ends .0, ends .1) (w .middle);
+      minute = w .minute;
+    }
