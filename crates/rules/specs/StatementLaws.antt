@@ -1,8 +1,9 @@
--- Laws of what is declared: paths, bookings, timetables that are the same, that there is at most one best, that a delay is a true difference, and that there is at most one
--- order list of a segment and lane.
+-- Laws of what is declared: paths, bookings, timetables that are the same, that there is at most one best, that a delay is a true difference, that a free arrival
+-- is the earliest possible, and that there is at most one order list of a segment and lane.
 pub mod PathsLaws
 pub mod BookingsLaws
 pub mod SameLaws
 pub mod BestLaws
 pub mod DelayLaws
+pub mod FreeArrivalLaws
 pub mod OrderListsLaws

@@ -15,20 +15,19 @@ use Rattle.finite.specs.LoopLaws.{each-more}
 use Rattle.finite.specs.BelowLaws.{table-at, table-past, table-size}
 use Rattle.line.specs.declared.Line.{Line}
 use Rattle.line.specs.Runnable.{Runnable}
-use Rattle.rules.specs.Statement.Paths.{train, legs, runOf, segmentOf, Routed}
+use Rattle.rules.specs.Statement.Paths.{train, legs, runOf, segmentOf, legOn, Routed}
 use Rattle.rules.specs.Statement.Minutes.{departs, arrives, departure, arrival}
 use Rattle.rules.specs.StatementLaws.PathsLaws.{train-runnable, routed, legs-few, uses-leg, segment-below}
-use Rattle.rules.specs.Statement.Bookings.{floorOf}
-use Rattle.rules.specs.StatementLaws.BookingsLaws.{kept-floors, booked-leg, floor-first}
-use Rattle.rules.specs.StatementLaws.DelayLaws.{no-earlier, delay-true}
-use Rattle.rules.specs.Check.RulesLaws.{free-start, free-next}
-use Rattle.rules.specs.Statement.Delay.{EarliestArrival, freeAfter, freeArrival, weightedDelay}
+use Rattle.rules.specs.StatementLaws.DelayLaws.{no-earlier}
+use Rattle.rules.specs.StatementLaws.FreeArrivalLaws.{free-kept}
+use Rattle.rules.specs.Check.RulesLaws.{free-next}
+use Rattle.rules.specs.Statement.Delay.{freeAfter, freeArrival, weightedDelay}
 use Rattle.orders.specs.declared.first.FirstPlan.{FirstPlan}
 use Rattle.orders.specs.LeastMinutes.Least.{Fit, IsLeast}
 use Rattle.orders.specs.Plan.Marks.{free}
 use Rattle.orders.specs.Plan.MarksLaws.{zeros, free-marked}
 use Rattle.orders.specs.Plan.Plans.{Keeps}
-use Rattle.orders.specs.LineTables.Tables.{legOn, onLeg}
+use Rattle.orders.specs.LineTables.Tables.{onLeg}
 use Rattle.orders.specs.LineTables.FillLaws.{Begun, begun-all}
 use Rattle.orders.specs.Graph.LegsLaws.{Leg, leg-test}
 use Rattle.orders.specs.LineTables.TableLegsLaws.{on-leg, on-leg-off}
@@ -37,10 +36,6 @@ use Rattle.orders.specs.LeastMinutes.FirstPlan.{legMinute, freeEntry, fr
 -- ---- free arrivals of a train
 
 module _ (l : Line) (i : ℕ) where
-  pub run-free : (k : ℕ) → runOf l i k ≤ freeAfter l i k
-  run-free zero = omega (arith, free-start l i)
-  run-free (suc k) = rw (← add-one) (omega (arith, free-next l i k))
-
   free-grows : (k n : ℕ) → k ≤ n → freeAfter l i k ≤ freeAfter l i n
   free-grows k zero h =
       let e : k ≡ 0 = omega arith in
@@ -120,31 +115,15 @@ module _ (l : Line) (w : Runnable l) (size : length (l .traffic .trains) ≡ 12)
       | no c ↦ rw (table-past (freeEntry l) 352 x (omega arith)) (omega arith)
     ]
 
-  floors-free : (i : ℕ) → i < l .traffic .«train_count» → EachBelow (legs l i) (λ k. floorOf l i k ≤ departure l (freeMinutes l) i k)
-  floors-free i h zero b = omega (arith, floor-first l w i)
-  floors-free i h (suc k) b = rw (← add-one) (omega (arith, departs-free i (k + 1) h (omega arith), free-next l i k))
-
   free-keeps : Keeps l free (freeMinutes l)
   free-keeps =
       record {
-        trains = λ i h. record {
-          rule10 =
-              (let k = legs-few (train l i) (path i h) .0 in
-              omega (arith, departs-free i 0 h k, free-start l i));
-          rule11 = λ k b. omega (arith, departs-free i k h b, arrives-free i k h b, run-free l i k);
-          rule12 = λ k b. omega (arith, arrives-free i k h (omega arith), departs-free i (k + 1) h (omega arith), free-next l i k);
-          rule18 = kept-floors l (freeMinutes l) i (booked-leg l w i) (floors-free i h);
-        };
+        trains = λ i h. free-kept l i w (legs-few (train l i) (path i h) .0) (freeMinutes l) (λ k b. (departs-free i k h b, arrives-free i k h b));
         choices = λ c o s t. absurd (free-marked c t);
       }
 
   last-free : (i : ℕ) (h : i < l .traffic .«train_count») → arrival l (freeMinutes l) i (legs l i - 1) ≡ freeArrival l i
   last-free i h = arrives-free i (legs l i - 1) h (omega (arith, legs-few (train l i) (path i h) .0))
-
-  -- "Free arrival becomes the earliest possible last arrival of the train alone on the line, bookings kept"
-  pub free-earliest : (i : ℕ) → i < l .traffic .«train_count» → EarliestArrival l i (freeArrival l i)
-  free-earliest i h =
-      record { minutes = freeMinutes l; kept = free-keeps .trains i h; arrives = last-free i h; earliest = λ m k. delay-true l m i k w h }
 
   module _ (ends : FreeInTime l) where
     free-fit : Fit 352 (freeMinutes l)

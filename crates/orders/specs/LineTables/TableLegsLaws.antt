@@ -5,22 +5,21 @@ use mathlib.Core.Bool.{Bool, true, false, cond}
 use native.Mathlib.Decide.{decLt}
 use native.Mathlib.Omega.{arith}
 use lib.ListN.{length, getD}
-use borrow.Author.Tests.{lt-ltb, le-ltb, eq-eqb, ne-eqb}
+use borrow.Author.Tests.{lt-ltb, eq-eqb, ne-eqb}
 use Rattle.finite.specs.DecideLaws.{by-test, is-true, is-false}
 use Rattle.finite.specs.EachLaws.{each-at, each-take}
 use Rattle.finite.specs.BelowLaws.{table-at, table-size}
 use Rattle.line.specs.declared.Train.{Train}
 use Rattle.line.specs.declared.Line.{Line}
 use Rattle.line.specs.Ranges.{In, run}
-use Rattle.line.specs.Record.{legsBetween, legsOf}
 use Rattle.line.specs.Within.{TrainArrays, Arrays}
 use Rattle.line.specs.Runnable.{heldStop, Runnable}
 use Rattle.rules.specs.Statement.Paths.{pastTrain, train, segmentCount, segment, legs, runOf, stopOf, segmentOf, Routed}
 use Rattle.rules.specs.Statement.Minutes.{departs}
 use Rattle.rules.specs.Statement.Delay.{freeArrival}
-use Rattle.rules.specs.StatementLaws.PathsLaws.{segment-within, train-runnable, routed, legs-few, segment-out, segment-in, uses-leg, leg-uses}
+use Rattle.rules.specs.StatementLaws.PathsLaws.{segment-within, train-runnable, routed, legs-few, uses-leg, leg-uses, leg-back}
 use Rattle.orders.specs.Graph.LegsLaws.{Leg, leg-test, train-leg}
-use Rattle.orders.specs.LineTables.Tables.{legTable, tableSize, runIn, stopIn, nextIn, limitIn, weightIn, freeIn, restIn, lastIn, sharedIn, followingIn, opposingIn, legOn, isLast, restAfter, limitOf, legValue, noLegValue, shares, segmentValue, onLeg, legEntry, segmentEntry, tablesOf}
+use Rattle.orders.specs.LineTables.Tables.{legTable, tableSize, runIn, stopIn, nextIn, limitIn, weightIn, freeIn, restIn, lastIn, sharedIn, followingIn, opposingIn, isLast, restAfter, limitOf, legValue, noLegValue, shares, segmentValue, onLeg, legEntry, segmentEntry, tablesOf}
 use Rattle.orders.specs.LineTables.TablesLaws.{no-segment-is, segments-first, legs-later}
 
 -- ---- one list of tables
@@ -44,21 +43,6 @@ segment-entry l n p x a b q =
     table-at _ tableSize x (omega arith) ∙ sym (segments-first l x (omega arith)) ∙ rw (s, t) refl
 
 -- ---- a leg by its segment
-
-inbound-back : (o d k p : ℕ) → d ≤ o → 1 ≤ d → k < legsBetween o d → o - 2 - k ≡ p → o - 1 - 1 - p ≡ k
-inbound-back o d k p a b h e = let inside : k + 2 ≤ o = omega (arith, a, b, h) in turned inside e
-  where
-    turned : {o k p : ℕ} → k + 2 ≤ o → o - 2 - k ≡ p → o - 1 - 1 - p ≡ k
-    turned a e = omega arith
-
--- the leg on the segment of leg k is leg k
-leg-back : (t : Train) → Routed t → (k : ℕ) → k < legsOf t → legOn t (segmentOf t k) ≡ k
-leg-back t r k h = elim (decLt (t .origin) (t .destination)) [
-  | yes o ↦ rw (lt-ltb (t .origin) (t .destination) o) (omega (arith, segment-out (t .origin) (t .destination) k o))
-  | no o ↦
-      let back : t .destination ≤ t .origin = omega arith in
-      rw (le-ltb (t .origin) (t .destination) back) (inbound-back _ _ k _ back (r .destination .0) h (segment-in (t .origin) (t .destination) k back))
-]
 
 module _ (l : Line) (f : ℕ → ℕ → ℕ) (z : ℕ) where
   pub on-leg : (i k : ℕ) → i < l .traffic .«train_count» → i < 16 → Routed (train l i) → k < legs l i →

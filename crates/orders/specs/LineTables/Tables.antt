@@ -11,7 +11,7 @@ use Rattle.line.specs.declared.Segment.{Segment}
 use Rattle.line.specs.declared.Train.{Train}
 use Rattle.line.specs.declared.Line.{Line}
 use Rattle.line.specs.Record.{legsOf}
-use Rattle.rules.specs.Statement.Paths.{train, segmentCount, segment, runOf, stopOf, legs, outbound, segmentOf}
+use Rattle.rules.specs.Statement.Paths.{train, segmentCount, segment, runOf, stopOf, legs, segmentOf, legOn}
 use Rattle.rules.specs.Conflict.Directions.{usesBetween}
 use Rattle.rules.specs.Statement.Delay.{freeArrival}
 
@@ -67,10 +67,6 @@ unfoldable pub costIn : List ℕ → List ℕ → ℕ
 costIn t m = sum (λ e. weightIn t e * (getD m (176 + e) 0 - freeIn t e)) 176
 
 -- ---- of a leg
-
--- the leg of a train on segment p
-abbrev pub legOn : Train → ℕ → ℕ
-legOn t p = cond (outbound t) (p - (t .origin - 1)) (t .origin - 1 - 1 - p)
 
 abbrev pub isLast : Train → ℕ → Bool
 isLast t k = eqb (k + 1) (legsOf t)

@@ -13,11 +13,11 @@ use Rattle.line.specs.declared.Train.{Train}
 use Rattle.line.specs.declared.Line.{Line}
 use Rattle.line.specs.Record.{legsOf}
 use Rattle.line.specs.Runnable.{Runnable}
-use Rattle.rules.specs.Statement.Paths.{train, segmentCount, segment, runOf, stopOf, legs, segmentOf, Uses, Routed}
+use Rattle.rules.specs.Statement.Paths.{train, segmentCount, segment, runOf, stopOf, legs, segmentOf, legOn, Uses, Routed}
 use Rattle.rules.specs.StatementLaws.PathsLaws.{run-most, stop-most}
 use Rattle.rules.specs.Statement.Delay.{freeAfter, freeArrival}
 use Rattle.orders.specs.Graph.LegsLaws.{Leg, leg-test}
-use Rattle.orders.specs.LineTables.Tables.{tableSize, legOn, nextLeg, lastLeg, restOf, stopAfter, restAfter, limitOf, atLast, legValue, noLegValue, shares, segmentValue, legEntry, segmentEntry, tableEntry, tablesOf}
+use Rattle.orders.specs.LineTables.Tables.{tableSize, nextLeg, lastLeg, restOf, stopAfter, restAfter, limitOf, atLast, legValue, noLegValue, shares, segmentValue, legEntry, segmentEntry, tableEntry, tablesOf}
 use Rattle.orders.specs.LineTables.FillLaws.{Begun, begun-all}
 
 -- ---- a path

@@ -19,7 +19,7 @@ pub record EarliestArrival (l : Line) (i a : ℕ) : Type 0 where
   pub earliest : (m : List ℕ) → TrainRules l m i → a ≤ lastArrival l m i
 
 -- when train i, alone on the line, arrives after its leg k: it departs when its stop is over, and not before its booking. After the last leg that is
--- its free arrival, and the earliest (`free-earliest` in `orders/LeastMinutes/FirstPlanLaws`).
+-- its free arrival, and the earliest (`free-earliest` in `StatementLaws/FreeArrivalLaws`).
 unfoldable pub freeAfter : Line → ℕ → ℕ → ℕ
 freeAfter l i zero = train l i .earliest + runOf l i 0
 freeAfter l i (suc k) = max (freeAfter l i k + stopOf l i k) (floorOf l i (suc k)) + runOf l i (suc k)

@@ -68,6 +68,10 @@ segmentBetween o d k = cond (ltb o d) (o - 1 + k) (o - 1 - 1 - k)
 abbrev pub segmentOf : Train → ℕ → ℕ
 segmentOf t k = segmentBetween (t .origin) (t .destination) k
 
+-- its leg on a segment of its path
+abbrev pub legOn : Train → ℕ → ℕ
+legOn t p = cond (outbound t) (p - (t .origin - 1)) (t .origin - 1 - 1 - p)
+
 -- the leg that begins at a station of its path, by the station's number
 abbrev pub legFrom : Train → ℕ → ℕ
 legFrom t s = legsBetween (t .origin) s

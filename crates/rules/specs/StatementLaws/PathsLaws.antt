@@ -18,7 +18,7 @@ use Rattle.line.specs.Ranges.{In, run}
 use Rattle.line.specs.Record.{noSegment, legsBetween, legsOf}
 use Rattle.line.specs.Within.{SegmentWithin}
 use Rattle.line.specs.Runnable.{heldStop, TrainRunnable, Runnable}
-use Rattle.rules.specs.Statement.Paths.{segmentCount, segment, pastTrain, train, runOf, stopOf, legs, Uses, segmentBetween, segmentOf, Middle, into, outOf, Routed}
+use Rattle.rules.specs.Statement.Paths.{segmentCount, segment, pastTrain, train, runOf, stopOf, legs, Uses, segmentBetween, segmentOf, legOn, Middle, into, outOf, Routed}
 use Rattle.rules.specs.Statement.Rules.{middle}
 
 -- ---- the segment and the train of an index
@@ -119,6 +119,21 @@ module _ (t : Train) (r : Routed t) where
         let back : t .destination ≤ t .origin = omega arith in
         omega (arith, segment-in (t .origin) (t .destination) j back, segment-in (t .origin) (t .destination) k back, r .destination)
   ]
+
+inbound-back : (o d k p : ℕ) → d ≤ o → 1 ≤ d → k < legsBetween o d → o - 2 - k ≡ p → o - 1 - 1 - p ≡ k
+inbound-back o d k p a b h e = let inside : k + 2 ≤ o = omega (arith, a, b, h) in turned inside e
+  where
+    turned : {o k p : ℕ} → k + 2 ≤ o → o - 2 - k ≡ p → o - 1 - 1 - p ≡ k
+    turned a e = omega arith
+
+-- the leg on the segment of leg k is leg k
+pub leg-back : (t : Train) → Routed t → (k : ℕ) → k < legsOf t → legOn t (segmentOf t k) ≡ k
+leg-back t r k h = elim (decLt (t .origin) (t .destination)) [
+  | yes o ↦ rw (lt-ltb (t .origin) (t .destination) o) (omega (arith, segment-out (t .origin) (t .destination) k o))
+  | no o ↦
+      let back : t .destination ≤ t .origin = omega arith in
+      rw (le-ltb (t .origin) (t .destination) back) (inbound-back _ _ k _ back (r .destination .0) h (segment-in (t .origin) (t .destination) k back))
+]
 
 -- ---- middle stations
 

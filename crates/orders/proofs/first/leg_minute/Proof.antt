@@ -4,7 +4,8 @@ use native.Mathlib.Omega.{arith}
 use borrow.Author.Needs.{needs}
 use Rattle.rules.specs.StatementLaws.PathsLaws.{legs-most}
 use Rattle.orders.specs.Graph.LegsLaws.{leg-path}
-use Rattle.orders.specs.LeastMinutes.FirstPlanLaws.{run-free, minute-departs, minute-arrives}
+use Rattle.rules.specs.StatementLaws.FreeArrivalLaws.{run-free}
+use Rattle.orders.specs.LeastMinutes.FirstPlanLaws.{minute-departs, minute-arrives}
 use Rattle.orders.proofs.first.leg_minute.Statement.{statement}
 use Rattle.orders.proofs.first.leg_minute.Tie as tie
 
