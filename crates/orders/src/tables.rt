@@ -6,6 +6,7 @@ ghost use lib.ListN.{length};
 ghost use Rattle.line.specs.Record.{legsOf};
 ghost use Rattle.line.specs.Runnable.{Runnable};
 ghost use Rattle.rules.specs.Statement.Paths.{legs, legOn, Uses, Routed};
+ghost use Rattle.rules.specs.Check.Floors.{Floors};
 ghost use Rattle.orders.specs.LineTables.Tables.{tableSize, sharedIn, followingIn, opposingIn, runIn, stopIn, nextIn, limitIn, weightIn, freeIn, restIn, lastIn, nextLeg, lastLeg, restOf, stopAfter, limitOf, noLegValue, shares, segmentValue, legEntry, tableEntry, tablesOf};
 ghost use Rattle.orders.specs.Graph.LegsLaws.{Leg};
 ghost use Rattle.orders.specs.LineTables.FillLaws.{Begun};
@@ -14,6 +15,7 @@ use line::Line;
 use line::Segment;
 use line::Train;
 use line::legs_between;
+use rules::bookings::floors_of;
 use rules::delay::free_after;
 use rules::directions::directions_of;
 use rules::rules::segment_between;
@@ -196,8 +198,8 @@ fn limit_of(line: Line, i: usize, k: usize) -> u16
 }
 
 // Entry e of table n of legs, where it is a leg of a train.
-fn leg_entry(n: usize, line: Line, e: usize) -> u16
-    requires { ⌜ Runnable line × (n < 8) × (e < 176) × Leg line e ⌝ }
+fn leg_entry(n: usize, line: Line, floors: &[u16], e: usize) -> u16
+    requires { ⌜ Runnable line × Floors line (now floors) × (n < 8) × (e < 176) × Leg line e ⌝ }
     ensures { λ r. ⌜ r ≡ legEntry line n e ⌝ }
 {
     let i = e % 16;
@@ -230,7 +232,7 @@ fn leg_entry(n: usize, line: Line, e: usize) -> u16
     if n == 4 {
         return train.weight;
     }
-    free_after(line, i, k)
+    free_after(line, floors, i, k)
 }
 
 // Entry e of table n of legs, where it is no train's leg.
@@ -299,6 +301,7 @@ pub fn tables_of(line: Line) -> Tables
     ensures { λ r. ⌜ r ≡ tablesOf line ⌝ }
 {
     let ds = directions_of(line);
+    let floors = floors_of(line);
     let mut table = segment_tables(line);
     let mut x: usize = 48;
     while x < TABLE_SIZE {
@@ -306,7 +309,7 @@ pub fn tables_of(line: Line) -> Tables
         let e = (x - 48) % 176;
         let mut entry = no_leg_entry(n, e);
         if ds[e] != 0 {
-            entry = leg_entry(n, line, e);
+            entry = leg_entry(n, line, &floors, e);
         }
         table[x] = entry;
         x = x + 1;

@@ -1,32 +1,18 @@
-// Bookings by train and leg: whether a train keeps its own, and the minute before which it does not depart.
+// Bookings by train and leg: the minutes before which the trains do not depart, and whether they keep them.
 ghost use mathlib.Core.Path.{_≡_};
-ghost use Prim.Native.Nat.{_+_, _<_, max};
-ghost use lib.ListN.{length};
-ghost use Rattle.line.specs.Record.{legsOf};
+ghost use Prim.Native.Nat.{_+_, _*_, _≤_, _<_, max};
+ghost use lib.ListN.{length, getD};
+ghost use Rattle.finite.specs.Below.{EachBelow};
+ghost use Rattle.line.specs.Record.{noBooking};
 ghost use Rattle.line.specs.Runnable.{Runnable};
 ghost use Rattle.line.specs.Within.{Within};
-ghost use Rattle.rules.specs.Statement.Paths.{Routed, legFrom};
-ghost use Rattle.rules.specs.Statement.Bookings.{bookedMinute, floorOf};
-ghost use Rattle.rules.specs.Check.Tests.{keepsBooking, bookedRight};
+ghost use Rattle.rules.specs.Check.Floors.{Floors, FloorsBy, HasEntry};
+ghost use Rattle.rules.specs.Check.Tests.{bookedRight};
 use crate::rules::departure_of;
 use line::Booking;
 use line::Line;
 use line::Train;
 use line::legs_between;
-
-// The minute of a booking, if it is for the departure of a train, which is train i, on its leg k, or else 0.
-fn booked_minute(booking: Booking, train: Train, i: usize, k: usize) -> u16
-    requires { ⌜ i < 12 ⌝ }
-    ensures { λ r. ⌜ r ≡ bookedMinute train i k booking ⌝ }
-{
-    if booking.train as usize != i + 1 {
-        return 0;
-    }
-    if legs_between(train.origin, booking.station) != k {
-        return 0;
-    }
-    booking.minute
-}
 
 // The later of two minutes.
 pub fn later(a: u16, b: u16) -> u16
@@ -35,52 +21,58 @@ pub fn later(a: u16, b: u16) -> u16
     if a < b { b } else { a }
 }
 
-// The minute booked for train i on its leg k, or 0 where there is none.
-pub fn floor_of(line: Line, i: usize, k: usize) -> u16
-    requires { ⌜ Runnable line × (i < line .traffic .«train_count») ⌝ }
-    ensures { λ r. ⌜ r ≡ floorOf line i k ⌝ }
+// The floors of these trains by these bookings. The arrays come by themselves: a loop that took them out of a line would copy them each time.
+fn floors_by(bookings: [Booking; 120], count: usize, trains: [Train; 12]) -> [u16; 176]
+    requires { ⌜ (count ≤ 120) × EachBelow count (λ j. HasEntry trains (getD bookings j noBooking)) ⌝ }
+    ensures { λ r. ⌜ FloorsBy trains bookings count r ⌝ }
 {
-    let n = line.booked.booking_count as usize;
-    let mut floor: u16 = 0;
+    let mut floors = [0u16; 176];
     let mut j: usize = 0;
-    while j < n {
-        let booked = line.booked;
-        let booking = booked.bookings[j];
-        let traffic = line.traffic;
-        floor = later(floor, booked_minute(booking, traffic.trains[i], i, k));
+    while j < count {
+        let booking = bookings[j];
+        let i = booking.train as usize - 1;
+        let train = trains[i];
+        let e = 16 * legs_between(train.origin, booking.station) + i;
+        floors[e] = later(floors[e], booking.minute);
         j = j + 1;
     }
-    floor
+    floors
 }
 
-// Rule 18 of a booking, if it is one of a train, which is train i.
-fn keeps_booking(booking: Booking, train: Train, m: &[u16], i: usize) -> bool
-    requires { ⌜ Routed train × (length (now m) ≡ 352) × (i < 12) × (booking .train ≡ i + 1 → legFrom train (booking .station) < legsOf train) ⌝ }
-    ensures { λ r. ⌜ r ≡ keepsBooking train (now (m .entry)) i booking ⌝ }
+// The floors under the departures of a line's trains: the minute booked for train i on its leg k at entry 16 k + i, or 0 where there is none.
+pub fn floors_of(line: Line) -> [u16; 176]
+    requires { ⌜ Runnable line ⌝ }
+    ensures { λ r. ⌜ Floors line r ⌝ }
 {
-    if booking.train as usize != i + 1 {
-        return true;
-    }
-    let k = legs_between(train.origin, booking.station);
-    booking.minute <= departure_of(train, m, i, k)
+    let booked = line.booked;
+    let bookings = booked.bookings;
+    let traffic = line.traffic;
+    let trains = traffic.trains;
+    floors_by(bookings, booked.booking_count as usize, trains)
 }
 
-// Rule 18 of every booking of train i.
-pub fn booked_right(line: Line, m: &[u16], i: usize) -> bool
-    requires { ⌜ Within line × (length (now m) ≡ 352) × (i < line .traffic .«train_count») ⌝ }
+// The floor of train i on its leg k.
+pub fn floor_at(floors: &[u16], i: usize, k: usize) -> u16
+    requires { ⌜ (length (now floors) ≡ 176) × (i < 12) × (k < 11) ⌝ }
+    ensures { λ r. ⌜ r ≡ getD (now (floors .entry)) (16 * k + i) 0 ⌝ }
+{
+    floors[16 * k + i]
+}
+
+// Rule 18 of train i: it departs on no leg before its floor.
+pub fn booked_right(line: Line, floors: &[u16], m: &[u16], i: usize) -> bool
+    requires { ⌜ Within line × Floors line (now floors) × (length (now m) ≡ 352) × (i < line .traffic .«train_count») ⌝ }
     ensures { λ r. ⌜ r ≡ bookedRight line (now (m .entry)) i ⌝ }
 {
     let traffic = line.traffic;
     let train = traffic.trains[i];
-    let n = line.booked.booking_count as usize;
-    let mut j: usize = 0;
-    while j < n {
-        let booked = line.booked;
-        let booking = booked.bookings[j];
-        if !keeps_booking(booking, train, m, i) {
+    let legs = legs_between(train.origin, train.destination);
+    let mut k: usize = 0;
+    while k < legs {
+        if departure_of(train, m, i, k) < floor_at(floors, i, k) {
             return false;
         }
-        j = j + 1;
+        k = k + 1;
     }
     true
 }

@@ -5,7 +5,9 @@ ghost use lib.ListN.{length};
 ghost use Rattle.line.specs.Runnable.{Runnable};
 ghost use Rattle.rules.specs.Statement.Paths.{legs};
 ghost use Rattle.rules.specs.Statement.Delay.{freeAfter, freeArrival, weightedDelay};
-use crate::bookings::floor_of;
+ghost use Rattle.rules.specs.Check.Floors.{Floors};
+use crate::bookings::floor_at;
+use crate::bookings::floors_of;
 use crate::bookings::later;
 use crate::passages::wide;
 use crate::rules::arrival_of;
@@ -13,8 +15,8 @@ use line::Line;
 use line::legs_between;
 
 // When train i, alone on the line, arrives after its leg k.
-pub fn free_after(line: Line, i: usize, k: usize) -> u16
-    requires { ⌜ Runnable line × (i < line .traffic .«train_count») × (k < legs line i) ⌝ }
+pub fn free_after(line: Line, floors: &[u16], i: usize, k: usize) -> u16
+    requires { ⌜ Runnable line × Floors line (now floors) × (i < line .traffic .«train_count») × (k < legs line i) ⌝ }
     ensures { λ r. ⌜ r ≡ freeAfter line i k ⌝ }
 {
     let traffic = line.traffic;
@@ -25,7 +27,7 @@ pub fn free_after(line: Line, i: usize, k: usize) -> u16
     let mut j: usize = 0;
     while j < k {
         let ready = arrival + stops[j];
-        let departure = later(ready, floor_of(line, i, j + 1));
+        let departure = later(ready, floor_at(floors, i, j + 1));
         arrival = departure + runs[j + 1];
         j = j + 1;
     }
@@ -33,18 +35,19 @@ pub fn free_after(line: Line, i: usize, k: usize) -> u16
 }
 
 // When train i, alone on the line, comes to its destination.
-pub fn free_arrival(line: Line, i: usize) -> u16
-    requires { ⌜ Runnable line × (i < line .traffic .«train_count») ⌝ }
+pub fn free_arrival(line: Line, floors: &[u16], i: usize) -> u16
+    requires { ⌜ Runnable line × Floors line (now floors) × (i < line .traffic .«train_count») ⌝ }
     ensures { λ r. ⌜ r ≡ freeArrival line i ⌝ }
 {
     let traffic = line.traffic;
     let train = traffic.trains[i];
-    free_after(line, i, legs_between(train.origin, train.destination) - 1)
+    let last = legs_between(train.origin, train.destination) - 1;
+    free_after(line, floors, i, last)
 }
 
-// The sum of weight times delay.
-pub fn weighted_delay(line: Line, m: &[u16]) -> u32
-    requires { ⌜ Runnable line × (length (now m) ≡ 352) ⌝ }
+// The sum of weight times delay, by the floors of the line.
+fn delay_by(line: Line, floors: &[u16], m: &[u16]) -> u32
+    requires { ⌜ Runnable line × Floors line (now floors) × (length (now m) ≡ 352) ⌝ }
     ensures { λ r. ⌜ r ≡ weightedDelay line (now (m .entry)) ⌝ }
 {
     let n = line.traffic.train_count as usize;
@@ -55,11 +58,20 @@ pub fn weighted_delay(line: Line, m: &[u16]) -> u32
         let train = traffic.trains[i];
         let last = legs_between(train.origin, train.destination) - 1;
         let arrival = wide(arrival_of(train, m, i, last));
-        let free = wide(free_arrival(line, i));
+        let free = wide(free_arrival(line, floors, i));
         if free < arrival {
             total = total + wide(train.weight) * (arrival - free);
         }
         i = i + 1;
     }
     total
+}
+
+// The sum of weight times delay.
+pub fn weighted_delay(line: Line, m: &[u16]) -> u32
+    requires { ⌜ Runnable line × (length (now m) ≡ 352) ⌝ }
+    ensures { λ r. ⌜ r ≡ weightedDelay line (now (m .entry)) ⌝ }
+{
+    let floors = floors_of(line);
+    delay_by(line, &floors, m)
 }

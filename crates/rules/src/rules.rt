@@ -5,9 +5,11 @@ ghost use lib.ListN.{length};
 ghost use Rattle.line.specs.Record.{legsBetween, legsOf};
 ghost use Rattle.line.specs.Within.{Within};
 ghost use Rattle.rules.specs.Statement.Paths.{Routed, segmentBetween};
+ghost use Rattle.rules.specs.Check.Floors.{Floors};
 ghost use Rattle.rules.specs.Check.Tests.{departureOf, arrivalOf, startsRight, runsRight, stopsRight, endsRight, keepsRule};
 ghost use Rattle.rules.specs.Check.Breaches.{trainBreach, placeOf, conflictBreach, breachOf};
 use crate::bookings::booked_right;
+use crate::bookings::floors_of;
 use crate::conflicts::Conflict;
 use crate::conflicts::layout_of;
 use crate::conflicts::lowest_conflict;
@@ -117,8 +119,8 @@ fn ends_right(line: Line, m: &[u16], i: usize) -> bool
 }
 
 // The rule of this number, of train i by itself.
-fn keeps_rule(rule: u8, line: Line, m: &[u16], i: usize) -> bool
-    requires { ⌜ Within line × (length (now m) ≡ 352) × (i < line .traffic .«train_count») ⌝ }
+fn keeps_rule(rule: u8, line: Line, floors: &[u16], m: &[u16], i: usize) -> bool
+    requires { ⌜ Within line × Floors line (now floors) × (length (now m) ≡ 352) × (i < line .traffic .«train_count») ⌝ }
     ensures { λ r. ⌜ r ≡ keepsRule rule line (now (m .entry)) i ⌝ }
 {
     if rule == 10 {
@@ -131,7 +133,7 @@ fn keeps_rule(rule: u8, line: Line, m: &[u16], i: usize) -> bool
         return stops_right(line, m, i);
     }
     if rule == 18 {
-        return booked_right(line, m, i);
+        return booked_right(line, floors, m, i);
     }
     if rule == 13 {
         return ends_right(line, m, i);
@@ -140,14 +142,14 @@ fn keeps_rule(rule: u8, line: Line, m: &[u16], i: usize) -> bool
 }
 
 // The lowest train that breaks the rule.
-fn train_breach(rule: u8, line: Line, m: &[u16]) -> Breach
-    requires { ⌜ Within line × (length (now m) ≡ 352) ⌝ }
+fn train_breach(rule: u8, line: Line, floors: &[u16], m: &[u16]) -> Breach
+    requires { ⌜ Within line × Floors line (now floors) × (length (now m) ≡ 352) ⌝ }
     ensures { λ r. ⌜ r ≡ trainBreach rule line (now (m .entry)) ⌝ }
 {
     let n = line.traffic.train_count as usize;
     let mut i: usize = 0;
     while i < n {
-        if !keeps_rule(rule, line, m, i) {
+        if !keeps_rule(rule, line, floors, m, i) {
             return Breach::Rule(rule, i + 1);
         }
         i = i + 1;
@@ -166,31 +168,40 @@ fn conflict_breach(conflict: Conflict) -> Breach
     }
 }
 
-// The first rule that the minutes break.
-pub fn breach_of(line: Line, m: &[u16]) -> Breach
-    requires { ⌜ Within line × (length (now m) ≡ 352) ⌝ }
+// The first rule that the minutes break, by the floors of the line.
+fn breach_by(line: Line, floors: &[u16], m: &[u16]) -> Breach
+    requires { ⌜ Within line × Floors line (now floors) × (length (now m) ≡ 352) ⌝ }
     ensures { λ r. ⌜ r ≡ breachOf line (now (m .entry)) ⌝ }
 {
-    let early = train_breach(10, line, m);
+    let early = train_breach(10, line, floors, m);
     let Breach::None = early else {
         return early;
     };
-    let run = train_breach(11, line, m);
+    let run = train_breach(11, line, floors, m);
     let Breach::None = run else {
         return run;
     };
-    let stop = train_breach(12, line, m);
+    let stop = train_breach(12, line, floors, m);
     let Breach::None = stop else {
         return stop;
     };
-    let booked = train_breach(18, line, m);
+    let booked = train_breach(18, line, floors, m);
     let Breach::None = booked else {
         return booked;
     };
-    let late = train_breach(13, line, m);
+    let late = train_breach(13, line, floors, m);
     let Breach::None = late else {
         return late;
     };
     let directions = directions_of(line);
     conflict_breach(lowest_conflict(layout_of(line), &directions, m))
+}
+
+// The first rule that the minutes break.
+pub fn breach_of(line: Line, m: &[u16]) -> Breach
+    requires { ⌜ Within line × (length (now m) ≡ 352) ⌝ }
+    ensures { λ r. ⌜ r ≡ breachOf line (now (m .entry)) ⌝ }
+{
+    let floors = floors_of(line);
+    breach_by(line, &floors, m)
 }

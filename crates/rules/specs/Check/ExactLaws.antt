@@ -234,7 +234,7 @@ module _ (l : Line) (w : Within l) (a : Arrays l) (m : List ℕ) where
           rule10 = decides-10 l m i .yea (none-breach 10 l m (r10 .0) i b);
           rule11 = decides-11 l m i .yea (none-breach 11 l m (r11 .0) i b);
           rule12 = decides-12 l m i .yea (none-breach 12 l m (r12 .0) i b);
-          rule18 = decides-18 l m i .yea (none-breach 18 l m (r18 .0) i b);
+          rule18 = decides-18 l m i (within-runnable l w) .yea (none-breach 18 l m (r18 .0) i b);
         };
         rule13 = λ i b. decides-13 l m i .yea (none-breach 13 l m (r13 .0) i b);
         rule14 = c .0;
@@ -248,7 +248,7 @@ module _ (l : Line) (w : Within l) (a : Arrays l) (m : List ℕ) where
       let b10 = sym (breach-none 10 l m (λ i b. is-true (decides-10 l m i) (k .trains i b .rule10))) in
       let b11 = sym (breach-none 11 l m (λ i b. is-true (decides-11 l m i) (k .trains i b .rule11))) in
       let b12 = sym (breach-none 12 l m (λ i b. is-true (decides-12 l m i) (k .trains i b .rule12))) in
-      let b18 = sym (breach-none 18 l m (λ i b. is-true (decides-18 l m i) (k .trains i b .rule18))) in
+      let b18 = sym (breach-none 18 l m (λ i b. is-true (decides-18 l m i (within-runnable l w)) (k .trains i b .rule18))) in
       let b13 = sym (breach-none 13 l m (λ i b. is-true (decides-13 l m i) (k .rule13 i b))) in
       rw (b10, b11, b12, b18, b13, clear-segments (k .rule14), clear-stations (k .rule15)) refl
 

@@ -13,6 +13,7 @@ use Rattle.finite.specs.Below.{EachBelow, first, IsFirst}
 use Rattle.finite.specs.LoopLaws.{first-is}
 use Rattle.line.specs.declared.Line.{Line}
 use Rattle.line.specs.Within.{Within, Arrays}
+use Rattle.line.specs.RunnableLaws.{within-runnable}
 use Rattle.rules.specs.declared.conflicts.Conflict.{Conflict}
 use Rattle.rules.specs.declared.rules.Breach.{Breach}
 use Rattle.rules.specs.Statement.Paths.{segmentCount, segment}
@@ -215,7 +216,7 @@ module _ (l : Line) (w : Within l) (a : Arrays l) (m : List ℕ) where
       says-then l m early (run ∷ stop ∷ booked ∷ late ∷ gap ∷ tracks ∷ []) (trainBreach 10 l m) (orBreach (trainBreach 11 l m) b12) (train-says l m early refl (decides-10 l m)) (
       says-then l m run (stop ∷ booked ∷ late ∷ gap ∷ tracks ∷ []) (trainBreach 11 l m) b12 (train-says l m run refl (decides-11 l m)) (
       says-then l m stop (booked ∷ late ∷ gap ∷ tracks ∷ []) (trainBreach 12 l m) b18 (train-says l m stop refl (decides-12 l m)) (
-      says-then l m booked (late ∷ gap ∷ tracks ∷ []) (trainBreach 18 l m) b13 (train-says l m booked refl (decides-18 l m)) (
+      says-then l m booked (late ∷ gap ∷ tracks ∷ []) (trainBreach 18 l m) b13 (train-says l m booked refl (λ i. decides-18 l m i (within-runnable l w))) (
       says-then l m late (gap ∷ tracks ∷ []) (trainBreach 13 l m) b14 (train-says l m late refl (decides-13 l m)) conflicts-say))))
 
   -- the breach that is found is the first that the minutes have

@@ -2,7 +2,7 @@
 use Prim.Native.Nat.{ℕ, zero, suc, _+_, _*_, _-_, _≤_, _<_, max}
 use mathlib.Core.Path.{_≡_, refl, sym, _∙_, ap}
 use mathlib.Core.Logic.{⊎-elim}
-use mathlib.Core.Bool.{Bool, true, false, true≢false}
+use mathlib.Core.Bool.{Bool, true}
 use mathlib.Core.List.{List}
 use native.Mathlib.Nat.{mul-zero, mul-le-mul, mul-le-mul-left}
 use native.Mathlib.Numerals.{add-one}
@@ -11,7 +11,7 @@ use borrow.Author.Tests.{ne-eqb}
 use lib.ListN.{getD}
 use lib.Dec.{leb}
 use Rattle.finite.specs.Decide.{Decides}
-use Rattle.finite.specs.DecideLaws.{is-true, is-false, decides-self, decides-and, decides-if, decides-le, decides-eq}
+use Rattle.finite.specs.DecideLaws.{is-true, decides-as, decides-and, decides-le, decides-eq}
 use Rattle.finite.specs.Below.{EachBelow, count, sum}
 use Rattle.finite.specs.LoopLaws.{count-grows, sum-more, decides-all}
 use Rattle.finite.specs.BelowLaws.{sum-most, sum-grows}
@@ -19,14 +19,14 @@ use Rattle.line.specs.declared.Train.{Train}
 use Rattle.line.specs.declared.Line.{Line}
 use Rattle.line.specs.Record.{legsOf}
 use Rattle.line.specs.Runnable.{Runnable}
-use Rattle.rules.specs.Statement.Paths.{train, booking, legFrom, runOf, stopOf, legs, tracksAt, EachTrain}
+use Rattle.rules.specs.Statement.Paths.{train, runOf, stopOf, legs, tracksAt, EachTrain}
 use Rattle.rules.specs.Statement.Minutes.{departure, arrival, lastArrival}
 use Rattle.rules.specs.StatementLaws.PathsLaws.{routed-runnable, legs-few, train-or-past, run-most, stop-most, decides-middle}
 use Rattle.rules.specs.Statement.Bookings.{floorOf}
-use Rattle.rules.specs.StatementLaws.BookingsLaws.{floor-most}
+use Rattle.rules.specs.StatementLaws.BookingsLaws.{floors-kept, kept-floors, booked-leg, floor-most}
 use Rattle.rules.specs.Statement.Delay.{freeAfter, freeArrival, delay, weightedDelay}
 use Rattle.rules.specs.Statement.Rules.{InDays, NotEarly, Runs, Stops, KeepsBookings, NotLate, stands, Stands, standing, Room}
-use Rattle.rules.specs.Check.Tests.{departureOf, arrivalOf, startsRight, runsRight, stopsRight, keepsBooking, bookedRight, endsRight, keepsRule}
+use Rattle.rules.specs.Check.Tests.{departureOf, arrivalOf, startsRight, runsRight, stopsRight, bookedRight, endsRight, keepsRule}
 
 -- ---- free arrival
 
@@ -111,9 +111,9 @@ RunAt t m i k = arrivalOf t m i k ≡ departureOf t m i k + getD (t .runs) k 0
 abbrev pub StopAt : Train → List ℕ → ℕ → ℕ → Type 0
 StopAt t m i k = arrivalOf t m i k + getD (t .stops) k 0 ≤ departureOf t m i (k + 1)
 
--- booking j is kept, if it is one of train i
-abbrev pub BookingAt : Line → List ℕ → ℕ → ℕ → Type 0
-BookingAt l m i j = booking l j .train ≡ i + 1 → booking l j .minute ≤ departure l m i (legFrom (train l i) (booking l j .station))
+-- it does not depart on leg k before its floor
+abbrev pub FloorAt : Line → List ℕ → ℕ → ℕ → Type 0
+FloorAt l m i k = floorOf l i k ≤ departure l m i k
 
 module _ (l : Line) (m : List ℕ) (i : ℕ) where
   pub decides-starts : Decides (NotEarly l m i) (startsRight l m i)
@@ -128,24 +128,12 @@ module _ (l : Line) (m : List ℕ) (i : ℕ) where
   unfolding stopsRight
   decides-stops = decides-all (StopAt (train l i) m i) _ (legs l i - 1) (λ k _. decides-le _ _)
 
-  pub decides-booked : Decides (KeepsBookings l m i) (bookedRight l m i)
+  pub decides-floors : Decides (EachBelow (legs l i) (FloorAt l m i)) (bookedRight l m i)
   unfolding bookedRight
-  decides-booked =
-      decides-all (BookingAt l m i) _ (l .booked .«booking_count») (λ j _. decides-if (decides-eq _ _) (decides-le _ _))
+  decides-floors = decides-all (FloorAt l m i) _ (legs l i) (λ k _. decides-le _ _)
 
-  -- as a loop over the bookings finds it
-  abbrev pub BookingKept : ℕ → Type 0
-  BookingKept j = keepsBooking (train l i) m i (booking l j) ≡ true
-
-  decides-kept : Decides (EachBelow (l .booked .«booking_count») BookingKept) (bookedRight l m i)
-  unfolding bookedRight
-  decides-kept = decides-all BookingKept _ (l .booked .«booking_count») (λ j _. decides-self _)
-
-  pub all-booked : EachBelow (l .booked .«booking_count») BookingKept → true ≡ bookedRight l m i
-  all-booked h = sym (is-true decides-kept h)
-
-  pub one-broken : (j : ℕ) → j < l .booked .«booking_count» → keepsBooking (train l i) m i (booking l j) ≡ false → false ≡ bookedRight l m i
-  one-broken j b e = sym (is-false decides-kept (λ h. true≢false (sym (h j b) ∙ e)))
+  decides-booked : Runnable l → Decides (KeepsBookings l m i) (bookedRight l m i)
+  decides-booked w = decides-as (kept-floors l m i (booked-leg l w i)) (λ h k b. floors-kept l m i h k) decides-floors
 
   pub decides-ends : Decides (NotLate l m i) (endsRight l m i)
   unfolding endsRight
@@ -173,7 +161,7 @@ module _ (l : Line) (m : List ℕ) (i : ℕ) where
   unfolding keepsRule
   decides-12 = decides-stops
 
-  pub decides-18 : Decides (KeepsBookings l m i) (keepsRule 18 l m i)
+  pub decides-18 : Runnable l → Decides (KeepsBookings l m i) (keepsRule 18 l m i)
   unfolding keepsRule
   decides-18 = decides-booked
 

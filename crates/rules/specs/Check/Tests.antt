@@ -1,13 +1,13 @@
 -- Rules 10 to 13 and 18 as tests of one train of a line and its minutes; train i of the minutes m.
 use Prim.Native.Nat.{ℕ, _+_, _-_}
-use mathlib.Core.Bool.{Bool, true, cond, not, _||_}
+use mathlib.Core.Bool.{Bool, true, cond}
 use mathlib.Core.List.{List}
 use lib.Dec.{leb, eqb}
 use Rattle.finite.specs.Below.{all}
 use Rattle.line.specs.declared.Train.{Train}
-use Rattle.line.specs.declared.Booking.{Booking}
 use Rattle.line.specs.declared.Line.{Line}
-use Rattle.rules.specs.Statement.Paths.{train, booking, legFrom, runOf, stopOf, legs, segmentOf}
+use Rattle.rules.specs.Statement.Paths.{train, runOf, stopOf, legs, segmentOf}
+use Rattle.rules.specs.Statement.Bookings.{floorOf}
 use Rattle.rules.specs.Statement.Minutes.{departsOn, arrivesOn, departure, arrival, lastArrival}
 
 -- the minutes of leg k of a train on this path
@@ -26,12 +26,9 @@ runsRight l m i = all (λ k. eqb (arrival l m i k) (departure l m i k + runOf l 
 unfoldable pub stopsRight : Line → List ℕ → ℕ → Bool
 stopsRight l m i = all (λ k. leb (arrival l m i k + stopOf l i k) (departure l m i (k + 1))) (legs l i - 1)
 
--- of one booking, if it is one of the train
-abbrev pub keepsBooking : Train → List ℕ → ℕ → Booking → Bool
-keepsBooking t m i b = not (eqb (b .train) (i + 1)) || leb (b .minute) (departureOf t m i (legFrom t (b .station)))
-
+-- no departure is before its floor
 unfoldable pub bookedRight : Line → List ℕ → ℕ → Bool
-bookedRight l m i = all (λ j. keepsBooking (train l i) m i (booking l j)) (l .booked .«booking_count»)
+bookedRight l m i = all (λ k. leb (floorOf l i k) (departure l m i k)) (legs l i)
 
 unfoldable pub endsRight : Line → List ℕ → ℕ → Bool
 endsRight l m i = leb (lastArrival l m i) (train l i .latest)

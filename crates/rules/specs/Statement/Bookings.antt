@@ -1,12 +1,15 @@
 -- Bookings of a line by train and leg (document 02, K1).
 use Prim.Native.Nat.{ℕ, _+_}
 use mathlib.Core.Bool.{Bool, cond, _&&_}
+use mathlib.Core.List.{List}
 use lib.Dec.{eqb}
+use lib.ListN.{getD}
 use Rattle.finite.specs.Below.{most}
 use Rattle.line.specs.declared.Booking.{Booking}
 use Rattle.line.specs.declared.Train.{Train}
 use Rattle.line.specs.declared.Line.{Line}
-use Rattle.rules.specs.Statement.Paths.{train, booking, legFrom}
+use Rattle.line.specs.Record.{noBooking}
+use Rattle.rules.specs.Statement.Paths.{pastTrain, train, booking, legFrom}
 
 -- a booking is for the departure of train t, which is train i, on its leg k
 abbrev pub isFor : Train → ℕ → ℕ → Booking → Bool
@@ -20,6 +23,10 @@ bookedMinute t i k b = cond (isFor t i k b) (b .minute) 0
 abbrev pub bookedFor : Line → ℕ → ℕ → ℕ → Bool
 bookedFor l i k j = isFor (train l i) i k (booking l j)
 
--- the minute booked for it, or 0 where there is none: a floor under that departure
+-- the minute booked for leg k of train i, of these trains, by the first n bookings, or 0 where there is none
+abbrev pub floorBy : List Train → List Booking → ℕ → ℕ → ℕ → ℕ
+floorBy trains bookings n i k = most (λ j. bookedMinute (getD trains i pastTrain) i k (getD bookings j noBooking)) n
+
+-- that of a line: a floor under that departure
 unfoldable pub floorOf : Line → ℕ → ℕ → ℕ
-floorOf l i k = most (λ j. bookedMinute (train l i) i k (booking l j)) (l .booked .«booking_count»)
+floorOf l i k = floorBy (l .traffic .trains) (l .booked .bookings) (l .booked .«booking_count») i k

@@ -19,12 +19,15 @@ use Rattle.line.specs.Record.{noTrain, noBooking, trainsOf}
 use Rattle.line.specs.Bookings.{Between, numbered}
 use Rattle.line.specs.Runnable.{BookingRunnable, Runnable}
 use Rattle.rules.specs.Statement.Paths.{pastTrain, train, booking, legFrom, legs}
-use Rattle.rules.specs.Statement.Bookings.{bookedFor, floorOf}
+use Rattle.rules.specs.Statement.Bookings.{isFor, bookedFor, floorOf}
 use Rattle.rules.specs.Statement.Minutes.{departure}
 use Rattle.rules.specs.Statement.Rules.{KeepsBookings}
 
+pub decides-for : (t : Train) (i k : ℕ) (b : Booking) → Decides ((b .train ≡ i + 1) × (legFrom t (b .station) ≡ k)) (isFor t i k b)
+decides-for t i k b = decides-and (decides-eq _ _) (decides-eq _ _)
+
 decides-booked-for : (l : Line) (i k j : ℕ) → Decides ((booking l j .train ≡ i + 1) × (legFrom (train l i) (booking l j .station) ≡ k)) (bookedFor l i k j)
-decides-booked-for l i k j = decides-and (decides-eq _ _) (decides-eq _ _)
+decides-booked-for l i k j = decides-for (train l i) i k (booking l j)
 
 module _ (l : Line) (m : List ℕ) (i : ℕ) where
   pub floors-kept : KeepsBookings l m i → (k : ℕ) → floorOf l i k ≤ departure l m i k

@@ -7,10 +7,10 @@ use Rattle.orders.proofs.first.free_in_time.Statement.{statement}
 use Rattle.orders.proofs.first.free_in_time.Tie as tie
 
 abbrev Inv-loop : tie.InvT-loop
-Inv-loop line n i₀ i = (i ≤ n) × EndsBelow line i
+Inv-loop line floors n i₀ i = (i ≤ n) × EndsBelow line i
 
 abbrev μ-loop : tie.MeasureT-loop
-μ-loop line n i₀ i = n - i
+μ-loop line floors n i₀ i = n - i
 
 cast-n : tie.Need-cast-n Inv-loop μ-loop
 cast-n c = search needs
@@ -30,7 +30,7 @@ free-arrival-requires c κs = search needs
 returns : tie.Need-returns Inv-loop μ-loop
 returns c =
     let t = c .before .before .before .before .before in
-    ends-late (t .before .before .before .args .line) _ (c .before .before .free-arrival .ensures) (t .loop-test .taken) (c .if1 .taken)
+    ends-late (t .before .before .before .before .args .line) _ (c .before .before .free-arrival .ensures) (t .loop-test .taken) (c .if1 .taken)
 
 add-i : tie.Need-add-i Inv-loop μ-loop
 add-i c = search needs
@@ -42,10 +42,10 @@ loop-again : tie.Need-loop-again Inv-loop μ-loop
 loop-again c =
     let t = c .before .before .before .before .before in
     let w = t .before .loop in
-    (omega (arith, t .loop-test .taken), ends-more (t .before .before .before .args .line) (w .i) (c .before .before .free-arrival .ensures) (w .inv .1) (c .if1 .left))
+    (omega (arith, t .loop-test .taken), ends-more (t .before .before .before .before .args .line) (w .i) (c .before .before .free-arrival .ensures) (w .inv .1) (c .if1 .left))
 
 returns-2 : tie.Need-returns-2 Inv-loop μ-loop
-returns-2 c = ends-all (c .before .before .before .args .line) _ (c .before .loop .inv .1) (omega (arith, c .before .loop .inv .0, c .loop-test .left))
+returns-2 c = ends-all (c .before .before .before .before .args .line) _ (c .before .loop .inv .1) (omega (arith, c .before .loop .inv .0, c .loop-test .left))
 
 pub free-in-time-spec : {M : Type 1} → statement M
 free-in-time-spec =

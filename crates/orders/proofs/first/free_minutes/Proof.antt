@@ -13,13 +13,13 @@ use Rattle.orders.proofs.first.free_minutes.Statement.{statement}
 use Rattle.orders.proofs.first.free_minutes.Tie as tie
 
 abbrev Inv-loop : tie.InvT-loop
-Inv-loop line ds minutes₀ x₀ minutes x = (x ≤ 352) × Begun (freeEntry line) 352 x minutes
+Inv-loop line floors ds minutes₀ x₀ minutes x = (x ≤ 352) × Begun (freeEntry line) 352 x minutes
 
 abbrev μ-loop : tie.MeasureT-loop
-μ-loop line ds minutes₀ x₀ minutes x = 352 - x
+μ-loop line floors ds minutes₀ x₀ minutes x = 352 - x
 
 directions-of-requires : tie.Need-directions-of-requires Inv-loop μ-loop
-directions-of-requires c κs = c .pre .trains .1
+directions-of-requires c κs = c .before .pre .0 .trains .1
 
 loop-holds : tie.Need-loop-holds Inv-loop μ-loop
 loop-holds c = (omega arith, begun-none _ 352)
@@ -32,10 +32,10 @@ array-read-if1 c = search needs
 
 leg-minute-requires : tie.Need-leg-minute-requires Inv-loop μ-loop
 leg-minute-requires c κs =
-    let a = c .before .before .before .before in
+    let a = c .before .before .before .before .before in
     let x = c .before .before .loop .x in
     let ds = c .before .before .before .directions-of .ensures in
-    (a .pre, c .before .loop-test .taken, leg-is (a .args .line) (x % 176) _ (a .pre .trains .1) (omega arith) ds (c .if1 .taken))
+    (a .pre .0, a .pre .1, c .before .loop-test .taken, leg-is (a .args .line) (x % 176) _ (a .pre .0 .trains .1) (omega arith) ds (c .if1 .taken))
 
 mul-minutes : tie.Need-mul-minutes Inv-loop μ-loop
 mul-minutes c = search needs
@@ -51,14 +51,14 @@ loop-less c = search needs
 
 loop-again : tie.Need-loop-again Inv-loop μ-loop
 loop-again c =
-    let a = c .before .before .before .before in
+    let a = c .before .before .before .before .before in
     let w = c .before .before .loop in
     let x = w .x in
     let b = c .before .loop-test .taken in
     let minute = ⊎-elim
     (λ h. h .2 ∙ h .1 .ensures)
     (λ h. h .1 ∙ minute-none (a .args .line) x
-    (leg-not (a .args .line) (x % 176) _ (a .pre .trains .1) (omega arith) (c .before .before .before .directions-of .ensures) (h .0 .left)))
+    (leg-not (a .args .line) (x % 176) _ (a .pre .0 .trains .1) (omega arith) (c .before .before .before .directions-of .ensures) (h .0 .left)))
     (c .if1 .came) in
     (omega arith, begun-more (freeEntry (a .args .line)) 352 x _ _ (w .inv .1) b minute)
 

@@ -17,36 +17,36 @@ element-copy-out-train c = search needs
 
 leg-on-requires : tie.Need-leg-on-requires
 leg-on-requires c κs =
-    let a = c .before .before in
-    (leg-path (a .args .line) _ (a .pre .0) (a .pre .2), a .pre .2 .1)
+    let a = c .before .before .before in
+    (leg-path (a .args .line) _ (a .pre .0) (a .pre .3), a .pre .3 .1)
 
 free-after-requires : tie.Need-free-after-requires
 free-after-requires c κs = search needs
 
 mul-result : tie.Need-mul-result
 mul-result c =
-    let a = c .before .before .before .before .before .before in
-    omega (arith, c .before .before .before .leg-on .ensures .1, legs-most (a .args .line) _ (a .pre .0) (a .pre .2 .0))
+    let a = c .before .before .before .before .before .before .before in
+    omega (arith, c .before .before .before .leg-on .ensures .1, legs-most (a .args .line) _ (a .pre .0) (a .pre .3 .0))
 
 array-read-result : tie.Need-array-read-result
 array-read-result c =
-    let a = c .before .before .before .before .before .before in
-    omega (arith, c .before .before .before .leg-on .ensures .1, legs-most (a .args .line) _ (a .pre .0) (a .pre .2 .0))
+    let a = c .before .before .before .before .before .before .before in
+    omega (arith, c .before .before .before .leg-on .ensures .1, legs-most (a .args .line) _ (a .pre .0) (a .pre .3 .0))
 
 sub-result : tie.Need-sub-result
 sub-result c =
-    let a = c .before .before .before .before .before .before in
+    let a = c .before .before .before .before .before .before .before in
     omega (arith, c .before .before .free-after .ensures, run-free (a .args .line) (a .args .x % 176 % 16) (c .before .before .before .leg-on .result))
 
 returns : tie.Need-returns
 returns c =
-    let a = c .before .before .before .before .before .before in
-    minute-departs (a .args .line) (a .args .x) (a .pre .2) (c .before .before .before .leg-on .ensures .0) (c .before .before .free-after .ensures) (c .before .if1 .taken)
+    let a = c .before .before .before .before .before .before .before in
+    minute-departs (a .args .line) (a .args .x) (a .pre .3) (c .before .before .before .leg-on .ensures .0) (c .before .before .free-after .ensures) (c .before .if1 .taken)
 
 returns-2 : tie.Need-returns-2
 returns-2 c =
-    let a = c .before .before .before .before .before in
-    minute-arrives (a .args .line) (a .args .x) (a .pre .2) (c .before .before .leg-on .ensures .0) (c .before .free-after .ensures) (c .if1 .left)
+    let a = c .before .before .before .before .before .before in
+    minute-arrives (a .args .line) (a .args .x) (a .pre .3) (c .before .before .leg-on .ensures .0) (c .before .free-after .ensures) (c .if1 .left)
 
 pub leg-minute-spec : {M : Type 1} → statement M
 leg-minute-spec =

@@ -13,13 +13,16 @@ use Rattle.orders.proofs.tables.tables_of.Statement.{statement}
 use Rattle.orders.proofs.tables.tables_of.Tie as tie
 
 abbrev Inv-loop : tie.InvT-loop
-Inv-loop line ds table₀ x₀ table x = (48 ≤ x) × (x ≤ tableSize) × Begun (tableEntry line) tableSize x table
+Inv-loop line ds floors table₀ x₀ table x = (48 ≤ x) × (x ≤ tableSize) × Begun (tableEntry line) tableSize x table
 
 abbrev μ-loop : tie.MeasureT-loop
-μ-loop line ds table₀ x₀ table x = tableSize - x
+μ-loop line ds floors table₀ x₀ table x = tableSize - x
 
 directions-of-requires : tie.Need-directions-of-requires Inv-loop μ-loop
 directions-of-requires c κs = c .pre .trains .1
+
+floors-of-requires : tie.Need-floors-of-requires Inv-loop μ-loop
+floors-of-requires c κs = search needs
 
 segment-tables-requires : tie.Need-segment-tables-requires Inv-loop μ-loop
 segment-tables-requires c κs = search needs
@@ -42,12 +45,16 @@ mul-if1 c = search needs
 array-read-if1 : tie.Need-array-read-if1 Inv-loop μ-loop
 array-read-if1 c = search needs
 
+slice-aggregate-leg-entry : tie.Need-slice-aggregate-leg-entry Inv-loop μ-loop
+slice-aggregate-leg-entry c = search needs
+
 leg-entry-requires : tie.Need-leg-entry-requires Inv-loop μ-loop
 leg-entry-requires c κs =
-    let a = c .before .before .before .before .before .before in
-    let x = c .before .before .before .loop .x in
-    let leg = leg-is (a .args .line) ((x - 48) % 176) _ (a .pre .trains .1) (omega arith) (c .before .before .before .before .before .directions-of .ensures) (c .if1 .taken) in
-    (a .pre, omega (arith, c .before .before .loop-test .taken), omega arith, leg)
+    let a = c .before .before .before .before .before .before .before .before in
+    let w = c .before .before .before .before in
+    let x = w .loop .x in
+    let leg = leg-is (a .args .line) ((x - 48) % 176) _ (a .pre .trains .1) (omega arith) (w .before .before .before .directions-of .ensures) (c .before .if1 .taken) in
+    (a .pre, w .before .before .floors-of .ensures, omega (arith, c .before .before .before .loop-test .taken), omega arith, leg)
 
 mul-table : tie.Need-mul-table Inv-loop μ-loop
 mul-table c = search needs
@@ -63,16 +70,16 @@ loop-less c = search needs
 
 loop-again : tie.Need-loop-again Inv-loop μ-loop
 loop-again c =
-    let a = c .before .before .before .before .before .before in
+    let a = c .before .before .before .before .before .before .before in
     let l = a .args .line in
     let w = c .before .before .before .loop in
     let n = (w .x - 48) / 176 in
     let e = (w .x - 48) % 176 in
     let here = legs-later l (w .x) (w .inv .0) in
     let entry = ⊎-elim
-    (λ h. h .2 ∙ h .1 .ensures ∙ here)
+    (λ h. h .3 ∙ h .2 .ensures ∙ here)
     (λ h. h .1 ∙ c .before .no-leg-entry .ensures ∙
-    no-leg-is l n e (leg-not l e _ (a .pre .trains .1) (omega arith) (c .before .before .before .before .before .directions-of .ensures) (h .0 .left)) ∙ here)
+    no-leg-is l n e (leg-not l e _ (a .pre .trains .1) (omega arith) (c .before .before .before .before .before .before .directions-of .ensures) (h .0 .left)) ∙ here)
     (c .if1 .came) in (
       omega (arith, w .inv .0),
       omega (arith, c .before .before .loop-test .taken),
@@ -89,6 +96,7 @@ tables-of-spec =
     Inv-loop
     μ-loop
     directions-of-requires
+    floors-of-requires
     segment-tables-requires
     loop-holds
     sub-n
@@ -96,6 +104,7 @@ tables-of-spec =
     no-leg-entry-requires
     mul-if1
     array-read-if1
+    slice-aggregate-leg-entry
     leg-entry-requires
     mul-table
     array-write-table

@@ -11,11 +11,11 @@ use Rattle.rules.proofs.delay.free_arrival.Statement.{statement}
 use Rattle.rules.proofs.delay.free_arrival.Tie as tie
 
 -- the train has a last leg
-some : (c : tie.After-train) → 1 ≤ legs (c .before .before .args .line) (c .before .before .args .i)
+some : (c : tie.After-train) → 1 ≤ legs (c .before .before .before .args .line) (c .before .before .before .args .i)
 some c =
-    let a = c .before .before in
+    let a = c .before .before .before in
     let size : length (a .args .line .traffic .trains) ≡ 12 = sym (length-map (a .args .line .traffic .trains) _) ∙ a .good .0 .1 .1 .1 .0 .1 .1 .1 .0 .1 .0 .1 in
-    legs-few _ (routed (a .args .line) (a .args .i) (a .pre .0) size (a .pre .1)) .0
+    legs-few _ (routed (a .args .line) (a .args .i) (a .pre .0) size (a .pre .2)) .0
 
 mul-train : tie.Need-mul-train
 mul-train c = search needs
@@ -26,17 +26,17 @@ element-copy-out-train c = search needs
 legs-between-requires : tie.Need-legs-between-requires
 legs-between-requires c κs = search needs
 
-sub-free-after : tie.Need-sub-free-after
-sub-free-after c = omega (arith, c .legs-between .ensures, some (c .before))
+sub-last : tie.Need-sub-last
+sub-last c = omega (arith, c .legs-between .ensures, some (c .before))
 
 free-after-requires : tie.Need-free-after-requires
 free-after-requires c κs =
-    let a = c .before .before .before in
-    (a .pre .0, a .pre .1, omega (arith, c .legs-between .ensures, some (c .before)))
+    let a = c .before .before .before .before in
+    (a .pre .0, a .pre .1, a .pre .2, omega (arith, c .legs-between .ensures, some (c .before)))
 
 returns : tie.Need-returns
 returns c =
-    let a = c .before .before .before .before in
+    let a = c .before .before .before .before .before in
     c .free-after .ensures ∙ ap (λ (k : ℕ). freeAfter (a .args .line) (a .args .i) (k - 1)) (c .before .legs-between .ensures)
 
 pub free-arrival-spec : {M : Type 1} → statement M
@@ -46,6 +46,6 @@ free-arrival-spec =
     mul-train
     element-copy-out-train
     legs-between-requires
-    sub-free-after
+    sub-last
     free-after-requires
     returns)

@@ -10,7 +10,7 @@ starts-right-requires c κs = search needs
 
 returns : tie.Need-returns
 returns c =
-    let a = c .before .before .before in
+    let a = c .before .before .before .before in
     keeps-start (a .args .line) (now (a .args .m)) (a .args .i) _ (c .before .if1 .taken) (c .starts-right .ensures)
 
 runs-right-requires : tie.Need-runs-right-requires
@@ -18,7 +18,7 @@ runs-right-requires c κs = search needs
 
 returns-2 : tie.Need-returns-2
 returns-2 c =
-    let a = c .before .before .before .before in
+    let a = c .before .before .before .before .before in
     keeps-runs (a .args .line) (now (a .args .m)) (a .args .i) _ (c .before .if2 .taken) (c .runs-right .ensures)
 
 stops-right-requires : tie.Need-stops-right-requires
@@ -26,7 +26,7 @@ stops-right-requires c κs = search needs
 
 returns-3 : tie.Need-returns-3
 returns-3 c =
-    let a = c .before .before .before .before .before in
+    let a = c .before .before .before .before .before .before in
     keeps-stops (a .args .line) (now (a .args .m)) (a .args .i) _ (c .before .if3 .taken) (c .stops-right .ensures)
 
 booked-right-requires : tie.Need-booked-right-requires
@@ -34,7 +34,7 @@ booked-right-requires c κs = search needs
 
 returns-4 : tie.Need-returns-4
 returns-4 c =
-    let a = c .before .before .before .before .before .before in
+    let a = c .before .before .before .before .before .before .before in
     keeps-booked (a .args .line) (now (a .args .m)) (a .args .i) _ (c .before .if4 .taken) (c .booked-right .ensures)
 
 ends-right-requires : tie.Need-ends-right-requires
@@ -42,12 +42,12 @@ ends-right-requires c κs = search needs
 
 returns-5 : tie.Need-returns-5
 returns-5 c =
-    let a = c .before .before .before .before .before .before .before in
+    let a = c .before .before .before .before .before .before .before .before in
     keeps-end (a .args .line) (now (a .args .m)) (a .args .i) _ (c .before .if5 .taken) (c .ends-right .ensures)
 
 returns-6 : tie.Need-returns-6
 returns-6 c =
-    let a = c .before .before .before .before .before .before in
+    let a = c .before .before .before .before .before .before .before in
     keeps-other (a .args .line) (now (a .args .m)) (a .args .i) _ (c .before .before .before .before .if1 .left) (c .before .before .before .if2 .left)
     (c .before .before .if3 .left) (c .before .if4 .left) (c .if5 .left)
 

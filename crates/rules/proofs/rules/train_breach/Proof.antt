@@ -12,28 +12,28 @@ use Rattle.rules.proofs.rules.train_breach.Statement.{statement}
 use Rattle.rules.proofs.rules.train_breach.Tie as tie
 
 abbrev Inv-loop : tie.InvT-loop
-Inv-loop rule line m n i₀ i = (i ≤ n) × EachBelow i (RuleKept rule line m)
+Inv-loop rule line floors m n i₀ i = (i ≤ n) × EachBelow i (RuleKept rule line m)
 
 abbrev μ-loop : tie.MeasureT-loop
-μ-loop rule line m n i₀ i = n - i
+μ-loop rule line floors m n i₀ i = n - i
 
 cast-n : tie.Need-cast-n Inv-loop μ-loop
 cast-n c = search needs
 
 loop-holds : tie.Need-loop-holds Inv-loop μ-loop
 loop-holds c =
-    let a = c .before .before in
+    let a = c .before .before .before in
     (omega arith, below-none (RuleKept (a .args .rule) (a .args .line) (now (a .args .m))))
 
 keeps-rule-requires : tie.Need-keeps-rule-requires Inv-loop μ-loop
 keeps-rule-requires c κs = search needs
 
-add-t8 : tie.Need-add-t8 Inv-loop μ-loop
-add-t8 c = search needs
+add-t9 : tie.Need-add-t9 Inv-loop μ-loop
+add-t9 c = search needs
 
 returns : tie.Need-returns Inv-loop μ-loop
 returns c =
-    let a = c .before .before .before .before .before .before in
+    let a = c .before .before .before .before .before .before .before in
     let i = c .before .before .before .loop in
     breach-at (a .args .rule) (a .args .line) (now (a .args .m)) (i .i) (c .before .before .loop-test .taken)
     (sym (c .before .keeps-rule .ensures) ∙ not-true _ (c .if1 .taken)) (i .inv .1)
@@ -46,7 +46,7 @@ loop-less c = search needs
 
 loop-again : tie.Need-loop-again Inv-loop μ-loop
 loop-again c =
-    let a = c .before .before .before .before .before .before in
+    let a = c .before .before .before .before .before .before .before in
     let i = c .before .before .before .loop in (
       omega arith,
       below-more (RuleKept (a .args .rule) (a .args .line) (now (a .args .m))) (i .i) (i .inv .1)
@@ -55,7 +55,7 @@ loop-again c =
 
 returns-2 : tie.Need-returns-2 Inv-loop μ-loop
 returns-2 c =
-    let a = c .before .before .before .before in
+    let a = c .before .before .before .before .before in
     breach-none (a .args .rule) (a .args .line) (now (a .args .m)) (λ j h. c .before .loop .inv .1 j (omega arith))
 
 pub train-breach-spec : {M : Type 1} → statement M
@@ -67,7 +67,7 @@ train-breach-spec =
     cast-n
     loop-holds
     keeps-rule-requires
-    add-t8
+    add-t9
     returns
     add-i
     loop-less

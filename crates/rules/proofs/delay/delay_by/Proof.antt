@@ -1,4 +1,4 @@
--- `rules::delay::weighted_delay` meets its contract. The invariant: the total is the sum of the terms of the trains before i; each is at most 99 times 65,535,
+-- `rules::delay::delay_by` meets its contract. The invariant: the total is the sum of the terms of the trains before i; each is at most 99 times 65,535,
 -- so it fits. Assumes nothing.
 use Prim.Native.Nat.{_-_, _*_, _≤_}
 use mathlib.Core.Path.{_≡_, sym, _∙_}
@@ -13,27 +13,27 @@ use Rattle.line.specs.Runnable.{TrainRunnable}
 use Rattle.rules.specs.Statement.Paths.{train, Routed}
 use Rattle.rules.specs.StatementLaws.PathsLaws.{train-runnable, routed-runnable, legs-few}
 use Rattle.rules.specs.Check.RulesLaws.{sum-next, cost, cost-start, cost-late, cost-none, cost-end}
-use Rattle.rules.proofs.delay.weighted_delay.Statement.{statement}
-use Rattle.rules.proofs.delay.weighted_delay.Tie as tie
+use Rattle.rules.proofs.delay.delay_by.Statement.{statement}
+use Rattle.rules.proofs.delay.delay_by.Tie as tie
 
 abbrev Inv-loop : tie.InvT-loop
-Inv-loop line m n total₀ i₀ total i = (i ≤ n) × (total ≡ sum (cost line m) i) × (total ≤ 6487965 * i)
+Inv-loop line floors m n total₀ i₀ total i = (i ≤ n) × (total ≡ sum (cost line m) i) × (total ≤ 6487965 * i)
 
 abbrev μ-loop : tie.MeasureT-loop
-μ-loop line m n total₀ i₀ total i = n - i
+μ-loop line floors m n total₀ i₀ total i = n - i
 
 -- the train of this turn, which can be run
 runnable : (c : tie.After-train Inv-loop μ-loop) →
-    TrainRunnable (c .before .before .before .before .before .before .args .line .track .«station_count»)
-    (train (c .before .before .before .before .before .before .args .line) (c .before .before .before .loop .i))
+    TrainRunnable (c .before .before .before .before .before .before .before .args .line .track .«station_count»)
+    (train (c .before .before .before .before .before .before .before .args .line) (c .before .before .before .loop .i))
 runnable c =
-    let a = c .before .before .before .before .before .before in
+    let a = c .before .before .before .before .before .before .before in
     let size : length (a .args .line .traffic .trains) ≡ 12 = sym (length-map (a .args .line .traffic .trains) _) ∙ a .good .0 .1 .1 .1 .0 .1 .1 .1 .0 .1 .0 .1 in
     train-runnable (a .args .line) (c .before .before .before .loop .i) (a .pre .0) size (c .before .before .loop-test .taken)
 
 path : (c : tie.After-train Inv-loop μ-loop) → Routed
-    (train (c .before .before .before .before .before .before .args .line) (c .before .before .before .loop .i))
-path c = routed-runnable _ _ (runnable c) (c .before .before .before .before .before .before .pre .0 .stations .1)
+    (train (c .before .before .before .before .before .before .before .args .line) (c .before .before .before .loop .i))
+path c = routed-runnable _ _ (runnable c) (c .before .before .before .before .before .before .before .pre .0 .stations .1)
 
 -- a weight of at most 99 times a delay below 65,536
 most : (c : tie.After-wide3 Inv-loop μ-loop) → c .wide3 .result * (c .before .before .before .before .wide .result - c .before .before .wide2 .result) ≤ 99 * 65535
@@ -46,7 +46,7 @@ cast-n c = search needs
 
 loop-holds : tie.Need-loop-holds Inv-loop μ-loop
 loop-holds c =
-    let a = c .before .before in
+    let a = c .before .before .before in
     (omega arith, cost-start (a .args .line) (now (a .args .m)), omega arith)
 
 mul-train : tie.Need-mul-train Inv-loop μ-loop
@@ -63,9 +63,9 @@ sub-last c = omega (arith, c .legs-between .ensures, legs-few _ (path (c .before
 
 arrival-of-requires : tie.Need-arrival-of-requires Inv-loop μ-loop
 arrival-of-requires c κs =
-    let a = c .before .before .before .before .before .before .before in (
+    let a = c .before .before .before .before .before .before .before .before in (
       path (c .before),
-      a .pre .1,
+      a .pre .2,
       omega (arith, c .before .before .before .loop-test .taken, a .pre .0 .trains),
       omega (arith, c .legs-between .ensures, legs-few _ (path (c .before))),
     )
@@ -74,7 +74,9 @@ wide-requires : tie.Need-wide-requires Inv-loop μ-loop
 wide-requires c κs = search needs
 
 free-arrival-requires : tie.Need-free-arrival-requires Inv-loop μ-loop
-free-arrival-requires c κs = (c .before .before .before .before .before .before .before .before .before .pre .0, c .before .before .before .before .before .loop-test .taken)
+free-arrival-requires c κs =
+    let a = c .before .before .before .before .before .before .before .before .before .before in
+    (a .pre .0, a .pre .1, c .before .before .before .before .before .loop-test .taken)
 
 wide-requires-2 : tie.Need-wide-requires-2 Inv-loop μ-loop
 wide-requires-2 c κs = search needs
@@ -90,7 +92,7 @@ mul-total c = omega (arith, most c)
 
 add-total : tie.Need-add-total Inv-loop μ-loop
 add-total c =
-    let a = c .before .before .before .before .before .before .before .before .before .before .before .before .before in
+    let a = c .before .before .before .before .before .before .before .before .before .before .before .before .before .before in
     omega (arith, most c, c .before .before .before .before .before .before .before .before .before .before .loop .inv .2, c .before .before .before .before .before .before .before .before .before .loop-test .taken, a .pre .0 .trains)
 
 add-i : tie.Need-add-i Inv-loop μ-loop
@@ -101,7 +103,7 @@ loop-less c = search needs
 
 loop-again : tie.Need-loop-again Inv-loop μ-loop
 loop-again c =
-    let a = c .before .before .before .before .before .before .before .before .before .before .before .before in
+    let a = c .before .before .before .before .before .before .before .before .before .before .before .before .before in
     let i = c .before .before .before .before .before .before .before .before .before .loop in
     let here = c .before .before .before .before .before .before .before .before .loop-test .taken in
     let last = c .before .before .before .wide .ensures .0 ∙ c .before .before .before .before .arrival-of .ensures in
@@ -122,11 +124,11 @@ loop-again c =
 
 returns : tie.Need-returns Inv-loop μ-loop
 returns c =
-    let a = c .before .before .before .before in
+    let a = c .before .before .before .before .before in
     cost-end (a .args .line) (now (a .args .m)) (c .before .loop .inv .1) (omega arith)
 
-pub weighted-delay-spec : {M : Type 1} → statement M
-weighted-delay-spec =
+pub delay-by-spec : {M : Type 1} → statement M
+delay-by-spec =
     tie.close
     (tie.spec
     Inv-loop
