@@ -28,6 +28,9 @@ between t s = ltb (min (t .origin) (t .destination)) s && ltb s (max (t .origin)
 abbrev pub numbered : List Train → ℕ → Train
 numbered trains n = getD trains (n - 1) noTrain
 
--- a booking of train t at station s may stand after the booking a
+-- a booking of a train with number n at station s may stand after the booking a
+abbrev pub standsAfter : Booking → ℕ → ℕ → Train → Bool
+standsAfter a n s t = rises a n s && between t s
+
 unfoldable pub bookable : List Train → Booking → ℕ → ℕ → Bool
-bookable trains a t s = rises a t s && between (numbered trains t) s
+bookable trains a n s = standsAfter a n s (numbered trains n)

@@ -7,7 +7,7 @@ use mathlib.Core.List.{List, [], _∷_, map}
 use native.Mathlib.Omega.{arith}
 use borrow.Author.Tests.{ne-eqb}
 use lib.Dec.{eqb}
-use lib.ListN.{length, getD, take, length-map}
+use lib.ListN.{length, getD, take, length-map, List·getD-map}
 use lib.Seq.{getD-take}
 use Rattle.text.specs.Reading.Choice.{pick}
 use Rattle.text.specs.Elements.EachThen.{eachThen}
@@ -18,7 +18,7 @@ use Rattle.line.specs.declared.Train.{Train}
 use Rattle.line.specs.declared.Booking.{Booking}
 use Rattle.line.specs.declared.Booked.{Booked}
 use Rattle.line.specs.Record.{noTrain, tidyTrain}
-use Rattle.line.specs.Bookings.{Rises, rises, Between, between, numbered, bookable}
+use Rattle.line.specs.Bookings.{Rises, rises, Between, between, numbered, standsAfter, bookable}
 use Rattle.line.specs.File.{null}
 use Rattle.line.specs.Spell.{field, bookingText, bookingsText, bookedText, unbooked}
 use Rattle.line.specs.Within.{BookingWithin}
@@ -33,10 +33,17 @@ pub decides-bookable : (trains : List Train) (a : Booking) (t s : ℕ) → Decid
 unfolding bookable
 decides-bookable trains a t s = decides-and (decides-rises a t s) (decides-between (numbered trains t) s)
 
--- it is the same of the first t trains, for a train among them
-pub bookable-used : (t : ℕ) (trains : List Train) (a : Booking) (i s : ℕ) → 1 ≤ i → i ≤ t → bookable (take t trains) a i s ≡ bookable trains a i s
+-- for one of the first t trains it is what the code asks of its entry; past the last entry the code has empty arrays, but of a train only origin and
+-- destination matter here
+abbrev pub entry : List Train → ℕ → Train
+entry trains j = getD trains j (record { origin = 0; destination = 0; earliest = 0; latest = 0; weight = 0; runs = []; stops = [] })
+
+pub bookable-used : (t : ℕ) (trains : List Train) (a : Booking) (i s : ℕ) → 1 ≤ i → i ≤ t →
+    bookable (take t trains) a i s ≡ standsAfter a i s (entry trains (i - 1))
 unfolding bookable
-bookable-used t trains a i s low high = ap (λ (x : Train). rises a i s && between x s) (getD-take t trains (i - 1) noTrain (omega arith))
+bookable-used t trains a i s low high =
+    ap (standsAfter a i s) (getD-take t trains (i - 1) noTrain (omega arith))
+    ∙ sym (List·getD-map (standsAfter a i s) trains (i - 1) noTrain) ∙ List·getD-map (standsAfter a i s) trains (i - 1) _
 
 -- the section of a record whose array has as many bookings as it counts
 pub booked-text : (b : Booked) (later : List ℕ) → length (take (b .«booking_count») (b .bookings)) ≡ b .«booking_count» →

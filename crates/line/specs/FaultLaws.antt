@@ -1,5 +1,5 @@
 -- Laws of the check of a record: one check and then the next, the lines of a section one by one, and what it means that a check finds nothing.
-use Prim.Native.Nat.{ℕ, _+_, _<_, _≤_}
+use Prim.Native.Nat.{ℕ, _+_, _-_, _<_, _≤_}
 use mathlib.Core.Path.{_≡_, refl, sym, ap, _∙_}
 use mathlib.Core.List.{List, [], _∷_}
 use mathlib.Core.Bool.{Bool, true, false, not}
@@ -22,8 +22,8 @@ use Rattle.line.specs.declared.writing.Fault.{Fault}
 use Rattle.line.specs.Ranges.{In, stationCount, trainCount, trainNumber, station, time, weight}
 use Rattle.line.specs.Record.{legsOf}
 use Rattle.line.specs.RecordLaws.{path-legs}
-use Rattle.line.specs.Bookings.{bookable}
-use Rattle.line.specs.BookingsLaws.{bookable-used}
+use Rattle.line.specs.Bookings.{standsAfter, bookable}
+use Rattle.line.specs.BookingsLaws.{entry, bookable-used}
 use Rattle.line.specs.Writing.{thenFault, valueFault, numberFault, linesFault, timesFault, pathFault, headFault, risingFault, trackFaultOf, trafficFaultOf}
 
 -- ---- one check and then the next
@@ -100,8 +100,8 @@ module _ (t : ℕ) (trains : List Train) where
       r ≡ numberFault (trainNumber (length (take t trains))) n p
   train-by n p room e h = rw (length-take-le t trains room) (fault-by (trainNumber t) n p e h)
 
-  -- a call told of the whole array whether the booking may stand
-  module _ {m : Bool} (a : Booking) (i s p : ℕ) (f : Fault) (number : In (trainNumber t) i) (told : m ≡ bookable trains a i s) where
+  -- a call told of its train whether the booking may stand
+  module _ {m : Bool} (a : Booking) (i s p : ℕ) (f : Fault) (number : In (trainNumber t) i) (told : m ≡ standsAfter a i s (entry trains (i - 1))) where
     told-used : not m ≡ not (bookable (take t trains) a i s)
     told-used = ap not (told ∙ sym (bookable-used t trains a i s (number .0) (number .1)))
 

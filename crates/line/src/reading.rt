@@ -6,7 +6,7 @@ ghost use Rattle.text.specs.Reading.Parsed.{mapParsed, lines};
 ghost use Rattle.text.specs.Reading.Told.{toldEnding};
 ghost use Rattle.text.specs.Elements.Padded.{padded};
 ghost use Rattle.line.specs.Record.{noSegment, noTrain, noBooking, trackWith, trafficWith, bookedWith, emptyTrack, emptyLine};
-ghost use Rattle.line.specs.Bookings.{rises, between, bookable};
+ghost use Rattle.line.specs.Bookings.{rises, between, standsAfter};
 ghost use Rattle.text.specs.Sections.Chained.{chained};
 ghost use mathlib.Core.List.{[]};
 ghost use lib.ListN.{take};
@@ -522,13 +522,11 @@ fn lies_between(train: Train, station: u16) -> bool
     }
 }
 
-// Whether a booking of this train, of these, at this station may stand after the one before it.
-pub fn may_stand(trains: [Train; 12], before: Booking, train: u16, station: u16) -> bool
-    requires { ⌜ (1 ≤ train) × (train ≤ 12) ⌝ }
-    ensures { λ r. ⌜ r ≡ bookable trains before train station ⌝ }
+// Whether a booking of this train, which has this number, at this station may stand after the one before it.
+pub fn may_stand(train: Train, number: u16, station: u16, before: Booking) -> bool
+    ensures { λ r. ⌜ r ≡ standsAfter before number station train ⌝ }
 {
-    let booked = trains[train as usize - 1];
-    rises_after(before, train, station) && lies_between(booked, station)
+    rises_after(before, number, station) && lies_between(train, station)
 }
 
 // A booking that was not read.
@@ -558,8 +556,9 @@ fn booking_line(
     let Field::Value(station, after_station) = p else {
         return no_booking_part(ending_of(p));
     };
-    let trains = traffic.trains;
-    if !may_stand(trains, before, train, station) {
+    let i = train as usize - 1;
+    let booked = traffic.trains[i];
+    if !may_stand(booked, train, station, before) {
         return no_booking_part(Ending::Refused(19, after_train.line));
     }
     let m = after_station.ranged(s, LINE_FEED, Time::LIMITS, FAULTS);

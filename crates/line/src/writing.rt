@@ -209,8 +209,9 @@ fn booking_fault(
     let Fault::None = station else {
         return station;
     };
-    let trains = traffic.trains;
-    if !may_stand(trains, before, booking.train, booking.station) {
+    let i = booking.train as usize - 1;
+    let booked = traffic.trains[i];
+    if !may_stand(booked, booking.train, booking.station, before) {
         return Fault::At(19, line);
     }
     value_fault(Time::value(booking.minute as u32), line)

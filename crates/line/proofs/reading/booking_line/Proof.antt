@@ -1,7 +1,7 @@
 -- `line::reading::booking_line` meets its contract: each `return` follows from the fields that led there, by the law of that case; after each field there
 -- are still no more lines than bytes. The trains used are as many as are counted, so the train read is one of them (`counted-train`), and the test on
--- the whole array is that on those used (`standing`). Assumes nothing.
-use Prim.Native.Nat.{ℕ, _≤_}
+-- its entry is that on those used (`standing`). Assumes nothing.
+use Prim.Native.Nat.{ℕ, _-_, _≤_}
 use mathlib.Core.Path.{_≡_, _∙_, refl, sym, ap}
 use mathlib.Core.Bool.{Bool, not}
 use mathlib.Core.List.{List}
@@ -21,8 +21,8 @@ use Rattle.line.specs.declared.Train.{Train}
 use Rattle.line.specs.declared.Traffic.{Traffic}
 use Rattle.line.specs.declared.Booking.{Booking}
 use Rattle.line.specs.Ranges.{In, trainNumber, station, time}
-use Rattle.line.specs.Bookings.{bookable}
-use Rattle.line.specs.BookingsLaws.{bookable-used}
+use Rattle.line.specs.Bookings.{standsAfter, bookable}
+use Rattle.line.specs.BookingsLaws.{entry, bookable-used}
 use Rattle.line.specs.File.{number}
 use Rattle.line.specs.FileLaws.{ended-told, booking-no-train, booking-no-station, booking-not-standing, booking-no-minute, booking-got}
 use borrow.Author.Needs.{needs}
@@ -48,7 +48,7 @@ module _ (f : Traffic) (most : f .«train_count» ≤ 12) (size : length (f .tra
       (r .low, omega (arith, r .high, many))
 
   standing : (before : Booking) (p : ℕ) (s : List ℕ) (c : Cursor) {i : ℕ} {next : Cursor} {r b : Bool} →
-      number (trainNumber (length used)) 32 s c ≡ Parsed.got i next → r ≡ bookable (f .trains) before i p → not r ≡ b → not (bookable used before i p) ≡ b
+      number (trainNumber (length used)) 32 s c ≡ Parsed.got i next → r ≡ standsAfter before i p (entry (f .trains) (i - 1)) → not r ≡ b → not (bookable used before i p) ≡ b
   standing before p s c {i} train told is =
       let range = counted-train s c train in
       ap not (bookable-used (f .«train_count») (f .trains) before i p (range .0) (range .1) ∙ sym told) ∙ is
@@ -76,8 +76,8 @@ returns c =
     let t = c .before .before in
     let a = t .before .before .before .before .before in
     let refused = t .enum-told .given .1 in
-    let size : length (a .args .traffic .trains) ≡ 12 = sym (length-map (a .args .traffic .trains) _) ∙ a .good .1 .1 .1 .0 .1 .1 .1 .0 .1 .0 .1 in
-    let train = train-told (a .args .traffic) (a .pre .0) size (now (a .args .s)) _
+    let size : length (a .args .t4 .trains) ≡ 12 = sym (length-map (a .args .t4 .trains) _) ∙ a .good .1 .1 .1 .0 .1 .1 .1 .0 .1 .0 .1 in
+    let train = train-told (a .args .t4) (a .pre .0) size (now (a .args .s)) _
     (t .before .before .before .numbers .ensures) (t .before .before .ranged .ensures) refused in
     ended-told _ (c .no-booking-part .ensures ∙ c .before .ending-of .ensures ∙ ap endingOf refused) ∙ sym (booking-no-train _ _ _ _ _ train)
 
@@ -106,23 +106,40 @@ returns-2 c =
     let p = c .before .before in
     let t = p .before .before .before .before .before in
     let a = t .before .before .before .before .before in
-    let size : length (a .args .traffic .trains) ≡ 12 = sym (length-map (a .args .traffic .trains) _) ∙ a .good .1 .1 .1 .0 .1 .1 .1 .0 .1 .0 .1 in
-    let train = train-told (a .args .traffic) (a .pre .0) size (now (a .args .s)) _
+    let size : length (a .args .t4 .trains) ≡ 12 = sym (length-map (a .args .t4 .trains) _) ∙ a .good .1 .1 .1 .0 .1 .1 .1 .0 .1 .0 .1 in
+    let train = train-told (a .args .t4) (a .pre .0) size (now (a .args .s)) _
     (t .before .before .before .numbers .ensures) (t .before .before .ranged .ensures) (t .t .given .1) in
     let refused = p .enum-told2 .given .1 in
     let place = ranged-told 2 3 (station (a .args .stations)) 32 (now (a .args .s)) _ (p .before .before .before .numbers2 .ensures) refl
     (p .before .before .ranged2 .ensures) refused in
     ended-told _ (c .no-booking-part2 .ensures ∙ c .before .ending-of2 .ensures ∙ ap endingOf refused) ∙ sym (booking-no-station _ _ _ _ _ train place)
 
-may-stand-requires : tie.Need-may-stand-requires
-may-stand-requires c κs =
-    let t = c .before .before .before .before .before .before .before in
+cast-i : tie.Need-cast-i
+cast-i c = search needs
+
+sub-i : tie.Need-sub-i
+sub-i c =
+    let t = c .before .before .before .before .before .before in
     let a = t .before .before .before .before .before in
-    let size : length (a .args .traffic .trains) ≡ 12 = sym (length-map (a .args .traffic .trains) _) ∙ a .good .1 .1 .1 .0 .1 .1 .1 .0 .1 .0 .1 in
-    let train = train-told (a .args .traffic) (a .pre .0) size (now (a .args .s)) _
+    let size : length (a .args .t4 .trains) ≡ 12 = sym (length-map (a .args .t4 .trains) _) ∙ a .good .1 .1 .1 .0 .1 .1 .1 .0 .1 .0 .1 in
+    let train = train-told (a .args .t4) (a .pre .0) size (now (a .args .s)) _
     (t .before .before .before .numbers .ensures) (t .before .before .ranged .ensures) (t .t .given .1) in
-    let range = counted-train (a .args .traffic) (a .pre .0) size _ _ train in
-    (range .0, omega (arith, range .1, a .pre .0))
+    omega (arith, counted-train (a .args .t4) (a .pre .0) size _ _ train .0)
+
+mul-booked : tie.Need-mul-booked
+mul-booked c = search needs
+
+element-copy-out-booked : tie.Need-element-copy-out-booked
+element-copy-out-booked c =
+    let t = c .before .before .before .before .before .before in
+    let a = t .before .before .before .before .before in
+    let size : length (a .args .t4 .trains) ≡ 12 = sym (length-map (a .args .t4 .trains) _) ∙ a .good .1 .1 .1 .0 .1 .1 .1 .0 .1 .0 .1 in
+    let train = train-told (a .args .t4) (a .pre .0) size (now (a .args .s)) _
+    (t .before .before .before .numbers .ensures) (t .before .before .ranged .ensures) (t .t .given .1) in
+    omega (arith, counted-train (a .args .t4) (a .pre .0) size _ _ train, a .pre .0)
+
+may-stand-requires : tie.Need-may-stand-requires
+may-stand-requires c κs = search needs
 
 no-booking-part-requires-3 : tie.Need-no-booking-part-requires-3
 no-booking-part-requires-3 c κs = search needs
@@ -133,12 +150,12 @@ returns-3 c =
     let p = m .before .before .before in
     let t = p .before .before .before .before .before in
     let a = t .before .before .before .before .before in
-    let size : length (a .args .traffic .trains) ≡ 12 = sym (length-map (a .args .traffic .trains) _) ∙ a .good .1 .1 .1 .0 .1 .1 .1 .0 .1 .0 .1 in
-    let train = train-told (a .args .traffic) (a .pre .0) size (now (a .args .s)) _
+    let size : length (a .args .t4 .trains) ≡ 12 = sym (length-map (a .args .t4 .trains) _) ∙ a .good .1 .1 .1 .0 .1 .1 .1 .0 .1 .0 .1 in
+    let train = train-told (a .args .t4) (a .pre .0) size (now (a .args .s)) _
     (t .before .before .before .numbers .ensures) (t .before .before .ranged .ensures) (t .t .given .1) in
     let place = ranged-told 2 3 (station (a .args .stations)) 32 (now (a .args .s)) _ (p .before .before .before .numbers2 .ensures) refl
     (p .before .before .ranged2 .ensures) (p .p .given .1) in
-    let test = standing (a .args .traffic) (a .pre .0) size (a .args .before) _ _ _ train (m .may-stand .ensures)
+    let test = standing (a .args .t4) (a .pre .0) size (a .args .before) _ _ _ train (m .may-stand .ensures)
     (c .before .if1 .taken) in
     ended-told _ (c .no-booking-part3 .ensures) ∙ sym (booking-not-standing _ _ _ _ _ train place test)
 
@@ -168,12 +185,12 @@ returns-4 c =
     let p = m .before .before .before in
     let t = p .before .before .before .before .before in
     let a = t .before .before .before .before .before in
-    let size : length (a .args .traffic .trains) ≡ 12 = sym (length-map (a .args .traffic .trains) _) ∙ a .good .1 .1 .1 .0 .1 .1 .1 .0 .1 .0 .1 in
-    let train = train-told (a .args .traffic) (a .pre .0) size (now (a .args .s)) _
+    let size : length (a .args .t4 .trains) ≡ 12 = sym (length-map (a .args .t4 .trains) _) ∙ a .good .1 .1 .1 .0 .1 .1 .1 .0 .1 .0 .1 in
+    let train = train-told (a .args .t4) (a .pre .0) size (now (a .args .s)) _
     (t .before .before .before .numbers .ensures) (t .before .before .ranged .ensures) (t .t .given .1) in
     let place = ranged-told 2 3 (station (a .args .stations)) 32 (now (a .args .s)) _ (p .before .before .before .numbers2 .ensures) refl
     (p .before .before .ranged2 .ensures) (p .p .given .1) in
-    let test = standing (a .args .traffic) (a .pre .0) size (a .args .before) _ _ _ train (m .may-stand .ensures)
+    let test = standing (a .args .t4) (a .pre .0) size (a .args .before) _ _ _ train (m .may-stand .ensures)
     (e .before .before .before .if1 .left) in
     let refused = e .enum-told3 .given .1 in
     let minute = ranged-told 2 3 time 10 (now (a .args .s)) _ refl refl (e .before .before .ranged3 .ensures) refused in
@@ -187,12 +204,12 @@ returns-5 c =
     let p = m .before .before .before in
     let t = p .before .before .before .before .before in
     let a = t .before .before .before .before .before in
-    let size : length (a .args .traffic .trains) ≡ 12 = sym (length-map (a .args .traffic .trains) _) ∙ a .good .1 .1 .1 .0 .1 .1 .1 .0 .1 .0 .1 in
-    let train = train-told (a .args .traffic) (a .pre .0) size (now (a .args .s)) _
+    let size : length (a .args .t4 .trains) ≡ 12 = sym (length-map (a .args .t4 .trains) _) ∙ a .good .1 .1 .1 .0 .1 .1 .1 .0 .1 .0 .1 in
+    let train = train-told (a .args .t4) (a .pre .0) size (now (a .args .s)) _
     (t .before .before .before .numbers .ensures) (t .before .before .ranged .ensures) (t .t .given .1) in
     let place = ranged-told 2 3 (station (a .args .stations)) 32 (now (a .args .s)) _ (p .before .before .before .numbers2 .ensures) refl
     (p .before .before .ranged2 .ensures) (p .p .given .1) in
-    let test = standing (a .args .traffic) (a .pre .0) size (a .args .before) _ _ _ train (m .may-stand .ensures)
+    let test = standing (a .args .t4) (a .pre .0) size (a .args .before) _ _ _ train (m .may-stand .ensures)
     (e .before .before .before .if1 .left) in
     let minute = ranged-told 2 3 time 10 (now (a .args .s)) _ refl refl (e .before .before .ranged3 .ensures) (e .m .given .1) in
     sym (booking-got _ _ _ _ _ train place test minute)
@@ -215,6 +232,10 @@ booking-line-spec =
     ending-of-requires-2
     no-booking-part-requires-2
     returns-2
+    cast-i
+    sub-i
+    mul-booked
+    element-copy-out-booked
     may-stand-requires
     no-booking-part-requires-3
     returns-3

@@ -1,5 +1,5 @@
 -- `line::writing::booking_fault` meets its contract: each `return` is the first fault of the checks made so far. A number without fault is that of a used
--- train, so the booking may stand with the used trains exactly when it may with the whole array, which `may_stand` is asked. Assumes nothing.
+-- train, so the booking may stand with the used trains exactly when it may with its entry, which `may_stand` is asked. Assumes nothing.
 use Prim.Native.Nat.{_≤_}
 use mathlib.Core.Path.{_∙_, sym}
 use native.Mathlib.Omega.{arith}
@@ -12,8 +12,8 @@ use Rattle.line.proofs.writing.booking_fault.Statement.{statement}
 use Rattle.line.proofs.writing.booking_fault.Tie as tie
 
 -- the used trains are among those of the array, which has the length of its type
-room : (c : tie.Start) → c .args .traffic .«train_count» ≤ length (c .args .traffic .trains)
-room c = omega (arith, c .pre, sym (length-map (c .args .traffic .trains) _) ∙ c .good .1 .1 .1 .0 .1 .1 .1 .0 .1 .0 .1)
+room : (c : tie.Start) → c .args .t4 .«train_count» ≤ length (c .args .t4 .trains)
+room c = omega (arith, c .pre, sym (length-map (c .args .t4 .trains) _) ∙ c .good .1 .1 .1 .0 .1 .1 .1 .0 .1 .0 .1)
 
 cast-value : tie.Need-cast-value
 cast-value c = search needs
@@ -59,17 +59,33 @@ returns-2 c =
     found-later (train-by _ _ _ _ (room start) (train .before .before .value-fault .ensures) (train .before .before .before .value .ensures)) (train .enum-told .given .1)
     (found-first _ (fault-by (station _) _ _ (c .before .before .value-fault2 .ensures) (c .before .before .before .value2 .ensures)) (c .enum-told4 .given .1))
 
-may-stand-requires : tie.Need-may-stand-requires
-may-stand-requires c κs =
+cast-i : tie.Need-cast-i
+cast-i c = search needs
+
+sub-i : tie.Need-sub-i
+sub-i c =
     let train = c .before .before .before .before .before .before in
     let number = within-by (trainNumber _) _ _ (train .before .before .value-fault .ensures) (train .before .before .before .value .ensures)
     (train .enum-told .given .1) in
-    (number .0, omega (arith, number .1, train .before .before .before .before .before .pre))
+    omega (arith, number .0)
+
+mul-booked : tie.Need-mul-booked
+mul-booked c = search needs
+
+element-copy-out-booked : tie.Need-element-copy-out-booked
+element-copy-out-booked c =
+    let train = c .before .before .before .before .before .before in
+    let number = within-by (trainNumber _) _ _ (train .before .before .value-fault .ensures) (train .before .before .before .value .ensures)
+    (train .enum-told .given .1) in
+    omega (arith, number, train .before .before .before .before .before .pre)
+
+may-stand-requires : tie.Need-may-stand-requires
+may-stand-requires c κs = search needs
 
 returns-3 : tie.Need-returns-3
 unfolding bookingFault
 returns-3 c =
-    let place = c .before .before .before in
+    let place = c .before .before .before .before in
     let train = place .before .before .before .before .before in
     let start = train .before .before .before .before .before in
     let number = within-by (trainNumber _) _ _ (train .before .before .value-fault .ensures) (train .before .before .before .value .ensures)
@@ -92,7 +108,7 @@ returns-4 : tie.Need-returns-4
 unfolding bookingFault
 returns-4 c =
     let asked = c .before .before .before in
-    let place = asked .before .before .before in
+    let place = asked .before .before .before .before in
     let train = place .before .before .before .before .before in
     let start = train .before .before .before .before .before in
     let number = within-by (trainNumber _) _ _ (train .before .before .value-fault .ensures) (train .before .before .before .value .ensures)
@@ -119,6 +135,10 @@ booking-fault-spec =
     enum-told-3
     enum-told-4
     returns-2
+    cast-i
+    sub-i
+    mul-booked
+    element-copy-out-booked
     may-stand-requires
     returns-3
     cast-value-3
