@@ -2,7 +2,9 @@
 
 use std::hint::black_box;
 
-use inputs::{full_size, full_size_planned, Fields, Pair, Random};
+use independent::Line;
+use inputs::{booked_full_size, full_size, full_size_planned, fully_booked_planned};
+use inputs::{Fields, Pair, Random};
 
 use crate::times::{Beside, Times, Unit};
 
@@ -17,25 +19,37 @@ const NANOSECONDS: Unit = Unit {
     digits: 0,
 };
 
-/// Prints all of it.
+/// Prints all of it: for full-size lines without bookings, and for the same with 120.
 pub fn print() {
-    let file = Fields::of(&full_size(&mut Random::new(1))).text();
-    println!(
-        "A file of {} bytes: 12 stations, 12 trains over the whole line. {ROUNDS} rounds of {CALLS} \
-         calls for each, in turn.",
-        file.len()
-    );
+    println!("{ROUNDS} rounds of {CALLS} calls for each, in turn.");
     println!("The lent buffer is cleared between rounds, outside the time, and not between calls.");
-    reading(&file);
-    rewriting(&file);
+    let mut random = Random::new(1);
+    file(&full_size(&mut random));
+    file(&booked_full_size(&mut random));
 
     let mut random = Random::new(2);
-    let pairs: Vec<Pair> = (0..PAIRS)
-        .map(|_| full_size_planned(&mut random).pair())
-        .collect();
+    timetables("", || full_size_planned(&mut random).pair());
+    timetables(" with 120 bookings", || {
+        fully_booked_planned(&mut random).pair()
+    });
+}
+
+fn file(line: &Line) {
+    let file = Fields::of(line).text();
+    println!(
+        "A file of {} bytes: 12 stations, 12 trains over the whole line, {} bookings.",
+        file.len(),
+        line.booking_count
+    );
+    reading(&file);
+    rewriting(&file);
+}
+
+fn timetables(which: &str, pair: impl FnMut() -> Pair) {
+    let pairs: Vec<Pair> = std::iter::repeat_with(pair).take(PAIRS).collect();
     let mean = |bytes: fn(&Pair) -> usize| pairs.iter().map(bytes).sum::<usize>() / PAIRS;
     println!(
-        "{PAIRS} lawful timetables of such lines, one after another: timetables of {} bytes on \
+        "{PAIRS} lawful timetables of such lines{which}, one after another: timetables of {} bytes on \
          average, line files of {}.",
         mean(|pair| pair.timetable.len()),
         mean(|pair| pair.file.len())

@@ -285,13 +285,7 @@ fn cut_short_at_every_byte() {
     let mut texts = vec![SMALL.to_vec()];
     texts.extend((0..3).map(|_| Fields::of(&booked_full_size(&mut random)).text()));
     texts.extend((0..40).map(|_| Fields::of(&booked_line(&mut random)).text()));
-    for text in &texts {
-        for end in 0..text.len() {
-            // Lent as a part of the whole file: a reader that looks past the end finds a good file.
-            compared.file(&text[..end]);
-            compared.file(&[&text[..end], b"\n"].concat());
-        }
-    }
+    texts.iter().for_each(|text| compared.cut_short(text));
     compared.seen.ends(&CUT_SHORT);
 }
 
@@ -312,19 +306,15 @@ fn bytes_after_the_bookings() {
             _ => booked_line(&mut random),
         };
         let text = Fields::of(&line).text();
-        for byte in 0..=255 {
-            compared.file(&[&text[..], &[byte]].concat());
-        }
-        for more in [
+        let more = [
             "0\n",
             "\n\n",
             " \n",
             "1\n1 2 0\n",
             "12 11 2879\n",
             "\0\0\0\0",
-        ] {
-            compared.file(&[&text[..], more.as_bytes()].concat());
-        }
+        ];
+        compared.bytes_after(&text, &more);
     }
     compared.seen.ends(&BYTES_AFTER);
 }

@@ -6,9 +6,8 @@ mod checked;
 use checked::Compared;
 use independent::rules::Minutes;
 use independent::{Booking, Line};
-use inputs::{booked_planned, booked_small_planned, damage_bytes, damage_lines, damaged};
-use inputs::{fully_booked_planned, sizes, with_harder_demands};
-use inputs::{Damage, Least, Pair, Planned, Random, Traffic};
+use inputs::{booked_planned, booked_small_planned, fully_booked_planned, with_harder_demands};
+use inputs::{Least, Pair, Planned, Random, Traffic};
 
 // What each test must at least have seen stands before it; here are the inputs of all of them.
 const ALL: usize = Least::inputs_of(&[
@@ -50,15 +49,7 @@ const EVERY_DAMAGE: Least = Least {
 fn every_damage_to_lines_of_every_size() {
     let mut random = Random::new(150);
     let mut compared = Compared::default();
-    // The greatest size is there often enough to meet its last lists and lines.
-    for (stations, trains) in sizes().chain([(12, 12); 60]) {
-        let traffic = random.one_of(&[Traffic::Mixed, Traffic::Full]);
-        let planned = booked_planned(&mut random, stations, trains, traffic);
-        for damage in [Damage::ALL; 50].concat() {
-            let pair = damaged(&mut random, &planned, damage);
-            compared.pair(&pair.file, &pair.timetable);
-        }
-    }
+    compared.every_damage_to_every_size(&mut random, booked_planned);
     compared.seen.ends(&EVERY_DAMAGE);
 }
 
@@ -92,10 +83,7 @@ fn every_damage_to_small_lines() {
     let mut compared = Compared::default();
     for _ in 0..1000 {
         let planned = booked_small_planned(&mut random);
-        for damage in [Damage::ALL; 3].concat() {
-            let pair = damaged(&mut random, &planned, damage);
-            compared.pair(&pair.file, &pair.timetable);
-        }
+        compared.every_damage(&mut random, &planned, 3);
     }
     compared.seen.ends(&SMALL_LINES);
 }
@@ -255,14 +243,7 @@ fn damaged_line_files_with_a_good_timetable() {
                 booked_planned(&mut random, stations, trains, Traffic::Mixed)
             }
         };
-        let Pair { file, timetable } = planned.pair();
-        for _ in 0..50 {
-            let times = random.one_of(&[1, 1, 2, 5]);
-            let mut bytes = file.clone();
-            damage_bytes(&mut random, &mut bytes, times);
-            compared.pair(&bytes, &timetable);
-            compared.pair(&damage_lines(&mut random, &file), &timetable);
-        }
+        compared.damaged_file(&mut random, &planned.pair());
     }
     compared.seen.ends(&DAMAGED_FILES);
 }
@@ -285,15 +266,6 @@ fn cut_short_at_every_byte() {
         let (stations, trains) = (random.within(3, 12), random.within(1, 12));
         booked_planned(&mut random, stations, trains, Traffic::Full).pair()
     }));
-    for Pair { file, timetable } in &pairs {
-        // Lent as a part of the whole text: a reader that looks past the end finds a good one.
-        for end in 0..timetable.len() {
-            compared.pair(file, &timetable[..end]);
-            compared.pair(file, &[&timetable[..end], b"\n"].concat());
-        }
-        for end in 0..file.len() {
-            compared.pair(&file[..end], timetable);
-        }
-    }
+    pairs.iter().for_each(|pair| compared.cut_short(pair));
     compared.seen.ends(&CUT_SHORT);
 }

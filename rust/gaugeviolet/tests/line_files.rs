@@ -260,13 +260,7 @@ fn cut_short_at_every_byte() {
     let mut compared = Compared::new();
     let mut texts = vec![SMALL.to_vec(), Fields::of(&full_size(&mut random)).text()];
     texts.extend((0..60).map(|_| random_text(&mut random)));
-    for text in &texts {
-        for end in 0..text.len() {
-            // Lent as a part of the whole file: a reader that looks past the end finds a good file.
-            compared.file(&text[..end]);
-            compared.file(&[&text[..end], b"\n"].concat());
-        }
-    }
+    texts.iter().for_each(|text| compared.cut_short(text));
     compared.seen.ends(&CUT_SHORT);
 }
 
@@ -290,12 +284,8 @@ fn bytes_after_the_last_line() {
             Density::Sparse,
         ))
         .text();
-        for byte in 0..=255 {
-            compared.file(&[&text[..], &[byte]].concat());
-        }
-        for more in ["0\n", "\n\n", " \n", "1 2 0 9 1 5\n", "S 5 4\n", "\0\0\0\0"] {
-            compared.file(&[&text[..], more.as_bytes()].concat());
-        }
+        let more = ["0\n", "\n\n", " \n", "1 2 0 9 1 5\n", "S 5 4\n", "\0\0\0\0"];
+        compared.bytes_after(&text, &more);
         compared.file(&[&text[..], &text[..]].concat());
     }
     compared.seen.ends(&BYTES_AFTER);

@@ -7,10 +7,8 @@ use checked::Compared;
 use gaugeviolet::{FILE_BYTES, TIMETABLE_BYTES};
 use independent::rules::Minutes;
 use independent::{Limits, Line, Train};
-use inputs::{
-    damage_bytes, damage_lines, damaged, full_size_planned, planned, sizes, small_planned,
-    with_one_byte_damaged, Damage, Density, Fields, Least, Pair, Planned, Random, Traffic,
-};
+use inputs::{full_size_planned, planned, sizes, small_planned, with_one_byte_damaged};
+use inputs::{Density, Fields, Least, Pair, Planned, Random, Traffic};
 
 // What each test must at least have seen stands before it; here are the inputs of all of them.
 const ALL: usize = Least::inputs_of(&[
@@ -67,15 +65,7 @@ const EVERY_DAMAGE: Least = Least {
 fn every_damage_to_lines_of_every_size() {
     let mut random = Random::new(50);
     let mut compared = Compared::default();
-    // The greatest size is there often enough to meet its last lists and lines.
-    for (stations, trains) in sizes().chain([(12, 12); 60]) {
-        let traffic = random.one_of(&[Traffic::Mixed, Traffic::Full]);
-        let planned = planned(&mut random, stations, trains, traffic);
-        for damage in [Damage::ALL; 50].concat() {
-            let pair = damaged(&mut random, &planned, damage);
-            compared.pair(&pair.file, &pair.timetable);
-        }
-    }
+    compared.every_damage_to_every_size(&mut random, planned);
     compared.seen.ends(&EVERY_DAMAGE);
 }
 
@@ -107,10 +97,7 @@ fn every_damage_to_small_lines() {
     let mut compared = Compared::default();
     for _ in 0..1000 {
         let planned = small_planned(&mut random);
-        for damage in [Damage::ALL; 3].concat() {
-            let pair = damaged(&mut random, &planned, damage);
-            compared.pair(&pair.file, &pair.timetable);
-        }
+        compared.every_damage(&mut random, &planned, 3);
     }
     compared.seen.ends(&SMALL_LINES);
 }
@@ -429,16 +416,7 @@ fn cut_short_at_every_byte() {
         .map(|_| full_size_planned(&mut random).pair())
         .collect();
     pairs.extend((0..20).map(|_| random_planned(&mut random).pair()));
-    for Pair { file, timetable } in &pairs {
-        // Lent as a part of the whole text: a reader that looks past the end finds a good one.
-        for end in 0..timetable.len() {
-            compared.pair(file, &timetable[..end]);
-            compared.pair(file, &[&timetable[..end], b"\n"].concat());
-        }
-        for end in 0..file.len() {
-            compared.pair(&file[..end], timetable);
-        }
-    }
+    pairs.iter().for_each(|pair| compared.cut_short(pair));
     compared.seen.ends(&CUT_SHORT);
 }
 
@@ -467,14 +445,8 @@ fn damaged_line_files_with_a_good_timetable() {
     let mut random = Random::new(54);
     let mut compared = Compared::default();
     for _ in 0..300 {
-        let Pair { file, timetable } = random_planned(&mut random).pair();
-        for _ in 0..50 {
-            let times = random.one_of(&[1, 1, 2, 5]);
-            let mut bytes = file.clone();
-            damage_bytes(&mut random, &mut bytes, times);
-            compared.pair(&bytes, &timetable);
-            compared.pair(&damage_lines(&mut random, &file), &timetable);
-        }
+        let pair = random_planned(&mut random).pair();
+        compared.damaged_file(&mut random, &pair);
     }
     compared.seen.ends(&DAMAGED_FILES);
 }
