@@ -22,7 +22,7 @@ use Rattle.rules.specs.Statement.Paths.{segmentBetween}
 use Rattle.rules.specs.Statement.Rules.{Lawful, middle}
 use Rattle.rules.specs.Statement.Bookings.{floorOf}
 use Rattle.rules.specs.Statement.Delay.{freeAfter, weightedDelay}
-use Rattle.rules.specs.Check.Tests.{startsRight, runsRight, stopsRight, bookedRight, endsRight, keepsRule}
+use Rattle.rules.specs.Check.Tests.{startsRight, runsRight, stopsRight, bookedRight, endsRight, keepsBy}
 use Rattle.rules.specs.Conflict.Directions.{usesBetween, directionBetween, directionEntry, directionsOf}
 use Rattle.rules.specs.Conflict.Conflicts.{firstConflict, keepsAfter, neitherFirst, clash, partnerOf, pairOn, segmentConflict}
 use Rattle.rules.specs.Conflict.Conflicts.{standsIn, standingAt, earliestCrowd, inCrowd, crowdMask, crowdOn, stationConflict, conflictOf}
@@ -73,7 +73,7 @@ unfoldable answerOf : Line → BestSoFar
 unfolding
     first all count sum most gather table padded boundedOf
     numberFault linesFault timesFault segmentFault pathFault headFault trainFault bookingFault risingFault trackFaultOf trafficFaultOf bookedFaultOf faultOf
-    segmentBetween middle floorOf freeAfter weightedDelay bookedRight endsRight keepsRule usesBetween directionBetween directionEntry directionsOf
+    segmentBetween middle floorOf freeAfter weightedDelay bookedRight endsRight keepsBy usesBetween directionBetween directionEntry directionsOf
     firstConflict keepsAfter neitherFirst clash partnerOf pairOn segmentConflict
     standsIn standingAt earliestCrowd inCrowd crowdMask crowdOn stationConflict conflictOf
     withinDays same next settle pull pullAll bit withBit change free also marked trainArcs chosenArcs arcs rounds least

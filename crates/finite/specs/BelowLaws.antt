@@ -10,7 +10,7 @@ use native.Mathlib.Omega.{arith}
 use lib.Dec.{leb, ltb}
 use lib.ListN.{length, getD, length-append}
 use borrow.Author.Tests.{leb-true, leb-false, lt-ltb, le-ltb}
-use Rattle.finite.specs.Below.{EachBelow, gather, table, count, sum, most}
+use Rattle.finite.specs.Below.{EachBelow, first, gather, table, all, count, sum, most}
 use Rattle.finite.specs.LoopLaws.{each-more}
 use Rattle.finite.specs.Each.{Each}
 use Rattle.finite.specs.EachLaws.{each-append, each-parts}
@@ -46,6 +46,16 @@ pub count-same : (f g : ℕ → Bool) (n : ℕ) → EachBelow n (λ i. f i ≡ g
 unfolding count
 count-same f g zero h = refl
 count-same f g (suc n) h = rw (count-same f g n (λ i a. h i (omega arith)), h n (omega arith)) refl
+
+pub all-same : (f g : ℕ → Bool) (n : ℕ) → EachBelow n (λ i. f i ≡ g i) → all f n ≡ all g n
+unfolding all
+all-same f g zero h = refl
+all-same f g (suc n) h = rw (all-same f g n (λ i a. h i (omega arith)), h n (omega arith)) refl
+
+pub first-same : (f g : ℕ → Bool) (n : ℕ) → EachBelow n (λ i. f i ≡ g i) → first f n ≡ first g n
+unfolding first
+first-same f g zero h = refl
+first-same f g (suc n) h = rw (first-same f g n (λ i a. h i (omega arith)), h n (omega arith)) refl
 
 pub count-never : (f : ℕ → Bool) (n : ℕ) → EachBelow n (λ i. f i ≡ false) → count f n ≡ 0
 unfolding count

@@ -1,12 +1,12 @@
 // Bookings by train and leg: the minutes before which the trains do not depart, and whether they keep them.
 ghost use mathlib.Core.Path.{_≡_};
-ghost use Prim.Native.Nat.{_+_, _*_, _≤_, _<_, max};
+ghost use Prim.Native.Nat.{_≤_, _<_, max};
 ghost use lib.ListN.{length, getD};
 ghost use Rattle.finite.specs.Below.{EachBelow};
 ghost use Rattle.line.specs.Record.{noBooking};
 ghost use Rattle.line.specs.Runnable.{Runnable};
-ghost use Rattle.line.specs.Within.{Within};
-ghost use Rattle.rules.specs.Check.Floors.{Floors, FloorsBy, HasEntry};
+ghost use Rattle.rules.specs.Statement.Paths.{Routed};
+ghost use Rattle.rules.specs.Check.Floors.{floorIn, Floors, FloorsBy, HasEntry};
 ghost use Rattle.rules.specs.Check.Tests.{bookedRight};
 use crate::rules::departure_of;
 use line::Booking;
@@ -54,18 +54,16 @@ pub fn floors_of(line: Line) -> [u16; 176]
 // The floor of train i on its leg k.
 pub fn floor_at(floors: &[u16], i: usize, k: usize) -> u16
     requires { ⌜ (length (now floors) ≡ 176) × (i < 12) × (k < 11) ⌝ }
-    ensures { λ r. ⌜ r ≡ getD (now (floors .entry)) (16 * k + i) 0 ⌝ }
+    ensures { λ r. ⌜ r ≡ floorIn (now (floors .entry)) i k ⌝ }
 {
     floors[16 * k + i]
 }
 
-// Rule 18 of train i: it departs on no leg before its floor.
-pub fn booked_right(line: Line, floors: &[u16], m: &[u16], i: usize) -> bool
-    requires { ⌜ Within line × Floors line (now floors) × (length (now m) ≡ 352) × (i < line .traffic .«train_count») ⌝ }
-    ensures { λ r. ⌜ r ≡ bookedRight line (now (m .entry)) i ⌝ }
+// Rule 18 of a train, which is train i: it departs on no leg before its floor.
+pub fn booked_right(train: Train, floors: &[u16], m: &[u16], i: usize) -> bool
+    requires { ⌜ Routed train × (length (now floors) ≡ 176) × (length (now m) ≡ 352) × (i < 12) ⌝ }
+    ensures { λ r. ⌜ r ≡ bookedRight (floorIn (now (floors .entry)) i) train (now (m .entry)) i ⌝ }
 {
-    let traffic = line.traffic;
-    let train = traffic.trains[i];
     let legs = legs_between(train.origin, train.destination);
     let mut k: usize = 0;
     while k < legs {

@@ -50,15 +50,16 @@ fn delay_by(line: Line, floors: &[u16], m: &[u16]) -> u32
     requires { ⌜ Runnable line × Floors line (now floors) × (length (now m) ≡ 352) ⌝ }
     ensures { λ r. ⌜ r ≡ weightedDelay line (now (m .entry)) ⌝ }
 {
-    let n = line.traffic.train_count as usize;
+    let traffic = line.traffic;
+    let trains = traffic.trains;
+    let n = traffic.train_count as usize;
     let mut total: u32 = 0;
     let mut i: usize = 0;
     while i < n {
-        let traffic = line.traffic;
-        let train = traffic.trains[i];
+        let train = trains[i];
         let last = legs_between(train.origin, train.destination) - 1;
         let arrival = wide(arrival_of(train, m, i, last));
-        let free = wide(free_arrival(line, floors, i));
+        let free = wide(free_after(line, floors, i, last));
         if free < arrival {
             total = total + wide(train.weight) * (arrival - free);
         }

@@ -1,13 +1,14 @@
 // The first rule that some minutes break, in number order, with its lowest train, segment or station.
 ghost use mathlib.Core.Path.{_≡_};
 ghost use Prim.Native.Nat.{_+_, _≤_, _<_};
-ghost use lib.ListN.{length};
+ghost use lib.ListN.{length, getD};
+ghost use Rattle.finite.specs.Below.{EachBelow};
 ghost use Rattle.line.specs.Record.{legsBetween, legsOf};
 ghost use Rattle.line.specs.Within.{Within};
-ghost use Rattle.rules.specs.Statement.Paths.{Routed, segmentBetween};
-ghost use Rattle.rules.specs.Check.Floors.{Floors};
-ghost use Rattle.rules.specs.Check.Tests.{departureOf, arrivalOf, startsRight, runsRight, stopsRight, endsRight, keepsRule};
-ghost use Rattle.rules.specs.Check.Breaches.{trainBreach, placeOf, conflictBreach, breachOf};
+ghost use Rattle.rules.specs.Statement.Paths.{pastTrain, Routed, segmentBetween};
+ghost use Rattle.rules.specs.Check.Floors.{floorIn, Floors};
+ghost use Rattle.rules.specs.Check.Tests.{departureOf, arrivalOf, startsRight, runsRight, stopsRight, endsRight, keepsBy};
+ghost use Rattle.rules.specs.Check.Breaches.{lowestBreach, trainBreach, placeOf, conflictBreach, breachOf};
 use crate::bookings::booked_right;
 use crate::bookings::floors_of;
 use crate::conflicts::Conflict;
@@ -55,23 +56,19 @@ pub fn arrival_of(train: Train, m: &[u16], i: usize, k: usize) -> u16
     arrives_on(m, segment_between(train.origin, train.destination, k), i)
 }
 
-// Rule 10 of train i.
-fn starts_right(line: Line, m: &[u16], i: usize) -> bool
-    requires { ⌜ Within line × (length (now m) ≡ 352) × (i < line .traffic .«train_count») ⌝ }
-    ensures { λ r. ⌜ r ≡ startsRight line (now (m .entry)) i ⌝ }
+// Rule 10 of a train, which is train i.
+fn starts_right(train: Train, m: &[u16], i: usize) -> bool
+    requires { ⌜ Routed train × (length (now m) ≡ 352) × (i < 12) ⌝ }
+    ensures { λ r. ⌜ r ≡ startsRight train (now (m .entry)) i ⌝ }
 {
-    let traffic = line.traffic;
-    let train = traffic.trains[i];
     train.earliest <= departure_of(train, m, i, 0)
 }
 
-// Rule 11 of every leg of train i.
-fn runs_right(line: Line, m: &[u16], i: usize) -> bool
-    requires { ⌜ Within line × (length (now m) ≡ 352) × (i < line .traffic .«train_count») ⌝ }
-    ensures { λ r. ⌜ r ≡ runsRight line (now (m .entry)) i ⌝ }
+// Rule 11 of every leg of a train.
+fn runs_right(train: Train, m: &[u16], i: usize) -> bool
+    requires { ⌜ Routed train × (length (now m) ≡ 352) × (i < 12) ⌝ }
+    ensures { λ r. ⌜ r ≡ runsRight train (now (m .entry)) i ⌝ }
 {
-    let traffic = line.traffic;
-    let train = traffic.trains[i];
     let legs = legs_between(train.origin, train.destination);
     let runs = train.runs;
     let mut k: usize = 0;
@@ -86,13 +83,11 @@ fn runs_right(line: Line, m: &[u16], i: usize) -> bool
     true
 }
 
-// Rule 12 of train i at every middle station.
-fn stops_right(line: Line, m: &[u16], i: usize) -> bool
-    requires { ⌜ Within line × (length (now m) ≡ 352) × (i < line .traffic .«train_count») ⌝ }
-    ensures { λ r. ⌜ r ≡ stopsRight line (now (m .entry)) i ⌝ }
+// Rule 12 of a train at every middle station.
+fn stops_right(train: Train, m: &[u16], i: usize) -> bool
+    requires { ⌜ Routed train × (length (now m) ≡ 352) × (i < 12) ⌝ }
+    ensures { λ r. ⌜ r ≡ stopsRight train (now (m .entry)) i ⌝ }
 {
-    let traffic = line.traffic;
-    let train = traffic.trains[i];
     let legs = legs_between(train.origin, train.destination);
     let stops = train.stops;
     let mut k: usize = 0;
@@ -107,54 +102,62 @@ fn stops_right(line: Line, m: &[u16], i: usize) -> bool
     true
 }
 
-// Rule 13 of train i.
-fn ends_right(line: Line, m: &[u16], i: usize) -> bool
-    requires { ⌜ Within line × (length (now m) ≡ 352) × (i < line .traffic .«train_count») ⌝ }
-    ensures { λ r. ⌜ r ≡ endsRight line (now (m .entry)) i ⌝ }
+// Rule 13 of a train.
+fn ends_right(train: Train, m: &[u16], i: usize) -> bool
+    requires { ⌜ Routed train × (length (now m) ≡ 352) × (i < 12) ⌝ }
+    ensures { λ r. ⌜ r ≡ endsRight train (now (m .entry)) i ⌝ }
 {
-    let traffic = line.traffic;
-    let train = traffic.trains[i];
     let last = legs_between(train.origin, train.destination) - 1;
     arrival_of(train, m, i, last) <= train.latest
 }
 
-// The rule of this number, of train i by itself.
-fn keeps_rule(rule: u8, line: Line, floors: &[u16], m: &[u16], i: usize) -> bool
-    requires { ⌜ Within line × Floors line (now floors) × (length (now m) ≡ 352) × (i < line .traffic .«train_count») ⌝ }
-    ensures { λ r. ⌜ r ≡ keepsRule rule line (now (m .entry)) i ⌝ }
+// The rule of this number, of a train by itself, with its floors.
+fn keeps_rule(rule: u8, train: Train, floors: &[u16], m: &[u16], i: usize) -> bool
+    requires { ⌜ Routed train × (length (now floors) ≡ 176) × (length (now m) ≡ 352) × (i < 12) ⌝ }
+    ensures { λ r. ⌜ r ≡ keepsBy rule (floorIn (now (floors .entry)) i) train (now (m .entry)) i ⌝ }
 {
     if rule == 10 {
-        return starts_right(line, m, i);
+        return starts_right(train, m, i);
     }
     if rule == 11 {
-        return runs_right(line, m, i);
+        return runs_right(train, m, i);
     }
     if rule == 12 {
-        return stops_right(line, m, i);
+        return stops_right(train, m, i);
     }
     if rule == 18 {
-        return booked_right(line, floors, m, i);
+        return booked_right(train, floors, m, i);
     }
     if rule == 13 {
-        return ends_right(line, m, i);
+        return ends_right(train, m, i);
     }
     true
 }
 
-// The lowest train that breaks the rule.
-fn train_breach(rule: u8, line: Line, floors: &[u16], m: &[u16]) -> Breach
-    requires { ⌜ Within line × Floors line (now floors) × (length (now m) ≡ 352) ⌝ }
-    ensures { λ r. ⌜ r ≡ trainBreach rule line (now (m .entry)) ⌝ }
+// The lowest of these trains that breaks the rule. The array comes by itself: a loop that took each train out of a line would copy all of them each time.
+fn breach_among(rule: u8, trains: [Train; 12], count: usize, floors: &[u16], m: &[u16]) -> Breach
+    requires { ⌜ (count ≤ 12) × EachBelow count (λ i. Routed (getD trains i pastTrain)) × (length (now floors) ≡ 176) × (length (now m) ≡ 352) ⌝ }
+    ensures { λ r. ⌜ r ≡ lowestBreach rule (λ i. keepsBy rule (floorIn (now (floors .entry)) i) (getD trains i pastTrain) (now (m .entry)) i) count ⌝ }
 {
-    let n = line.traffic.train_count as usize;
     let mut i: usize = 0;
-    while i < n {
-        if !keeps_rule(rule, line, floors, m, i) {
+    while i < count {
+        let train = trains[i];
+        if !keeps_rule(rule, train, floors, m, i) {
             return Breach::Rule(rule, i + 1);
         }
         i = i + 1;
     }
     Breach::None
+}
+
+// The lowest train of a line that breaks the rule.
+fn train_breach(rule: u8, line: Line, floors: &[u16], m: &[u16]) -> Breach
+    requires { ⌜ Within line × Floors line (now floors) × (length (now m) ≡ 352) ⌝ }
+    ensures { λ r. ⌜ r ≡ trainBreach rule line (now (m .entry)) ⌝ }
+{
+    let traffic = line.traffic;
+    let trains = traffic.trains;
+    breach_among(rule, trains, traffic.train_count as usize, floors, m)
 }
 
 fn conflict_breach(conflict: Conflict) -> Breach

@@ -1,6 +1,6 @@
 -- The first rule that some minutes break: "Rules are checked in number order over all trains", each with its lowest train, segment or station.
 use Prim.Native.Nat.{ℕ, _+_}
-use mathlib.Core.Bool.{not}
+use mathlib.Core.Bool.{Bool, not}
 use mathlib.Core.Option.{Option, some, none}
 use mathlib.Core.List.{List}
 use Rattle.finite.specs.Below.{first}
@@ -20,8 +20,12 @@ abbrev pub atTrain : ℕ → Option ℕ → Breach
 atTrain n none = Breach.None
 atTrain n (some i) = Breach.Rule n (i + 1)
 
+-- of the trains below a count, by a test of each
+abbrev pub lowestBreach : ℕ → (ℕ → Bool) → ℕ → Breach
+lowestBreach n keeps count = atTrain n (first (λ i. not (keeps i)) count)
+
 unfoldable pub trainBreach : ℕ → Line → List ℕ → Breach
-trainBreach n l m = atTrain n (first (λ i. not (keepsRule n l m i)) (l .traffic .«train_count»))
+trainBreach n l m = lowestBreach n (keepsRule n l m) (l .traffic .«train_count»)
 
 -- the segment or station of a conflict
 abbrev pub placeOf : Conflict → ℕ

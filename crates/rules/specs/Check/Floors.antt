@@ -9,10 +9,14 @@ use Rattle.line.specs.declared.Line.{Line}
 use Rattle.rules.specs.Statement.Paths.{pastTrain, legFrom}
 use Rattle.rules.specs.Statement.Bookings.{floorBy, floorOf}
 
+-- the entry of train i and leg k
+abbrev pub floorIn : List ℕ → ℕ → ℕ → ℕ
+floorIn t i k = getD t (16 * k + i) 0
+
 -- each entry has what f says of its train and leg
 pub record Listed (f : ℕ → ℕ → ℕ) (t : List ℕ) : Type 0 where
   pub size : length t ≡ 176
-  pub entries : (i k : ℕ) → i < 12 → k < 11 → getD t (16 * k + i) 0 ≡ f i k
+  pub entries : (i k : ℕ) → i < 12 → k < 11 → floorIn t i k ≡ f i k
 
 abbrev pub Floors : Line → List ℕ → Type 0
 Floors l t = Listed (floorOf l) t
@@ -24,7 +28,7 @@ FloorsBy trains bookings n t = Listed (floorBy trains bookings n) t
 -- the arrival after leg j of train i, from that after its first leg on, by runs, stops and floors in lists: as the code works it out
 unfoldable pub arrivedAfter : ℕ → List ℕ → List ℕ → List ℕ → ℕ → ℕ → ℕ
 arrivedAfter a runs stops t i zero = a
-arrivedAfter a runs stops t i (suc j) = max (arrivedAfter a runs stops t i j + getD stops j 0) (getD t (16 * suc j + i) 0) + getD runs (suc j) 0
+arrivedAfter a runs stops t i (suc j) = max (arrivedAfter a runs stops t i j + getD stops j 0) (floorIn t i (suc j)) + getD runs (suc j) 0
 
 -- a booking is one of these trains, at a station that it can leave on one of 11 legs
 pub record HasEntry (trains : List Train) (b : Booking) : Type 0 where

@@ -5,9 +5,11 @@ use mathlib.Core.List.{List}
 use native.Mathlib.Decide.{ℕ-discrete}
 use native.Mathlib.Numerals.{add-one}
 use native.Mathlib.Omega.{arith}
+use lib.Dec.{leb}
 use lib.ListN.{length, getD, set, replicate, length-set, length-replicate, getD-replicate}
 use lib.Seq.{length-take-le, getD-set-same, getD-set-other}
 use Rattle.finite.specs.LoopLaws.{most-none, most-more}
+use Rattle.finite.specs.BelowLaws.{all-same}
 use Rattle.finite.specs.DecideLaws.{is-true, is-false}
 use Rattle.finite.specs.EachLaws.{each-at}
 use Rattle.line.specs.declared.Train.{Train}
@@ -15,12 +17,13 @@ use Rattle.line.specs.declared.Booking.{Booking}
 use Rattle.line.specs.declared.Line.{Line}
 use Rattle.line.specs.Record.{noBooking, trainsOf}
 use Rattle.line.specs.Runnable.{BookingRunnable, Runnable}
-use Rattle.rules.specs.Statement.Paths.{pastTrain, train, booking, legFrom}
+use Rattle.rules.specs.Statement.Paths.{pastTrain, train, booking, legFrom, legs}
 use Rattle.rules.specs.Statement.Bookings.{bookedMinute, floorOf}
 use Rattle.rules.specs.StatementLaws.PathsLaws.{legs-most}
 use Rattle.rules.specs.StatementLaws.BookingsLaws.{decides-for, booked-leg}
 use Rattle.rules.specs.Statement.Delay.{freeAfter}
-use Rattle.rules.specs.Check.Floors.{Floors, FloorsBy, arrivedAfter, HasEntry}
+use Rattle.rules.specs.Check.Floors.{floorIn, Floors, FloorsBy, arrivedAfter, HasEntry}
+use Rattle.rules.specs.Check.Tests.{departureOf, bookedRight}
 use Rattle.rules.specs.Check.RulesLaws.{free-next}
 
 module _ (trains : List Train) (bookings : List Booking) where
@@ -70,13 +73,19 @@ pub floors-line : (l : Line) (t : List ℕ) → FloorsBy (l .traffic .trains) (l
 unfolding floorOf
 floors-line l t h = record { size = h .size; entries = h .entries }
 
+-- rule 18 by the list is that by the floors of the line
+pub booked-listed : (l : Line) (m : List ℕ) (i : ℕ) (t : List ℕ) → Floors l t → i < 12 → legs l i ≤ 11 →
+    bookedRight (floorIn t i) (train l i) m i ≡ bookedRight (floorOf l i) (train l i) m i
+unfolding bookedRight
+booked-listed l m i t h few short = all-same _ _ (legs l i) (λ k b. ap (λ (x : ℕ). leb x (departureOf (train l i) m i k)) (h .entries i k few (omega arith)))
+
 -- the arrivals that the code works out are those of the train alone on the line
 module _ (runs stops t : List ℕ) (a i : ℕ) where
   pub arrived-start : arrivedAfter a runs stops t i 0 ≡ a
   unfolding arrivedAfter
   arrived-start = refl
 
-  pub arrived-next : (j : ℕ) → arrivedAfter a runs stops t i (j + 1) ≡ max (arrivedAfter a runs stops t i j + getD stops j 0) (getD t (16 * (j + 1) + i) 0) + getD runs (j + 1) 0
+  pub arrived-next : (j : ℕ) → arrivedAfter a runs stops t i (j + 1) ≡ max (arrivedAfter a runs stops t i j + getD stops j 0) (floorIn t i (j + 1)) + getD runs (j + 1) 0
   unfolding arrivedAfter
   arrived-next j = rw add-one refl
 

@@ -26,7 +26,7 @@ use Rattle.rules.specs.Statement.Bookings.{floorOf}
 use Rattle.rules.specs.StatementLaws.BookingsLaws.{floors-kept, kept-floors, booked-leg, floor-most}
 use Rattle.rules.specs.Statement.Delay.{freeAfter, freeArrival, delay, weightedDelay}
 use Rattle.rules.specs.Statement.Rules.{InDays, NotEarly, Runs, Stops, KeepsBookings, NotLate, stands, Stands, standing, Room}
-use Rattle.rules.specs.Check.Tests.{departureOf, arrivalOf, startsRight, runsRight, stopsRight, bookedRight, endsRight, keepsRule}
+use Rattle.rules.specs.Check.Tests.{departureOf, arrivalOf, startsRight, runsRight, stopsRight, bookedRight, endsRight, keepsBy, keepsRule}
 
 -- ---- free arrival
 
@@ -112,88 +112,87 @@ abbrev pub StopAt : Train → List ℕ → ℕ → ℕ → Type 0
 StopAt t m i k = arrivalOf t m i k + getD (t .stops) k 0 ≤ departureOf t m i (k + 1)
 
 -- it does not depart on leg k before its floor
-abbrev pub FloorAt : Line → List ℕ → ℕ → ℕ → Type 0
-FloorAt l m i k = floorOf l i k ≤ departure l m i k
+abbrev pub FloorAt : (ℕ → ℕ) → Train → List ℕ → ℕ → ℕ → Type 0
+FloorAt floor t m i k = floor k ≤ departureOf t m i k
 
-module _ (l : Line) (m : List ℕ) (i : ℕ) where
-  pub decides-starts : Decides (NotEarly l m i) (startsRight l m i)
+-- of a train by itself
+module _ (t : Train) (m : List ℕ) (i : ℕ) where
+  decides-starts : Decides (t .earliest ≤ departureOf t m i 0) (startsRight t m i)
   unfolding startsRight
   decides-starts = decides-le _ _
 
-  pub decides-runs : Decides (Runs l m i) (runsRight l m i)
+  pub decides-runs : Decides (EachBelow (legsOf t) (RunAt t m i)) (runsRight t m i)
   unfolding runsRight
-  decides-runs = decides-all (RunAt (train l i) m i) _ (legs l i) (λ k _. decides-eq _ _)
+  decides-runs = decides-all (RunAt t m i) _ (legsOf t) (λ k _. decides-eq _ _)
 
-  pub decides-stops : Decides (Stops l m i) (stopsRight l m i)
+  pub decides-stops : Decides (EachBelow (legsOf t - 1) (StopAt t m i)) (stopsRight t m i)
   unfolding stopsRight
-  decides-stops = decides-all (StopAt (train l i) m i) _ (legs l i - 1) (λ k _. decides-le _ _)
+  decides-stops = decides-all (StopAt t m i) _ (legsOf t - 1) (λ k _. decides-le _ _)
 
-  pub decides-floors : Decides (EachBelow (legs l i) (FloorAt l m i)) (bookedRight l m i)
+  pub decides-floors : (floor : ℕ → ℕ) → Decides (EachBelow (legsOf t) (FloorAt floor t m i)) (bookedRight floor t m i)
   unfolding bookedRight
-  decides-floors = decides-all (FloorAt l m i) _ (legs l i) (λ k _. decides-le _ _)
+  decides-floors floor = decides-all (FloorAt floor t m i) _ (legsOf t) (λ k _. decides-le _ _)
 
-  decides-booked : Runnable l → Decides (KeepsBookings l m i) (bookedRight l m i)
-  decides-booked w = decides-as (kept-floors l m i (booked-leg l w i)) (λ h k b. floors-kept l m i h k) decides-floors
-
-  pub decides-ends : Decides (NotLate l m i) (endsRight l m i)
+  decides-ends : Decides (arrivalOf t m i (legsOf t - 1) ≤ t .latest) (endsRight t m i)
   unfolding endsRight
   decides-ends = decides-le _ _
 
   -- as the code tells them
-  pub starts-is : {d : ℕ} → d ≡ departure l m i 0 → leb (train l i .earliest) d ≡ startsRight l m i
+  pub starts-is : {d : ℕ} → d ≡ departureOf t m i 0 → leb (t .earliest) d ≡ startsRight t m i
   unfolding startsRight
   starts-is e = rw e refl
 
-  pub ends-is : {a k : ℕ} → k ≡ legs l i → a ≡ arrival l m i (k - 1) → leb a (train l i .latest) ≡ endsRight l m i
+  pub ends-is : {a k : ℕ} → k ≡ legsOf t → a ≡ arrivalOf t m i (k - 1) → leb a (t .latest) ≡ endsRight t m i
   unfolding endsRight
   ends-is e h = rw (h, e) refl
 
-  -- by its number
-  pub decides-10 : Decides (NotEarly l m i) (keepsRule 10 l m i)
-  unfolding keepsRule
-  decides-10 = decides-starts
-
-  pub decides-11 : Decides (Runs l m i) (keepsRule 11 l m i)
-  unfolding keepsRule
-  decides-11 = decides-runs
-
-  pub decides-12 : Decides (Stops l m i) (keepsRule 12 l m i)
-  unfolding keepsRule
-  decides-12 = decides-stops
-
-  pub decides-18 : Runnable l → Decides (KeepsBookings l m i) (keepsRule 18 l m i)
-  unfolding keepsRule
-  decides-18 = decides-booked
-
-  pub decides-13 : Decides (NotLate l m i) (keepsRule 13 l m i)
-  unfolding keepsRule
-  decides-13 = decides-ends
-
   -- rule n, as the code tells one number from the other
-  module _ (n : ℕ) {r : Bool} where
-    pub keeps-start : n ≡ 10 → r ≡ startsRight l m i → r ≡ keepsRule n l m i
-    unfolding keepsRule
+  module _ (floor : ℕ → ℕ) (n : ℕ) {r : Bool} where
+    pub keeps-start : n ≡ 10 → r ≡ startsRight t m i → r ≡ keepsBy n floor t m i
+    unfolding keepsBy
     keeps-start e h = rw e h
 
-    pub keeps-runs : n ≡ 11 → r ≡ runsRight l m i → r ≡ keepsRule n l m i
-    unfolding keepsRule
+    pub keeps-runs : n ≡ 11 → r ≡ runsRight t m i → r ≡ keepsBy n floor t m i
+    unfolding keepsBy
     keeps-runs e h = rw e h
 
-    pub keeps-stops : n ≡ 12 → r ≡ stopsRight l m i → r ≡ keepsRule n l m i
-    unfolding keepsRule
+    pub keeps-stops : n ≡ 12 → r ≡ stopsRight t m i → r ≡ keepsBy n floor t m i
+    unfolding keepsBy
     keeps-stops e h = rw e h
 
-    pub keeps-booked : n ≡ 18 → r ≡ bookedRight l m i → r ≡ keepsRule n l m i
-    unfolding keepsRule
+    pub keeps-booked : n ≡ 18 → r ≡ bookedRight floor t m i → r ≡ keepsBy n floor t m i
+    unfolding keepsBy
     keeps-booked e h = rw e h
 
-    pub keeps-end : n ≡ 13 → r ≡ endsRight l m i → r ≡ keepsRule n l m i
-    unfolding keepsRule
+    pub keeps-end : n ≡ 13 → r ≡ endsRight t m i → r ≡ keepsBy n floor t m i
+    unfolding keepsBy
     keeps-end e h = rw e h
 
-  pub keeps-other : (n : ℕ) → (n ≡ 10 → ⊥) → (n ≡ 11 → ⊥) → (n ≡ 12 → ⊥) → (n ≡ 18 → ⊥) → (n ≡ 13 → ⊥) → true ≡ keepsRule n l m i
-  unfolding keepsRule
-  keeps-other n a b c e d = rw (ne-eqb n 10 a, ne-eqb n 11 b, ne-eqb n 12 c, ne-eqb n 18 e, ne-eqb n 13 d) refl
+  pub keeps-other : (floor : ℕ → ℕ) (n : ℕ) → (n ≡ 10 → ⊥) → (n ≡ 11 → ⊥) → (n ≡ 12 → ⊥) → (n ≡ 18 → ⊥) → (n ≡ 13 → ⊥) → true ≡ keepsBy n floor t m i
+  unfolding keepsBy
+  keeps-other floor n a b c e d = rw (ne-eqb n 10 a, ne-eqb n 11 b, ne-eqb n 12 c, ne-eqb n 18 e, ne-eqb n 13 d) refl
+
+-- of train i of a line, by its number
+module _ (l : Line) (m : List ℕ) (i : ℕ) where
+  pub decides-10 : Decides (NotEarly l m i) (keepsRule 10 l m i)
+  unfolding keepsBy
+  decides-10 = decides-starts (train l i) m i
+
+  pub decides-11 : Decides (Runs l m i) (keepsRule 11 l m i)
+  unfolding keepsBy
+  decides-11 = decides-runs (train l i) m i
+
+  pub decides-12 : Decides (Stops l m i) (keepsRule 12 l m i)
+  unfolding keepsBy
+  decides-12 = decides-stops (train l i) m i
+
+  pub decides-18 : Runnable l → Decides (KeepsBookings l m i) (keepsRule 18 l m i)
+  unfolding keepsBy
+  decides-18 w = decides-as (kept-floors l m i (booked-leg l w i)) (λ h k b. floors-kept l m i h k) (decides-floors (train l i) m i (floorOf l i))
+
+  pub decides-13 : Decides (NotLate l m i) (keepsRule 13 l m i)
+  unfolding keepsBy
+  decides-13 = decides-ends (train l i) m i
 
 -- ---- rule 15
 

@@ -1,7 +1,7 @@
 -- `rules::delay::delay_by` meets its contract. The invariant: the total is the sum of the terms of the trains before i; each is at most 99 times 65,535,
 -- so it fits. Assumes nothing.
-use Prim.Native.Nat.{_-_, _*_, _≤_}
-use mathlib.Core.Path.{_≡_, sym, _∙_}
+use Prim.Native.Nat.{ℕ, _-_, _*_, _≤_}
+use mathlib.Core.Path.{_≡_, sym, _∙_, ap}
 use mathlib.Core.Logic.{⊎-elim}
 use native.Mathlib.Nat.{mul-le-mul}
 use native.Mathlib.Omega.{arith}
@@ -12,28 +12,27 @@ use Rattle.finite.specs.Below.{sum}
 use Rattle.line.specs.Runnable.{TrainRunnable}
 use Rattle.rules.specs.Statement.Paths.{train, Routed}
 use Rattle.rules.specs.StatementLaws.PathsLaws.{train-runnable, routed-runnable, legs-few}
+use Rattle.rules.specs.Statement.Delay.{freeAfter}
 use Rattle.rules.specs.Check.RulesLaws.{sum-next, cost, cost-start, cost-late, cost-none, cost-end}
 use Rattle.rules.proofs.delay.delay_by.Statement.{statement}
 use Rattle.rules.proofs.delay.delay_by.Tie as tie
 
 abbrev Inv-loop : tie.InvT-loop
-Inv-loop line floors m n total₀ i₀ total i = (i ≤ n) × (total ≡ sum (cost line m) i) × (total ≤ 6487965 * i)
+Inv-loop line floors m trains n total₀ i₀ total i = (i ≤ n) × (total ≡ sum (cost line m) i) × (total ≤ 6487965 * i)
 
 abbrev μ-loop : tie.MeasureT-loop
-μ-loop line floors m n total₀ i₀ total i = n - i
+μ-loop line floors m trains n total₀ i₀ total i = n - i
 
 -- the train of this turn, which can be run
 runnable : (c : tie.After-train Inv-loop μ-loop) →
-    TrainRunnable (c .before .before .before .before .before .before .before .args .line .track .«station_count»)
-    (train (c .before .before .before .before .before .before .before .args .line) (c .before .before .before .loop .i))
+    let a = c .before .before .before .before .before .before .before .before .args in TrainRunnable (a .line .track .«station_count») (train (a .line) (c .before .before .loop .i))
 runnable c =
-    let a = c .before .before .before .before .before .before .before in
+    let a = c .before .before .before .before .before .before .before .before in
     let size : length (a .args .line .traffic .trains) ≡ 12 = sym (length-map (a .args .line .traffic .trains) _) ∙ a .good .0 .1 .1 .1 .0 .1 .1 .1 .0 .1 .0 .1 in
-    train-runnable (a .args .line) (c .before .before .before .loop .i) (a .pre .0) size (c .before .before .loop-test .taken)
+    train-runnable (a .args .line) (c .before .before .loop .i) (a .pre .0) size (c .before .loop-test .taken)
 
-path : (c : tie.After-train Inv-loop μ-loop) → Routed
-    (train (c .before .before .before .before .before .before .before .args .line) (c .before .before .before .loop .i))
-path c = routed-runnable _ _ (runnable c) (c .before .before .before .before .before .before .before .pre .0 .stations .1)
+path : (c : tie.After-train Inv-loop μ-loop) → Routed (train (c .before .before .before .before .before .before .before .before .args .line) (c .before .before .loop .i))
+path c = routed-runnable _ _ (runnable c) (c .before .before .before .before .before .before .before .before .pre .0 .stations .1)
 
 -- a weight of at most 99 times a delay below 65,536
 most : (c : tie.After-wide3 Inv-loop μ-loop) → c .wide3 .result * (c .before .before .before .before .wide .result - c .before .before .wide2 .result) ≤ 99 * 65535
@@ -46,14 +45,14 @@ cast-n c = search needs
 
 loop-holds : tie.Need-loop-holds Inv-loop μ-loop
 loop-holds c =
-    let a = c .before .before .before in
+    let a = c .before .before .before .before .before in
     (omega arith, cost-start (a .args .line) (now (a .args .m)), omega arith)
 
 mul-train : tie.Need-mul-train Inv-loop μ-loop
 mul-train c = search needs
 
-element-copy-out-train : tie.Need-element-copy-out-train Inv-loop μ-loop
-element-copy-out-train c = search needs
+array-copy-out-train : tie.Need-array-copy-out-train Inv-loop μ-loop
+array-copy-out-train c = search needs
 
 legs-between-requires : tie.Need-legs-between-requires Inv-loop μ-loop
 legs-between-requires c κs = search needs
@@ -63,20 +62,20 @@ sub-last c = omega (arith, c .legs-between .ensures, legs-few _ (path (c .before
 
 arrival-of-requires : tie.Need-arrival-of-requires Inv-loop μ-loop
 arrival-of-requires c κs =
-    let a = c .before .before .before .before .before .before .before .before in (
+    let a = c .before .before .before .before .before .before .before .before .before in (
       path (c .before),
       a .pre .2,
-      omega (arith, c .before .before .before .loop-test .taken, a .pre .0 .trains),
+      omega (arith, c .before .before .loop-test .taken, a .pre .0 .trains),
       omega (arith, c .legs-between .ensures, legs-few _ (path (c .before))),
     )
 
 wide-requires : tie.Need-wide-requires Inv-loop μ-loop
 wide-requires c κs = search needs
 
-free-arrival-requires : tie.Need-free-arrival-requires Inv-loop μ-loop
-free-arrival-requires c κs =
-    let a = c .before .before .before .before .before .before .before .before .before .before in
-    (a .pre .0, a .pre .1, c .before .before .before .before .before .loop-test .taken)
+free-after-requires : tie.Need-free-after-requires Inv-loop μ-loop
+free-after-requires c κs =
+    let a = c .before .before .before .before .before .before .before .before .before .before .before in
+    (a .pre .0, a .pre .1, c .before .before .before .before .loop-test .taken, omega (arith, c .before .before .legs-between .ensures, legs-few _ (path (c .before .before .before))))
 
 wide-requires-2 : tie.Need-wide-requires-2 Inv-loop μ-loop
 wide-requires-2 c κs = search needs
@@ -92,8 +91,8 @@ mul-total c = omega (arith, most c)
 
 add-total : tie.Need-add-total Inv-loop μ-loop
 add-total c =
-    let a = c .before .before .before .before .before .before .before .before .before .before .before .before .before .before in
-    omega (arith, most c, c .before .before .before .before .before .before .before .before .before .before .loop .inv .2, c .before .before .before .before .before .before .before .before .before .loop-test .taken, a .pre .0 .trains)
+    let a = c .before .before .before .before .before .before .before .before .before .before .before .before .before .before .before in
+    omega (arith, most c, c .before .before .before .before .before .before .before .before .before .loop .inv .2, c .before .before .before .before .before .before .before .before .loop-test .taken, a .pre .0 .trains)
 
 add-i : tie.Need-add-i Inv-loop μ-loop
 add-i c = search needs
@@ -103,12 +102,12 @@ loop-less c = search needs
 
 loop-again : tie.Need-loop-again Inv-loop μ-loop
 loop-again c =
-    let a = c .before .before .before .before .before .before .before .before .before .before .before .before .before in
-    let i = c .before .before .before .before .before .before .before .before .before .loop in
-    let here = c .before .before .before .before .before .before .before .before .loop-test .taken in
+    let a = c .before .before .before .before .before .before .before .before .before .before .before .before .before .before in
+    let i = c .before .before .before .before .before .before .before .before .loop in
+    let here = c .before .before .before .before .before .before .before .loop-test .taken in
     let last = c .before .before .before .wide .ensures .0 ∙ c .before .before .before .before .arrival-of .ensures in
     let legs = c .before .before .before .before .before .legs-between .ensures in
-    let free = c .before .wide2 .ensures .0 ∙ c .before .before .free-arrival .ensures in
+    let free = c .before .wide2 .ensures .0 ∙ c .before .before .free-after .ensures ∙ ap (λ (k : ℕ). freeAfter (a .args .line) (i .i) (k - 1)) legs in
     ⊎-elim
     (λ w.
     let late = cost-late (a .args .line) (now (a .args .m)) (i .i) legs last free (w .1 .ensures .0) in (
@@ -124,7 +123,7 @@ loop-again c =
 
 returns : tie.Need-returns Inv-loop μ-loop
 returns c =
-    let a = c .before .before .before .before .before in
+    let a = c .before .before .before .before .before .before .before in
     cost-end (a .args .line) (now (a .args .m)) (c .before .loop .inv .1) (omega arith)
 
 pub delay-by-spec : {M : Type 1} → statement M
@@ -136,12 +135,12 @@ delay-by-spec =
     cast-n
     loop-holds
     mul-train
-    element-copy-out-train
+    array-copy-out-train
     legs-between-requires
     sub-last
     arrival-of-requires
     wide-requires
-    free-arrival-requires
+    free-after-requires
     wide-requires-2
     wide-requires-3
     sub-total

@@ -1,39 +1,23 @@
 -- `rules::rules::stops_right` meets its contract. The invariant: after every leg before k the train stops long enough. The loop ends at the first leg after
 -- which it does not, or has seen them all. Assumes nothing.
 use Prim.Native.Nat.{_-_, _≤_}
-use mathlib.Core.Path.{_≡_, sym, _∙_}
+use mathlib.Core.Path.{sym, _∙_}
 use native.Mathlib.Omega.{arith}
 use denote.Ref.{now}
 use borrow.Author.Needs.{needs}
 use borrow.Author.Count.{below-more}
-use lib.ListN.{length, length-map}
 use Rattle.finite.specs.DecideLaws.{is-true, is-false}
 use Rattle.finite.specs.Below.{EachBelow}
-use Rattle.line.specs.RunnableLaws.{within-runnable}
-use Rattle.rules.specs.Statement.Paths.{train, Routed}
-use Rattle.rules.specs.StatementLaws.PathsLaws.{routed, legs-few}
+use Rattle.rules.specs.StatementLaws.PathsLaws.{legs-few}
 use Rattle.rules.specs.Check.RulesLaws.{StopAt, decides-stops}
 use Rattle.rules.proofs.rules.stops_right.Statement.{statement}
 use Rattle.rules.proofs.rules.stops_right.Tie as tie
 
 abbrev Inv-loop : tie.InvT-loop
-Inv-loop m i train legs stops k₀ k = (k ≤ legs - 1) × EachBelow k (StopAt train m i)
+Inv-loop train m i legs stops k₀ k = (k ≤ legs - 1) × EachBelow k (StopAt train m i)
 
 abbrev μ-loop : tie.MeasureT-loop
-μ-loop m i train legs stops k₀ k = legs - k
-
--- the path of the train
-path : (c : tie.After-train Inv-loop μ-loop) → Routed (train (c .before .before .before .args .line) (c .before .before .before .args .i))
-path c =
-    let a = c .before .before .before in
-    let size : length (a .args .line .traffic .trains) ≡ 12 = sym (length-map (a .args .line .traffic .trains) _) ∙ a .good .0 .1 .1 .1 .0 .1 .1 .1 .0 .1 .0 .1 in
-    routed (a .args .line) (a .args .i) (within-runnable (a .args .line) (a .pre .0)) size (a .pre .2)
-
-mul-train : tie.Need-mul-train Inv-loop μ-loop
-mul-train c = search needs
-
-element-copy-out-train : tie.Need-element-copy-out-train Inv-loop μ-loop
-element-copy-out-train c = search needs
+μ-loop train m i legs stops k₀ k = legs - k
 
 legs-between-requires : tie.Need-legs-between-requires Inv-loop μ-loop
 legs-between-requires c κs = search needs
@@ -46,8 +30,8 @@ add-loop c = search needs
 
 arrival-of-requires : tie.Need-arrival-of-requires Inv-loop μ-loop
 arrival-of-requires c κs =
-    let a = c .before .before .before .before .before .before .before in
-    (path (c .before .before .before .before), a .pre .1, omega (arith, a .pre .2, a .pre .0 .trains .1), omega (arith, c .loop-test .taken, c .before .before .before .legs-between .ensures))
+    let a = c .before .before .before .before .before in
+    (a .pre .0, a .pre .1, a .pre .2, omega (arith, c .loop-test .taken, c .before .before .before .legs-between .ensures))
 
 wide-requires : tie.Need-wide-requires Inv-loop μ-loop
 wide-requires c κs = search needs
@@ -57,19 +41,19 @@ add-departure-of c = search needs
 
 departure-of-requires : tie.Need-departure-of-requires Inv-loop μ-loop
 departure-of-requires c κs =
-    let a = c .before .before .before .before .before .before .before .before .before in
-    (path (c .before .before .before .before .before .before), a .pre .1, omega (arith, a .pre .2, a .pre .0 .trains .1), omega (arith, c .before .before .loop-test .taken, c .before .before .before .before .before .legs-between .ensures))
+    let a = c .before .before .before .before .before .before .before in
+    (a .pre .0, a .pre .1, a .pre .2, omega (arith, c .before .before .loop-test .taken, c .before .before .before .before .before .legs-between .ensures))
 
 wide-requires-2 : tie.Need-wide-requires-2 Inv-loop μ-loop
 wide-requires-2 c κs = search needs
 
 mul-wide : tie.Need-mul-wide Inv-loop μ-loop
 mul-wide c =
-    omega (arith, c .before .before .before .before .loop-test .taken, c .before .before .before .before .before .before .before .legs-between .ensures, legs-few _ (path (c .before .before .before .before .before .before .before .before)) .1)
+    omega (arith, c .before .before .before .before .loop-test .taken, c .before .before .before .before .before .before .before .legs-between .ensures, legs-few _ (c .before .before .before .before .before .before .before .before .before .pre .0) .1)
 
 array-read-wide : tie.Need-array-read-wide Inv-loop μ-loop
 array-read-wide c =
-    omega (arith, c .before .before .before .before .loop-test .taken, c .before .before .before .before .before .before .before .legs-between .ensures, legs-few _ (path (c .before .before .before .before .before .before .before .before)) .1)
+    omega (arith, c .before .before .before .before .loop-test .taken, c .before .before .before .before .before .before .before .legs-between .ensures, legs-few _ (c .before .before .before .before .before .before .before .before .before .pre .0) .1)
 
 wide-requires-3 : tie.Need-wide-requires-3 Inv-loop μ-loop
 wide-requires-3 c κs = search needs
@@ -80,11 +64,11 @@ add-if1 c = search needs
 returns : tie.Need-returns Inv-loop μ-loop
 returns c =
     let w = c .before .before .before .before .before .before .before in
-    let a = w .before .before .before .before .before .before in
+    let a = w .before .before .before .before in
     let arrives = c .before .before .before .before .wide .ensures .0 ∙ c .before .before .before .before .before .arrival-of .ensures in
     let departs = c .before .before .wide2 .ensures .0 ∙ c .before .before .before .departure-of .ensures in
     let stop = c .before .wide3 .ensures .0 in
-    sym (is-false (decides-stops (a .args .line) (now (a .args .m)) (a .args .i))
+    sym (is-false (decides-stops (a .args .train) (now (a .args .m)) (a .args .i))
     (λ h. let right = h (w .loop .k) (omega
     (arith, c .before .before .before .before .before .before .loop-test .taken, w .before .before .legs-between .ensures)) in
     omega (arith, right, arrives, departs, stop, c .if1 .taken)))
@@ -98,19 +82,19 @@ loop-less c = search needs
 loop-again : tie.Need-loop-again Inv-loop μ-loop
 loop-again c =
     let w = c .before .before .before .before .before .before .before in
-    let a = w .before .before .before .before .before .before in
+    let a = w .before .before .before .before in
     let arrives = c .before .before .before .before .wide .ensures .0 ∙ c .before .before .before .before .before .arrival-of .ensures in
     let departs = c .before .before .wide2 .ensures .0 ∙ c .before .before .before .departure-of .ensures in
     let stop = c .before .wide3 .ensures .0 in (
       omega arith,
-      below-more (StopAt (train (a .args .line) (a .args .i)) (now (a .args .m)) (a .args .i)) (w .loop .k) (w .loop .inv .1)
+      below-more (StopAt (a .args .train) (now (a .args .m)) (a .args .i)) (w .loop .k) (w .loop .inv .1)
           (omega (arith, arrives, departs, stop, c .if1 .left)),
     )
 
 returns-2 : tie.Need-returns-2 Inv-loop μ-loop
 returns-2 c =
-    let a = c .before .before .before .before .before .before .before in
-    sym (is-true (decides-stops (a .args .line) (now (a .args .m)) (a .args .i))
+    let a = c .before .before .before .before .before in
+    sym (is-true (decides-stops (a .args .train) (now (a .args .m)) (a .args .i))
     (λ j h. c .before .loop .inv .1 j (omega (arith, h, c .loop-test .left, c .before .before .before .legs-between .ensures))))
 
 pub stops-right-spec : {M : Type 1} → statement M
@@ -119,8 +103,6 @@ stops-right-spec =
     (tie.spec
     Inv-loop
     μ-loop
-    mul-train
-    element-copy-out-train
     legs-between-requires
     loop-holds
     add-loop
