@@ -24,7 +24,7 @@ use Rattle.line.specs.Record.{legsOf}
 use Rattle.line.specs.RecordLaws.{path-legs}
 use Rattle.line.specs.Bookings.{standsAfter, bookable}
 use Rattle.line.specs.BookingsLaws.{entry, bookable-used}
-use Rattle.line.specs.Writing.{thenFault, valueFault, numberFault, linesFault, timesFault, pathFault, headFault, risingFault, trackFaultOf, trafficFaultOf}
+use Rattle.line.specs.Writing.{thenFault, valueFault, numberFault, linesFault, timesFault, pathFault, headFault, bookingFault, bookingFaultWith, risingFault, trackFaultOf, trafficFaultOf}
 
 -- ---- one check and then the next
 
@@ -93,23 +93,14 @@ module _ (o d p : ℕ) where
   pub other-ends : (d ≡ o → ⊥) → Fault.None ≡ pick (eqb d o) (Fault.At 4 p) Fault.None
   other-ends h = simp (ne-eqb d o h)
 
--- ---- a booking of one of the first t trains of an array
+-- ---- whether a booking may stand, which a call told
 
-module _ (t : ℕ) (trains : List Train) where
-  pub train-by : {r : Fault} {b : Bounded} (n p : ℕ) → t ≤ length trains → r ≡ valueFault b p → b ≡ boundedOf (trainNumber t .min) (trainNumber t .max) n →
-      r ≡ numberFault (trainNumber (length (take t trains))) n p
-  train-by n p room e h = rw (length-take-le t trains room) (fault-by (trainNumber t) n p e h)
+module _ {m b : Bool} (p : ℕ) (f : Fault) (told : m ≡ b) where
+  pub stands-not : not m ≡ true → Fault.At 19 p ≡ pick (not b) (Fault.At 19 p) f
+  stands-not h = ap (λ (x : Bool). pick x (Fault.At 19 p) f) (sym h ∙ ap not told)
 
-  -- a call told of its train whether the booking may stand
-  module _ {m : Bool} (a : Booking) (i s p : ℕ) (f : Fault) (number : In (trainNumber t) i) (told : m ≡ standsAfter a i s (entry trains (i - 1))) where
-    told-used : not m ≡ not (bookable (take t trains) a i s)
-    told-used = ap not (told ∙ sym (bookable-used t trains a i s (number .0) (number .1)))
-
-    pub stands-not : not m ≡ true → Fault.At 19 p ≡ pick (not (bookable (take t trains) a i s)) (Fault.At 19 p) f
-    stands-not h = ap (λ (b : Bool). pick b (Fault.At 19 p) f) (sym h ∙ told-used)
-
-    pub stands : {r : Fault} → not m ≡ false → r ≡ f → r ≡ pick (not (bookable (take t trains) a i s)) (Fault.At 19 p) f
-    stands h e = e ∙ ap (λ (b : Bool). pick b (Fault.At 19 p) f) (sym h ∙ told-used)
+  pub stands : {r : Fault} → not m ≡ false → r ≡ f → r ≡ pick (not b) (Fault.At 19 p) f
+  stands h e = e ∙ ap (λ (x : Bool). pick x (Fault.At 19 p) f) (sym h ∙ ap not told)
 
 -- ---- what has no fault
 
@@ -139,9 +130,23 @@ tells-number r n p = record {
     go (Bounded.Within v) h g = let w = bounded-within (r .min) (r .max) n v h in (w .low, w .high)
     go Bounded.Outside h g = let z : _≡_ {A = ℕ} 0 1 = cc in absurd (omega arith)
 
--- a value that a call built
-pub within-by : {r : Fault} {b : Bounded} (l : Limits) (n p : ℕ) → r ≡ valueFault b p → b ≡ boundedOf (l .min) (l .max) n → r ≡ Fault.None → In l n
-within-by l n p e h g = tells-number l n p .holds (sym (fault-by l n p e h) ∙ g)
+-- a booking of one of the first t trains of an array has the fault that it has with entry k, where this is the entry of the train booked
+pub fault-with : (n t k : ℕ) (trains : List Train) (before : Booking) (p : ℕ) (b : Booking) → t ≤ length trains →
+    (In (trainNumber t) (b .train) → k ≡ b .train - 1) → bookingFaultWith n t (entry trains k) before p b ≡ bookingFault n (take t trains) before p b
+unfolding bookingFault bookingFaultWith
+fault-with n t k trains before p b room own = rw (length-take-le t trains room) (go (numberFault (trainNumber t) (b .train) p) refl)
+  where
+    later : Bool → Fault
+    later x = thenFault (numberFault (station n) (b .station) p) (pick (not x) (Fault.At 19 p) (numberFault time (b .minute) p))
+
+    go : (f : Fault) → numberFault (trainNumber t) (b .train) p ≡ f →
+        thenFault f (later (standsAfter before (b .train) (b .station) (entry trains k))) ≡ thenFault f (later (bookable (take t trains) before (b .train) (b .station)))
+    go Fault.None e =
+        let number = tells-number (trainNumber t) (b .train) p .holds e in
+        ap later
+        (ap (λ (j : ℕ). standsAfter before (b .train) (b .station) (entry trains j)) (own number)
+        ∙ sym (bookable-used t trains before (b .train) (b .station) (number .0) (number .1)))
+    go (Fault.At m q) e = refl
 
 tells-apart : (p o d : ℕ) → CleanWhen (pick (eqb d o) (Fault.At 4 p) Fault.None) (d ≡ o → ⊥)
 tells-apart p o d = record { holds = λ e. eqb-false d o (go (eqb d o) e); clean = λ h. sym (other-ends o d p h) }

@@ -21,11 +21,12 @@ use Rattle.line.specs.declared.Answer.{Answer}
 use Rattle.line.specs.declared.ReadLine.{ReadLine}
 use Rattle.line.specs.declared.reading.Head.{Head}
 use Rattle.line.specs.declared.reading.Path.{Path}
+use Rattle.line.specs.declared.reading.Place.{Place}
 use Rattle.line.specs.declared.reading.Letter.{Letter}
 use Rattle.line.specs.declared.reading.KindField.{KindField}
 use Rattle.line.specs.Ranges.{stationCount, tracks, gap, trainCount, trainNumber, bookingCount, newest, station, time, weight, run, stop}
 use Rattle.line.specs.Record.{noSegment, noTrain, noBooking, lineWith, emptyLine, legsBetween}
-use Rattle.line.specs.Bookings.{bookable}
+use Rattle.line.specs.Bookings.{standsAfter, bookable}
 
 -- a number in its range, with the byte b after it: 2 for its form and the byte after it, 3 for its range
 abbrev pub number : Limits → ℕ → List ℕ → Cursor → Parsed ℕ
@@ -154,6 +155,19 @@ bookingLine n trains before s c =
     thenRead (number (station n) 32 s c₁) (λ p c₂.
     pick (not (bookable trains before i p)) (Parsed.bad 19 (c₁ .line))
     (thenRead (number time 10 s c₂) (λ m c₃. Parsed.got (record { train = i; station = p; minute = m }) c₃))))
+
+-- in two parts, as the code reads it: its train, one of t, and its station, with the line where the station stands
+unfoldable pub placeAt : ℕ → ℕ → List ℕ → Cursor → Parsed Place
+placeAt t n s c =
+    thenRead (number (trainNumber t) 32 s c) (λ i c₁.
+    thenRead (number (station n) 32 s c₁) (λ p c₂.
+    Parsed.got (record { train = i; station = p; line = c₁ .line }) c₂))
+
+-- and the rest, where the train of this place is t
+unfoldable pub restAt : Train → Booking → Place → List ℕ → Cursor → Parsed Booking
+restAt t before x s c =
+    pick (not (standsAfter before (x .train) (x .station) t)) (Parsed.bad 19 (x .line))
+    (thenRead (number time 10 s c) (λ m next. Parsed.got (record { train = x .train; station = x .station; minute = m }) next))
 
 -- a count in its range, and as many lines, each after the one before it
 unfoldable pub risingAt : {A : Type 0} → Limits → A → (A → List ℕ → Cursor → Parsed A) → List ℕ → Cursor → Parsed (List A)

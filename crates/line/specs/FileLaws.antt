@@ -1,19 +1,20 @@
 -- Laws of reading the line file: each line's refusals and its value.
-use Prim.Native.Nat.{ℕ, _<_}
+use Prim.Native.Nat.{ℕ, _-_, _<_, _≤_}
 use mathlib.Core.Path.{_≡_, refl, ap, _∙_}
 use mathlib.Core.Bool.{Bool, true, false, not}
 use mathlib.Core.List.{List, [], _∷_}
 use native.Mathlib.Omega.{arith}
 use borrow.Author.Tests.{eqb-true, eq-eqb, ne-eqb}
 use lib.Dec.{eqb}
-use lib.ListN.{length, getD, replicate}
-use lib.Seq.{sets}
+use lib.ListN.{length, getD, replicate, take}
+use lib.Seq.{sets, length-take-le}
 use Rattle.text.specs.declared.Cursor.{Cursor}
 use Rattle.text.specs.declared.Ending.{Ending}
 use Rattle.text.specs.Reading.Choice.{pick}
 use Rattle.text.specs.Reading.Bytes.{byteAt}
 use Rattle.text.specs.Reading.BytesLaws.{inside}
 use Rattle.text.specs.Reading.Parsed.{Parsed, thenRead, mapParsed, many}
+use Rattle.text.specs.Reading.ParsedLaws.{ranged-spelt}
 use Rattle.text.specs.Elements.LayLaws.{layMany}
 use Rattle.text.specs.Reading.Told.{toldEnding}
 use Rattle.line.specs.declared.Kind.{Kind}
@@ -22,10 +23,12 @@ use Rattle.line.specs.declared.Train.{Train}
 use Rattle.line.specs.declared.Booking.{Booking}
 use Rattle.line.specs.declared.reading.Letter.{Letter}
 use Rattle.line.specs.declared.reading.Path.{Path}
-use Rattle.line.specs.Ranges.{gap, trainNumber, station, time, weight}
-use Rattle.line.specs.Bookings.{bookable}
+use Rattle.line.specs.declared.reading.Place.{Place}
+use Rattle.line.specs.Ranges.{In, gap, trainNumber, station, time, weight}
+use Rattle.line.specs.Bookings.{numbered, standsAfter, bookable}
+use Rattle.line.specs.BookingsLaws.{entry, bookable-used}
 use Rattle.line.specs.Spell.{letterByte}
-use Rattle.line.specs.File.{number, afterField, letterOf, kindAt, segmentLine, pathAt, headAt, bookingLine}
+use Rattle.line.specs.File.{number, afterField, letterOf, kindAt, segmentLine, pathAt, headAt, placeAt, restAt, bookingLine}
 
 -- what a part tells whose ending is known
 pub ended-told : {A : Type 0} {e y : Ending} (x : A) → e ≡ y → toldEnding e x ≡ toldEnding y x
@@ -133,29 +136,93 @@ module _ (k : ℕ) (s : List ℕ) (c : Cursor) where
         unfolding headAt
         head-got e = rw (path, earliest, latest, e) refl
 
--- ---- a booking's line
+-- ---- train and station on a booking's line
 
-module _ (k : ℕ) (trains : List Train) (before : Booking) (s : List ℕ) (c : Cursor) where
-  pub booking-no-train : {n q : ℕ} → number (trainNumber (length trains)) 32 s c ≡ Parsed.bad n q → bookingLine k trains before s c ≡ Parsed.bad n q
-  unfolding bookingLine
-  booking-no-train e = rw e refl
+module _ (t k : ℕ) (s : List ℕ) (c : Cursor) where
+  pub place-no-train : {n q : ℕ} → number (trainNumber t) 32 s c ≡ Parsed.bad n q → placeAt t k s c ≡ Parsed.bad n q
+  unfolding placeAt
+  place-no-train e = rw e refl
 
-  module _ {i : ℕ} {c₁ : Cursor} (train : number (trainNumber (length trains)) 32 s c ≡ Parsed.got i c₁) where
-    pub booking-no-station : {n q : ℕ} → number (station k) 32 s c₁ ≡ Parsed.bad n q → bookingLine k trains before s c ≡ Parsed.bad n q
-    unfolding bookingLine
-    booking-no-station e = rw (train, e) refl
+  module _ {i : ℕ} {c₁ : Cursor} (train : number (trainNumber t) 32 s c ≡ Parsed.got i c₁) where
+    pub place-no-station : {n q : ℕ} → number (station k) 32 s c₁ ≡ Parsed.bad n q → placeAt t k s c ≡ Parsed.bad n q
+    unfolding placeAt
+    place-no-station e = rw (train, e) refl
 
-    module _ {p : ℕ} {c₂ : Cursor} (place : number (station k) 32 s c₁ ≡ Parsed.got p c₂) where
-      pub booking-not-standing : not (bookable trains before i p) ≡ true → bookingLine k trains before s c ≡ Parsed.bad 19 (c₁ .line)
-      unfolding bookingLine
-      booking-not-standing e = rw (train, place, e) refl
+    pub place-got : {p : ℕ} {c₂ : Cursor} → number (station k) 32 s c₁ ≡ Parsed.got p c₂ →
+        placeAt t k s c ≡ Parsed.got (record { train = i; station = p; line = c₁ .line }) c₂
+    unfolding placeAt
+    place-got e = rw (train, e) refl
 
-      module _ (stands : not (bookable trains before i p) ≡ false) where
-        pub booking-no-minute : {n q : ℕ} → number time 10 s c₂ ≡ Parsed.bad n q → bookingLine k trains before s c ≡ Parsed.bad n q
-        unfolding bookingLine
-        booking-no-minute e = rw (train, place, stands, e) refl
+  -- the train read is one of the t
+  pub place-train : {x : Place} {next : Cursor} → placeAt t k s c ≡ Parsed.got x next → In (trainNumber t) (x .train)
+  unfolding placeAt
+  place-train {x} {next} e = first (number (trainNumber t) 32 s c) refl e
+    where
+      second : (i : ℕ) (c₁ : Cursor) (a : Parsed ℕ) → In (trainNumber t) i →
+          thenRead a (λ p c₂. Parsed.got (record { train = i; station = p; line = c₁ .line }) c₂) ≡ Parsed.got x next → In (trainNumber t) (x .train)
+      second i c₁ (Parsed.got p c₂) range h = let z : i ≡ x .train = cc in rw (← z) range
+      second i c₁ (Parsed.bad n q) range h = let z : _≡_ {A = ℕ} 0 1 = cc in absurd (omega arith)
 
-        pub booking-got : {m : ℕ} {c₃ : Cursor} → number time 10 s c₂ ≡ Parsed.got m c₃ →
-            bookingLine k trains before s c ≡ Parsed.got (record { train = i; station = p; minute = m }) c₃
-        unfolding bookingLine
-        booking-got e = rw (train, place, stands, e) refl
+      first : (a : Parsed ℕ) → number (trainNumber t) 32 s c ≡ a →
+          thenRead a (λ i c₁. thenRead (number (station k) 32 s c₁) (λ p c₂. Parsed.got (record { train = i; station = p; line = c₁ .line }) c₂)) ≡ Parsed.got x next →
+          In (trainNumber t) (x .train)
+      first (Parsed.got i c₁) is h =
+          let r = ranged-spelt 2 3 1 t 32 s c i c₁ (omega arith) is in
+          second i c₁ (number (station k) 32 s c₁) (r .low, r .high) h
+      first (Parsed.bad n q) is h = let z : _≡_ {A = ℕ} 0 1 = cc in absurd (omega arith)
+
+-- ---- the rest of a booking's line
+
+module _ (t : Train) (before : Booking) (x : Place) (s : List ℕ) (c : Cursor) where
+  pub rest-not-standing : not (standsAfter before (x .train) (x .station) t) ≡ true → restAt t before x s c ≡ Parsed.bad 19 (x .line)
+  unfolding restAt
+  rest-not-standing e = rw e refl
+
+  module _ (stands : not (standsAfter before (x .train) (x .station) t) ≡ false) where
+    pub rest-no-minute : {n q : ℕ} → number time 10 s c ≡ Parsed.bad n q → restAt t before x s c ≡ Parsed.bad n q
+    unfolding restAt
+    rest-no-minute e = rw (stands, e) refl
+
+    pub rest-got : {m : ℕ} {next : Cursor} → number time 10 s c ≡ Parsed.got m next →
+        restAt t before x s c ≡ Parsed.got (record { train = x .train; station = x .station; minute = m }) next
+    unfolding restAt
+    rest-got e = rw (stands, e) refl
+
+-- ---- a booking's line: the place, and then the rest
+
+booking-in-two : (k : ℕ) (trains : List Train) (before : Booking) (s : List ℕ) (c : Cursor) →
+    bookingLine k trains before s c ≡ thenRead (placeAt (length trains) k s c) (λ x c₂. restAt (numbered trains (x .train)) before x s c₂)
+unfolding bookingLine placeAt restAt bookable
+booking-in-two k trains before s c = first (number (trainNumber (length trains)) 32 s c)
+  where
+    rest : ℕ → ℕ → Cursor → Cursor → Parsed Booking
+    rest i p c₁ c₂ = restAt (numbered trains i) before (record { train = i; station = p; line = c₁ .line }) s c₂
+
+    second : (i : ℕ) (c₁ : Cursor) (a : Parsed ℕ) → thenRead a (λ p c₂. rest i p c₁ c₂)
+        ≡ thenRead (thenRead a (λ p c₂. Parsed.got (record { train = i; station = p; line = c₁ .line }) c₂)) (λ x c₂. restAt (numbered trains (x .train)) before x s c₂)
+    second i c₁ (Parsed.got p c₂) = refl
+    second i c₁ (Parsed.bad n q) = refl
+
+    first : (a : Parsed ℕ) → thenRead a (λ i c₁. thenRead (number (station k) 32 s c₁) (λ p c₂. rest i p c₁ c₂))
+        ≡ thenRead (thenRead a (λ i c₁. thenRead (number (station k) 32 s c₁) (λ p c₂. Parsed.got (record { train = i; station = p; line = c₁ .line }) c₂)))
+        (λ x c₂. restAt (numbered trains (x .train)) before x s c₂)
+    first (Parsed.got i c₁) = second i c₁ (number (station k) 32 s c₁)
+    first (Parsed.bad n q) = refl
+
+-- of one of the first t trains of an array, on whose entry the code reads the rest
+module _ (t k : ℕ) (trains : List Train) (room : t ≤ length trains) (before : Booking) (s : List ℕ) (c : Cursor) where
+  in-two : bookingLine k (take t trains) before s c ≡ thenRead (placeAt t k s c) (λ x c₂. restAt (numbered (take t trains) (x .train)) before x s c₂)
+  in-two = booking-in-two k (take t trains) before s c
+      ∙ ap (λ (m : ℕ). thenRead (placeAt m k s c) (λ x c₂. restAt (numbered (take t trains) (x .train)) before x s c₂)) (length-take-le t trains room)
+
+  pub booking-no-place : {n q : ℕ} → placeAt t k s c ≡ Parsed.bad n q → bookingLine k (take t trains) before s c ≡ Parsed.bad n q
+  booking-no-place e = in-two ∙ rw e refl
+
+  pub booking-placed : {x : Place} {c₂ : Cursor} → placeAt t k s c ≡ Parsed.got x c₂ →
+      bookingLine k (take t trains) before s c ≡ restAt (entry trains (x .train - 1)) before x s c₂
+  unfolding restAt bookable
+  booking-placed {x} {c₂} e =
+      let range = place-train t k s c e in
+      in-two ∙ rw e (ap (λ (b : Bool). pick (not b) (Parsed.bad 19 (x .line))
+      (thenRead (number time 10 s c₂) (λ m next. Parsed.got (record { train = x .train; station = x .station; minute = m }) next)))
+      (bookable-used t trains before (x .train) (x .station) (range .0) (range .1)))

@@ -33,7 +33,7 @@ use Rattle.line.specs.Ranges.{stationCount, tracks, gap, trainCount, tra
 use Rattle.line.specs.Record.{noSegment, noTrain, noBooking, legsBetween}
 use Rattle.line.specs.Bookings.{bookable}
 use Rattle.line.specs.Spell.{letterByte}
-use Rattle.line.specs.File.{number, sectionAt, stationLine, stationSection, letterOf, onLetter, kindAt, toldKind, segmentLine, segmentSection, joins, pathAt, headAt, journeyAt, trainLine, usedIn, trainSection, bookingLine, risingAt, null, bookingSection, lineAt, lineFile, answered}
+use Rattle.line.specs.File.{number, sectionAt, stationLine, stationSection, letterOf, onLetter, kindAt, toldKind, segmentLine, segmentSection, joins, pathAt, headAt, journeyAt, trainLine, usedIn, trainSection, placeAt, bookingLine, risingAt, null, bookingSection, lineAt, lineFile, answered}
 use Rattle.line.specs.FileLaws.{letter-byte}
 use Rattle.line.specs.SectionLaws.{file-long, file-short}
 
@@ -131,6 +131,12 @@ module _ (s : List ℕ) (P : Cursor → Type 0) (k : KeepsPassing s P) (Q : ℕ 
 
   pub stands-trains : (n : ℕ) (c : Cursor) → P c → HoldsOn P Q (trainSection n s c)
   stands-trains n c h = stands-section trainCount 12 noTrain (trainLine n) (stands-train n) c h
+
+  pub stands-place : (t n : ℕ) (c : Cursor) → P c → HoldsOn P Q (placeAt t n s c)
+  unfolding placeAt
+  stands-place t n c h =
+      stands-then P Q (number (trainNumber t) 32 s c) _ (stands-number (trainNumber t) 32 c h)
+      (λ i c₁ h₁. stands-then P Q (number (station n) 32 s c₁) _ (stands-number (station n) 32 c₁ h₁) (λ p c₂ h₂. h₂))
 
   pub stands-booking : (n : ℕ) (trains : List Train) (before : Booking) (c : Cursor) → P c → HoldsOn P Q (bookingLine n trains before s c)
   unfolding bookingLine

@@ -19,7 +19,7 @@ use Rattle.line.specs.declared.Line.{Line}
 use Rattle.line.specs.declared.writing.Fault.{Fault}
 use Rattle.line.specs.Ranges.{stationCount, tracks, gap, trainCount, trainNumber, bookingCount, station, time, weight, run, stop}
 use Rattle.line.specs.Record.{noBooking, trainsOf, bookingsOf, runsOf, stopsOf}
-use Rattle.line.specs.Bookings.{bookable}
+use Rattle.line.specs.Bookings.{standsAfter, bookable}
 use Rattle.line.specs.Spell.{textOf}
 
 -- the first of two faults
@@ -79,6 +79,13 @@ bookingFault n trains before p b =
     thenFault (numberFault (trainNumber (length trains)) (b .train) p)
     (thenFault (numberFault (station n) (b .station) p)
     (pick (not (bookable trains before (b .train) (b .station))) (Fault.At 19 p) (numberFault time (b .minute) p)))
+
+-- the same of a line with t trains, where the one with the number of the booking is given
+unfoldable pub bookingFaultWith : ℕ → ℕ → Train → Booking → ℕ → Booking → Fault
+bookingFaultWith n t train before p b =
+    thenFault (numberFault (trainNumber t) (b .train) p)
+    (thenFault (numberFault (station n) (b .station) p)
+    (pick (not (standsAfter before (b .train) (b .station) train)) (Fault.At 19 p) (numberFault time (b .minute) p)))
 
 -- the first fault of elements on lines of their own, each after the one before it, from line p on
 unfoldable pub risingFault : {A : Type 0} → List A → (A → ℕ → A → Fault) → A → ℕ → Fault

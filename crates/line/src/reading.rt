@@ -10,7 +10,7 @@ ghost use Rattle.line.specs.Bookings.{rises, between, standsAfter};
 ghost use Rattle.text.specs.Sections.Chained.{chained};
 ghost use mathlib.Core.List.{[]};
 ghost use lib.ListN.{take};
-ghost use Rattle.line.specs.File.{toldKind, stationLine, stationSection, letterOf, kindAt, afterField, segmentLine, segmentSection, pathAt, headAt, trainWith, trainLine, trainSection, bookingLine, bookingSection, lineFile, answered};
+ghost use Rattle.line.specs.File.{toldKind, stationLine, stationSection, letterOf, kindAt, afterField, segmentLine, segmentSection, pathAt, headAt, trainWith, trainLine, trainSection, placeAt, restAt, bookingLine, bookingSection, lineFile, answered};
 ghost use Rattle.line.specs.Parts.{trackFrom, endOf, CanComplete, completedFrom};
 use crate::Answer;
 use crate::Booked;
@@ -108,6 +108,18 @@ pub struct TrainSection {
     pub ending: Ending,
     pub count: u16,
     pub trains: [Train; 12],
+}
+
+// The train and station of a booking, and the line where the station stands.
+pub struct Place {
+    pub train: u16,
+    pub station: u16,
+    pub line: usize,
+}
+
+pub struct PlacePart {
+    pub ending: Ending,
+    pub place: Place,
 }
 
 // A booking's line, the lines of bookings, and their section.
@@ -537,45 +549,72 @@ fn no_booking_part(ending: Ending) -> BookingPart
     BookingPart { ending, booking }
 }
 
-// A booking's line: train, station, minute.
-fn booking_line(
-    s: &[u8],
-    cursor: Cursor,
-    stations: u16,
-    traffic: Traffic,
-    before: Booking,
-) -> BookingPart
-    requires { ⌜ (traffic .«train_count» ≤ 12) × Counted cursor ⌝ }
-    ensures { λ r. ⌜ toldEnding (r .ending) (r .booking) ≡ bookingLine stations (take (traffic .«train_count») (traffic .trains)) before (now (s .entry)) cursor ⌝ }
+// A place that was not read.
+fn no_place(ending: Ending) -> PlacePart
+    ensures { λ r. ⌜ r .ending ≡ ending ⌝ }
 {
-    let t = cursor.ranged(s, SPACE, Train::numbers(traffic.train_count), FAULTS);
+    PlacePart {
+        ending,
+        place: Place {
+            train: 0,
+            station: 0,
+            line: 0,
+        },
+    }
+}
+
+// Train and station on a booking's line.
+fn booking_place(s: &[u8], cursor: Cursor, stations: u16, trains: u16) -> PlacePart
+    requires { ⌜ Counted cursor ⌝ }
+    ensures { λ r. ⌜ toldEnding (r .ending) (r .place) ≡ placeAt trains stations (now (s .entry)) cursor ⌝ }
+{
+    let t = cursor.ranged(s, SPACE, Train::numbers(trains), FAULTS);
     let Field::Value(train, after_train) = t else {
-        return no_booking_part(ending_of(t));
+        return no_place(ending_of(t));
     };
     let p = after_train.ranged(s, SPACE, Station::numbers(stations), FAULTS);
-    let Field::Value(station, after_station) = p else {
-        return no_booking_part(ending_of(p));
+    let Field::Value(station, next) = p else {
+        return no_place(ending_of(p));
     };
-    let i = train as usize - 1;
-    let booked = traffic.trains[i];
-    if !may_stand(booked, train, station, before) {
-        return no_booking_part(Ending::Refused(19, after_train.line));
+    PlacePart {
+        ending: Ending::Done(next),
+        place: Place {
+            train,
+            station,
+            line: after_train.line,
+        },
     }
-    let m = after_station.ranged(s, LINE_FEED, Time::LIMITS, FAULTS);
+}
+
+// The rest of a booking's line: whether this train may be booked at the place, and the minute.
+fn booking_rest(
+    s: &[u8],
+    cursor: Cursor,
+    place: Place,
+    booked: Train,
+    before: Booking,
+) -> BookingPart
+    requires { ⌜ Counted cursor ⌝ }
+    ensures { λ r. ⌜ toldEnding (r .ending) (r .booking) ≡ restAt booked before place (now (s .entry)) cursor ⌝ }
+{
+    if !may_stand(booked, place.train, place.station, before) {
+        return no_booking_part(Ending::Refused(19, place.line));
+    }
+    let m = cursor.ranged(s, LINE_FEED, Time::LIMITS, FAULTS);
     let Field::Value(minute, next) = m else {
         return no_booking_part(ending_of(m));
     };
     BookingPart {
         ending: Ending::Done(next),
         booking: Booking {
-            train,
-            station,
+            train: place.train,
+            station: place.station,
             minute,
         },
     }
 }
 
-// The lines of bookings, each after the one before it.
+// The lines of bookings, each after the one before it. The train booked is looked up here, so that the trains are not copied for each line.
 fn booking_lines(
     s: &[u8],
     start: Cursor,
@@ -594,12 +633,20 @@ fn booking_lines(
         if i == count {
             break 'lines Ending::Done(cursor);
         }
-        let part = booking_line(s, cursor, stations, traffic, before);
-        let ended = part.ending;
+        let part = booking_place(s, cursor, stations, traffic.train_count);
+        let placed = part.ending;
+        let Ending::Done(after_place) = placed else {
+            break 'lines placed;
+        };
+        let place = part.place;
+        let k = place.train as usize - 1;
+        let booked = traffic.trains[k];
+        let rest = booking_rest(s, after_place, place, booked, before);
+        let ended = rest.ending;
         let Ending::Done(next) = ended else {
             break 'lines ended;
         };
-        before = part.booking;
+        before = rest.booking;
         bookings[i] = before;
         cursor = next;
         i = i + 1;

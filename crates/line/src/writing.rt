@@ -8,12 +8,13 @@ ghost use Rattle.finite.specs.Each.{Each};
 ghost use Rattle.text.specs.Writing.Splice.{Put};
 ghost use Rattle.text.specs.Writing.Lend.{Spelling, Lent};
 ghost use Rattle.line.specs.Within.{Within};
+ghost use Rattle.line.specs.Ranges.{In, trainNumber};
 ghost use Rattle.line.specs.Record.{legsOf, HasPath};
 ghost use Rattle.line.specs.RoundTripLaws.{ReadBack};
 ghost use Rattle.line.specs.Spell.{stationText, letterByte, segmentText, journeyText, headText, trainText, bookingText, bookedText, unbooked, textOf};
 ghost use Rattle.text.specs.Sections.Chained.{optionalText};
 ghost use Rattle.line.specs.Record.{noBooking};
-ghost use Rattle.line.specs.Writing.{valueFault, numberFault, linesFault, timesFault, trackFault, segmentFault, pathFault, headFault, trainFault, bookingFault, risingFault, trackFaultOf, trafficFaultOf, faultOf, spelling};
+ghost use Rattle.line.specs.Writing.{valueFault, numberFault, linesFault, timesFault, trackFault, segmentFault, pathFault, headFault, trainFault, bookingFault, bookingFaultWith, risingFault, trackFaultOf, trafficFaultOf, faultOf, spelling};
 use crate::Booked;
 use crate::Booking;
 use crate::Kind;
@@ -187,21 +188,31 @@ fn train_faults(trains: [Train; 12], count: usize, stations: u16, first: usize) 
     Fault::None
 }
 
-// Train, station (3, then 19) and minute of a booking after the one before it.
+// The index of the train with this number; where no train can have it, that of the first, so that there is one to look up.
+fn train_index(number: u16) -> usize
+    ensures { λ r. ⌜ (r < 12) × (In (trainNumber 12) number → r ≡ number - 1) ⌝ }
+{
+    if number == 0 {
+        return 0;
+    }
+    if 12 < number {
+        return 0;
+    }
+    number as usize - 1
+}
+
+// Train, station (3, then 19) and minute of a booking after the one before it. `booked` is its train, where there is one of its number.
 fn booking_fault(
     booking: Booking,
+    booked: Train,
     before: Booking,
     stations: u16,
-    traffic: Traffic,
+    trains: u16,
     line: usize,
 ) -> Fault
-    requires { ⌜ traffic .«train_count» ≤ 12 ⌝ }
-    ensures { λ r. ⌜ r ≡ bookingFault stations (take (traffic .«train_count») (traffic .trains)) before line booking ⌝ }
+    ensures { λ r. ⌜ r ≡ bookingFaultWith stations trains booked before line booking ⌝ }
 {
-    let train = value_fault(
-        Train::value(booking.train as u32, traffic.train_count),
-        line,
-    );
+    let train = value_fault(Train::value(booking.train as u32, trains), line);
     let Fault::None = train else {
         return train;
     };
@@ -209,14 +220,13 @@ fn booking_fault(
     let Fault::None = station else {
         return station;
     };
-    let i = booking.train as usize - 1;
-    let booked = traffic.trains[i];
     if !may_stand(booked, booking.train, booking.station, before) {
         return Fault::At(19, line);
     }
     value_fault(Time::value(booking.minute as u32), line)
 }
 
+// The bookings, each after the one before it. The train booked is looked up here, so that the trains are not copied for each booking.
 fn booking_faults(
     bookings: [Booking; 120],
     count: usize,
@@ -231,7 +241,16 @@ fn booking_faults(
     let mut i: usize = 0;
     while i < count {
         let booking = bookings[i];
-        let fault = booking_fault(booking, before, stations, traffic, first + i);
+        let k = train_index(booking.train);
+        let booked = traffic.trains[k];
+        let fault = booking_fault(
+            booking,
+            booked,
+            before,
+            stations,
+            traffic.train_count,
+            first + i,
+        );
         let Fault::None = fault else {
             return fault;
         };
