@@ -304,12 +304,9 @@ module _ {A : Type 0} (s : List ℕ) (text : A → List ℕ → List ℕ) (check
   lines-faulty [] d q m p b e = let z : _≡_ {A = ℕ} 0 1 = cc in absurd (omega arith)
   lines-faulty (x ∷ xs) d q m p b e =
       ⊎-elim
-      (λ h. one-faulty x q m p (moved x (q + 0) q (omega arith) (b 0 (omega arith))) h)
-      (λ h. lines-faulty xs d (q + 1) m p (λ i g. moved (getD xs i d) (q + suc i) (q + 1 + i) (omega arith) (b (suc i) (omega arith))) (h .1))
+      (λ h. one-faulty x q m p (begins-at refl (omega arith) (b 0 (omega arith))) h)
+      (λ h. lines-faulty xs d (q + 1) m p (λ i g. begins-at refl (omega arith) (b (suc i) (omega arith))) (h .1))
       (either (check q x) _ m p e)
-    where
-      moved : (y : A) (j k : ℕ) → j ≡ k → Begins s (text y) j → Begins s (text y) k
-      moved y j k same g = rw same at g
 
 -- of lines in a row, each checked after the one before it, that one and the one at fault
 module _ {A : Type 0} (s : List ℕ) (text : A → List ℕ → List ℕ) (check : A → ℕ → A → Fault) (only : (before : A) (p : ℕ) (x : A) → OnlyOn p (check before p x)) where
@@ -325,12 +322,9 @@ module _ {A : Type 0} (s : List ℕ) (text : A → List ℕ → List ℕ) (check
   rising-faulty [] before d q m p b e = let z : _≡_ {A = ℕ} 0 1 = cc in absurd (omega arith)
   rising-faulty (x ∷ xs) before d q m p b e =
       ⊎-elim
-      (λ h. one-faulty s second checked (λ k y. only (y .0) k (y .1)) (before, x) q m p (moved x (q + 0) q (omega arith) (b 0 (omega arith))) h)
-      (λ h. rising-faulty xs x d (q + 1) m p (λ i g. moved (getD xs i d) (q + suc i) (q + 1 + i) (omega arith) (b (suc i) (omega arith))) (h .1))
+      (λ h. one-faulty s second checked (λ k y. only (y .0) k (y .1)) (before, x) q m p (begins-at refl (omega arith) (b 0 (omega arith))) h)
+      (λ h. rising-faulty xs x d (q + 1) m p (λ i g. begins-at refl (omega arith) (b (suc i) (omega arith))) (h .1))
       (either (check before q x) _ m p e)
-    where
-      moved : (y : A) (j k : ℕ) → j ≡ k → Begins s (text y) j → Begins s (text y) k
-      moved y j k same g = rw same at g
 
 -- a count, which is checked on its line
 abbrev countFault : Limits → ℕ → ℕ → Fault
