@@ -1,8 +1,10 @@
 //! The library beside the independent reader and writer, on line files with a section of bookings, good
 //! and bad. For each one reading is compared, and rewriting with lent buffers of several lengths.
 
+mod altered;
 mod common;
 
+use altered::{bytes_after, cut_short};
 use common::Compared;
 use independent::Line;
 use inputs::{booked_full_size, damage_bytes, damage_lines, misbooked, sizes, with_bookings};
@@ -285,7 +287,7 @@ fn cut_short_at_every_byte() {
     let mut texts = vec![SMALL.to_vec()];
     texts.extend((0..3).map(|_| Fields::of(&booked_full_size(&mut random)).text()));
     texts.extend((0..40).map(|_| Fields::of(&booked_line(&mut random)).text()));
-    texts.iter().for_each(|text| compared.cut_short(text));
+    texts.iter().for_each(|text| cut_short(&mut compared, text));
     compared.seen.ends(&CUT_SHORT);
 }
 
@@ -314,7 +316,7 @@ fn bytes_after_the_bookings() {
             "12 11 2879\n",
             "\0\0\0\0",
         ];
-        compared.bytes_after(&text, &more);
+        bytes_after(&mut compared, &text, &more);
     }
     compared.seen.ends(&BYTES_AFTER);
 }

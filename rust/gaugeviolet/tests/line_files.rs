@@ -1,8 +1,10 @@
 //! The library beside the independent reader and writer, on some hundred thousand line files, good
 //! and bad. For each one reading is compared, and rewriting with lent buffers of several lengths.
 
+mod altered;
 mod common;
 
+use altered::{bytes_after, cut_short};
 use common::Compared;
 use independent::{Line, FILE_BYTES};
 use inputs::{
@@ -260,7 +262,7 @@ fn cut_short_at_every_byte() {
     let mut compared = Compared::new();
     let mut texts = vec![SMALL.to_vec(), Fields::of(&full_size(&mut random)).text()];
     texts.extend((0..60).map(|_| random_text(&mut random)));
-    texts.iter().for_each(|text| compared.cut_short(text));
+    texts.iter().for_each(|text| cut_short(&mut compared, text));
     compared.seen.ends(&CUT_SHORT);
 }
 
@@ -285,7 +287,7 @@ fn bytes_after_the_last_line() {
         ))
         .text();
         let more = ["0\n", "\n\n", " \n", "1 2 0 9 1 5\n", "S 5 4\n", "\0\0\0\0"];
-        compared.bytes_after(&text, &more);
+        bytes_after(&mut compared, &text, &more);
         compared.file(&[&text[..], &text[..]].concat());
     }
     compared.seen.ends(&BYTES_AFTER);

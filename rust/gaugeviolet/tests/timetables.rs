@@ -7,8 +7,8 @@ use checked::Compared;
 use gaugeviolet::{FILE_BYTES, TIMETABLE_BYTES};
 use independent::rules::Minutes;
 use independent::{Limits, Line, Train};
-use inputs::{full_size_planned, planned, sizes, small_planned, with_one_byte_damaged};
-use inputs::{Density, Fields, Least, Pair, Planned, Random, Traffic};
+use inputs::{damaged, full_size_planned, planned, small_planned, with_one_byte_damaged};
+use inputs::{Damage, Density, Fields, Least, Pair, Planned, Random, Traffic};
 
 // What each test must at least have seen stands before it; here are the inputs of all of them.
 const ALL: usize = Least::inputs_of(&[

@@ -56,25 +56,6 @@ impl Compared {
         );
     }
 
-    /// Compares a text cut short at every byte, alone and with a line feed there.
-    pub fn cut_short(&mut self, text: &[u8]) {
-        for end in 0..text.len() {
-            // Lent as a part of the whole file: a reader that looks past the end finds a good file.
-            self.file(&text[..end]);
-            self.file(&[&text[..end], b"\n"].concat());
-        }
-    }
-
-    /// Compares a text with every byte after it, and with each of `more`.
-    pub fn bytes_after(&mut self, text: &[u8], more: &[&str]) {
-        for byte in 0..=255 {
-            self.file(&[text, &[byte]].concat());
-        }
-        for more in more {
-            self.file(&[text, more.as_bytes()].concat());
-        }
-    }
-
     /// Rewriting with no byte, one, too few, just enough and more. `text` is what is to be written.
     fn accepted_file(&mut self, file: &[u8], text: &[u8]) {
         for lent in [0, 1, text.len() - 1] {
