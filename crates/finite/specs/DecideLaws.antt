@@ -64,11 +64,6 @@ decides-not {P} {a} p = go a p
     go true p = record { yea = λ e. absurd (false≢true e); nay = λ e h. h (p .yea refl) }
     go false p = record { yea = λ e. p .nay refl; nay = λ e h. true≢false e }
 
--- what is asked only where P holds
-pub decides-if : {P Q : Type 0} {a b : Bool} → Decides P a → Decides Q b → Decides (P → Q) (not a || b)
-decides-if {a = true} p q = record { yea = λ e _. q .yea e; nay = λ e f. q .nay e (f (p .yea refl)) }
-decides-if {a = false} p q = record { yea = λ e x. absurd (p .nay refl x); nay = λ e f. true≢false e }
-
 -- for the code: of two tests the first fails, or it holds and the second is asked
 pub both-first : (a b r : Bool) → a ≡ false → r ≡ false → r ≡ a && b
 both-first a b r e h = rw e h
