@@ -1,4 +1,5 @@
--- Laws of the list of floors: a booking raises the entry of its own leg alone, and each booking of a line has its entry.
+-- Laws of the list of floors: a booking raises the entry of its own leg alone, and each booking of a line has its entry; by the list, rule 18 and the free
+-- arrivals are those of the line.
 use Prim.Native.Nat.{ℕ, zero, suc, _+_, _*_, _-_, _≤_, _<_, max}
 use mathlib.Core.Path.{_≡_, refl, sym, ap, _∙_}
 use mathlib.Core.List.{List}
