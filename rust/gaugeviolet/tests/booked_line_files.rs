@@ -29,21 +29,13 @@ const _: () = assert!(ALL >= 200_000);
 const SMALL: &[u8] = b"4\n1\n1\n1\n1\n3\nS 1 1\nS 1 1\nS 1 1\n3\n1 4 0 99 1 5 0 5 0 5\n\
     4 2 0 99 1 5 0 5\n2 3 0 9 1 5\n2\n1 2 30\n2 3 0\n";
 
-const TIMES: [Booked; 5] = [
-    Booked::InAnyCase,
-    Booked::Later(30),
-    Booked::EndOfDay,
-    Booked::LastMinute,
-    Booked::AnyTime,
-];
-
 /// A random line with bookings, of any size.
 fn booked_line(random: &mut Random) -> Line {
     loop {
         let (stations, trains) = (random.within(3, 12), random.within(1, 12));
         let density = random.one_of(&[Density::Sparse, Density::Dense]);
         let line = inputs::line(random, stations, trains, density);
-        let booked = with_bookings(random, &line, &TIMES);
+        let booked = with_bookings(random, &line, &Booked::ALL);
         if booked.booking_count > 0 {
             return booked;
         }
@@ -73,7 +65,7 @@ fn valid_files_of_every_size() {
         for density in [Density::Sparse, Density::Dense] {
             for _ in 0..50 {
                 let line = inputs::line(&mut random, stations, trains, density);
-                let booked = with_bookings(&mut random, &line, &TIMES);
+                let booked = with_bookings(&mut random, &line, &Booked::ALL);
                 let text = Fields::of(&booked).text();
                 // The text made here field by field is also what rewriting must give.
                 compared.lent(&text, text.len(), Ok(&text));

@@ -28,6 +28,15 @@ pub enum Booked {
 }
 
 impl Booked {
+    /// One of each.
+    pub const ALL: [Booked; 5] = [
+        Booked::InAnyCase,
+        Booked::Later(30),
+        Booked::EndOfDay,
+        Booked::LastMinute,
+        Booked::AnyTime,
+    ];
+
     /// The minute, for a train that could leave at `ready` and has `left` minutes to go from there.
     fn minute(self, random: &mut Random, ready: u16, left: u16) -> u16 {
         let minute = match self {
@@ -216,14 +225,6 @@ mod tests {
         assert_eq!(independent::write(line), Ok(text));
     }
 
-    const TIMES: [Booked; 5] = [
-        Booked::InAnyCase,
-        Booked::Later(30),
-        Booked::EndOfDay,
-        Booked::LastMinute,
-        Booked::AnyTime,
-    ];
-
     #[test]
     fn every_line_with_bookings_is_within_the_limits_and_reads_back() {
         let mut random = Random::new(26);
@@ -231,13 +232,13 @@ mod tests {
             for density in [crate::Density::Sparse, crate::Density::Dense] {
                 let line = crate::line(&mut random, stations, trains, density);
                 let has_a_stop = line.used_trains().iter().any(|train| train.legs() > 1);
-                for times in TIMES.chunks(1).chain([&TIMES[..]]) {
+                for times in Booked::ALL.chunks(1).chain([&Booked::ALL[..]]) {
                     let booked = with_bookings(&mut random, &line, times);
                     assert_eq!(booked.booking_count > 0, has_a_stop);
                     reads_back(&booked);
                 }
                 if has_a_stop {
-                    let time = random.one_of(&TIMES);
+                    let time = random.one_of(&Booked::ALL);
                     let one = with_one_booking(&mut random, &line, time);
                     assert_eq!(one.booking_count, 1);
                     reads_back(&one);
