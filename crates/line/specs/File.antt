@@ -1,5 +1,5 @@
 -- Reading the line file: document 01, "The line file", section by section and field by field: the field's form, the byte after it (2), its range
--- (3), at a destination whether it equals the origin (4), and at a booking's station whether it may stand there (19).
+-- (3), at a destination whether it equals the origin (4), and at a booking's station and a due's train whether it may stand there (19).
 use Prim.Native.Nat.{ℕ, zero, suc, _-_}
 use mathlib.Core.Bool.{Bool, true, false, not}
 use mathlib.Core.List.{List, [], _∷_}
@@ -16,6 +16,7 @@ use Rattle.line.specs.declared.Kind.{Kind}
 use Rattle.line.specs.declared.Segment.{Segment}
 use Rattle.line.specs.declared.Train.{Train}
 use Rattle.line.specs.declared.Booking.{Booking}
+use Rattle.line.specs.declared.Listed.{Listed}
 use Rattle.line.specs.declared.Line.{Line}
 use Rattle.line.specs.declared.Answer.{Answer}
 use Rattle.line.specs.declared.ReadLine.{ReadLine}
@@ -24,8 +25,8 @@ use Rattle.line.specs.declared.reading.Path.{Path}
 use Rattle.line.specs.declared.reading.Place.{Place}
 use Rattle.line.specs.declared.reading.Letter.{Letter}
 use Rattle.line.specs.declared.reading.KindField.{KindField}
-use Rattle.line.specs.Ranges.{stationCount, tracks, gap, trainCount, trainNumber, bookingCount, newest, station, time, weight, run, stop}
-use Rattle.line.specs.Record.{noSegment, noTrain, noBooking, lineWith, emptyLine, legsBetween}
+use Rattle.line.specs.Ranges.{stationCount, tracks, gap, trainCount, trainNumber, bookingCount, listCount, newest, station, time, weight, run, stop}
+use Rattle.line.specs.Record.{noSegment, noTrain, noBooking, noListed, Further, lineWith, emptyLine, legsBetween}
 use Rattle.line.specs.Bookings.{standsAfter, bookable}
 
 -- a number in its range, with the byte b after it: 2 for its form and the byte after it, 3 for its range
@@ -177,24 +178,48 @@ abbrev pub null : {A : Type 0} → List A → Bool
 null [] = true
 null (x ∷ xs) = false
 
--- "Sections past the third may be left off from the end"
+-- "Sections past the third may be left off from the end, and the last one written is never empty"
+unfoldable pub risingSection : {A : Type 0} → Limits → A → (A → List ℕ → Cursor → Parsed A) → List ℕ → Cursor → Parsed (List A)
+risingSection r none line s c = optionalAt 3 [] null (risingAt r none line) s c
+
 abbrev pub bookingSection : ℕ → List Train → List ℕ → Cursor → Parsed (List Booking)
-bookingSection n trains s c = optionalAt 3 [] null (risingAt (newest bookingCount) noBooking (bookingLine n trains)) s c
+bookingSection n trains s c = risingSection bookingCount noBooking (bookingLine n trains) s c
+
+-- ---- 5. Dues (document 02, K2), "train and due minute, rising by train"
+
+-- a line of a list of trains, after the one before it, on a line with t trains: "a train out of order 19, at its own field after 3", and then the minutes,
+-- which are in the range r
+unfoldable pub listedLine : ℕ → Limits → Listed → List ℕ → Cursor → Parsed Listed
+listedLine t r before s c =
+    thenRead (number (trainNumber t) 32 s c) (λ i c₁.
+    pick (not (ltb (before .train) i)) (Parsed.bad 19 (c .line))
+    (thenRead (number r 10 s c₁) (λ m c₂. Parsed.got (record { train = i; minutes = m }) c₂)))
+
+-- the newest section
+abbrev pub dueSection : ℕ → List ℕ → Cursor → Parsed (List Listed)
+dueSection t s c = risingSection (newest (listCount t)) noListed (listedLine t time) s c
 
 -- ---- the file: "Three sections in this order", those that may be left off, and no bytes after the last line
 
+-- the sections past the third, on a line of n stations with these trains
+unfoldable pub furtherAt : ℕ → Section Train → List ℕ → Cursor → Parsed Further
+furtherAt n trains s c =
+    thenRead (bookingSection n (usedIn trains) s c) (λ bookings c₁.
+    thenRead (dueSection (trains .count) s c₁) (λ dues c₂.
+    Parsed.got (record { bookings = bookings; dues = dues }) c₂))
+
 -- the line of its sections
-abbrev pub lineFrom : Section ℕ → Section Segment → Section Train → List Booking → Line
-lineFrom stations segments trains bookings =
-    lineWith (stations .count) (stations .entries) (segments .entries) (trains .count) (trains .entries) bookings
+abbrev pub lineFrom : Section ℕ → Section Segment → Section Train → Further → Line
+lineFrom stations segments trains further =
+    lineWith (stations .count) (stations .entries) (segments .entries) (trains .count) (trains .entries) further
 
 unfoldable pub lineAt : List ℕ → Cursor → Parsed Line
 lineAt s c =
     thenRead (stationSection s c) (λ stations c₁.
     thenRead (segmentSection (stations .count) s c₁) (λ segments c₂.
     thenRead (trainSection (stations .count) s c₂) (λ trains c₃.
-    thenRead (bookingSection (stations .count) (usedIn trains) s c₃) (λ bookings c₄.
-    pick (ltb (c₄ .at) (length s)) (Parsed.bad 2 (c₄ .line)) (Parsed.got (lineFrom stations segments trains bookings) c₄)))))
+    thenRead (furtherAt (stations .count) trains s c₃) (λ further c₄.
+    pick (ltb (c₄ .at) (length s)) (Parsed.bad 2 (c₄ .line)) (Parsed.got (lineFrom stations segments trains further) c₄)))))
 
 -- "ASCII text of at most 4,096 bytes": over that is 1 at 0; else the sections are read from the first byte on, which is on line 1
 unfoldable pub lineFile : List ℕ → Parsed Line

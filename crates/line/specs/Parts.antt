@@ -1,5 +1,5 @@
 -- The line file in two parts, between which the reader moves on: its stations and segments, and from where those
--- end its trains and bookings.
+-- end its trains and the sections past them.
 use Prim.Native.Nat.{ℕ, _≤_}
 use mathlib.Core.List.{List}
 use lib.ListN.{length}
@@ -10,8 +10,9 @@ use Rattle.text.specs.Reading.Parsed.{Parsed, thenRead}
 use Rattle.text.specs.Places.Lines.{Counted}
 use Rattle.line.specs.declared.Track.{Track}
 use Rattle.line.specs.declared.Line.{Line}
-use Rattle.line.specs.Record.{trackWith, trafficWith, bookedWith}
-use Rattle.line.specs.File.{stationSection, segmentSection, usedIn, trainSection, bookingSection}
+use Rattle.line.specs.declared.reading.FurtherSections.{FurtherSections}
+use Rattle.line.specs.Record.{Further, trackWith, trafficWith, bookedWith, listWith}
+use Rattle.line.specs.File.{stationSection, segmentSection, trainSection, furtherAt}
 
 -- the first two sections
 unfoldable pub trackAt : List ℕ → Cursor → Parsed Track
@@ -20,13 +21,18 @@ trackAt s c =
     thenRead (segmentSection (stations .count) s c₁) (λ segments c₂.
     Parsed.got (trackWith (stations .count) (stations .entries) (segments .entries)) c₂))
 
--- this track completed to a line: the third section, the one that may be left off, and no bytes after the last line
+-- the sections past the third, as the record has them
+abbrev pub sectionsWith : Further → FurtherSections
+sectionsWith x = record { booked = bookedWith (x .bookings); dues = listWith (x .dues) }
+
+-- this track completed to a line: the third section, those that may be left off, and no bytes after the last line
 unfoldable pub completedAt : Track → List ℕ → Cursor → Parsed Line
 completedAt t s c =
     thenRead (trainSection (t .«station_count») s c) (λ trains c₁.
-    thenRead (bookingSection (t .«station_count») (usedIn trains) s c₁) (λ bookings c₂.
+    thenRead (furtherAt (t .«station_count») trains s c₁) (λ x c₂.
     pick (ltb (c₂ .at) (length s)) (Parsed.bad 2 (c₂ .line))
-    (Parsed.got (record { track = t; traffic = trafficWith (trains .count) (trains .entries); booked = bookedWith bookings }) c₂)))
+    (Parsed.got
+    (record { track = t; traffic = trafficWith (trains .count) (trains .entries); booked = bookedWith (x .bookings); dues = listWith (x .dues) }) c₂)))
 
 -- the first part from position i on, which is on line 1, of a text that is not too long
 unfoldable pub trackFrom : List ℕ → ℕ → Parsed Track

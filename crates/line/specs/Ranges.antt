@@ -30,6 +30,10 @@ trainNumber n = record { min = 1; max = n }
 abbrev pub bookingCount : Limits
 bookingCount = record { min = 0; max = 120 }
 
+-- document 02, K2, of the dues and of "later lists of trains": "a count over the trains is 3"; of a line with t trains
+abbrev pub listCount : ℕ → Limits
+listCount t = record { min = 0; max = t }
+
 -- "a last section with count 0 is 3 at its line": the newest section can only be the last, so in the file its count is from 1
 abbrev pub newest : Limits → Limits
 newest r = record { min = 1; max = r .max }

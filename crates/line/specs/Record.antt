@@ -11,6 +11,8 @@ use Rattle.line.specs.declared.Track.{Track}
 use Rattle.line.specs.declared.Traffic.{Traffic}
 use Rattle.line.specs.declared.Booking.{Booking}
 use Rattle.line.specs.declared.Booked.{Booked}
+use Rattle.line.specs.declared.Listed.{Listed}
+use Rattle.line.specs.declared.TrainList.{TrainList}
 use Rattle.line.specs.declared.Line.{Line}
 
 -- "entries beyond a count are 0 (a kind is S)"
@@ -23,7 +25,10 @@ noTrain = record { origin = 0; destination = 0; earliest = 0; latest = 0; weight
 abbrev pub noBooking : Booking
 noBooking = record { train = 0; station = 0; minute = 0 }
 
--- the track, the traffic, the bookings and the line of these entries
+abbrev pub noListed : Listed
+noListed = record { train = 0; minutes = 0 }
+
+-- the track, the traffic, the bookings and a list of trains of these entries
 abbrev pub trackWith : ℕ → List ℕ → List Segment → Track
 trackWith n ts gs = record { «station_count» = n; tracks = ts; segments = gs }
 
@@ -33,14 +38,24 @@ trafficWith t trs = record { «train_count» = t; trains = trs }
 abbrev pub bookedWith : List Booking → Booked
 bookedWith bs = record { «booking_count» = length bs; bookings = padded 120 noBooking bs }
 
-abbrev pub lineWith : ℕ → List ℕ → List Segment → ℕ → List Train → List Booking → Line
-lineWith n ts gs t trs bs = record { track = trackWith n ts gs; traffic = trafficWith t trs; booked = bookedWith bs }
+abbrev pub listWith : List Listed → TrainList
+listWith xs = record { count = length xs; listed = padded 12 noListed xs }
+
+-- what the sections past the third give, each of which may be left off
+pub record Further : Type 0 where
+  pub bookings : List Booking
+  pub dues : List Listed
+
+-- the line of these entries
+abbrev pub lineWith : ℕ → List ℕ → List Segment → ℕ → List Train → Further → Line
+lineWith n ts gs t trs x =
+    record { track = trackWith n ts gs; traffic = trafficWith t trs; booked = bookedWith (x .bookings); dues = listWith (x .dues) }
 
 abbrev pub emptyTrack : Track
 emptyTrack = trackWith 0 (replicate 12 0) (replicate 11 noSegment)
 
 abbrev pub emptyLine : Line
-emptyLine = record { track = emptyTrack; traffic = trafficWith 0 (replicate 12 noTrain); booked = bookedWith [] }
+emptyLine = lineWith 0 (replicate 12 0) (replicate 11 noSegment) 0 (replicate 12 noTrain) (record { bookings = []; dues = [] })
 
 -- the segments of a train's path: as many as its origin and destination are apart
 abbrev pub legsBetween : ℕ → ℕ → ℕ
@@ -67,6 +82,15 @@ trainsOf l = take (l .traffic .«train_count») (l .traffic .trains)
 abbrev pub bookingsOf : Line → List Booking
 bookingsOf l = take (l .booked .«booking_count») (l .booked .bookings)
 
+abbrev pub listedIn : TrainList → List Listed
+listedIn x = take (x .count) (x .listed)
+
+abbrev pub duesOf : Line → List Listed
+duesOf l = listedIn (l .dues)
+
+abbrev pub furtherOf : Line → Further
+furtherOf l = record { bookings = bookingsOf l; dues = duesOf l }
+
 -- a run for each segment of the path, and a stop at each station between two of them
 abbrev pub runsOf : Train → List ℕ
 runsOf t = take (legsOf t) (t .runs)
@@ -92,7 +116,7 @@ tidyTrain t =
 unfoldable pub tidyLine : Line → Line
 tidyLine l =
     lineWith (l .track .«station_count») (padded 12 0 (tracksOf l)) (padded 11 noSegment (segmentsOf l)) (l .traffic .«train_count»)
-    (padded 12 noTrain (map tidyTrain (trainsOf l))) (bookingsOf l)
+    (padded 12 noTrain (map tidyTrain (trainsOf l))) (furtherOf l)
 
 pub record SameTrain (t u : Train) : Type 0 where
   pub origin : t .origin ≡ u .origin
@@ -116,3 +140,4 @@ pub record SameLine (l m : Line) : Type 0 where
   pub trains : l .traffic .«train_count» ≡ m .traffic .«train_count»
   pub each-train : SameTrains (trainsOf l) (trainsOf m)
   pub bookings : bookingsOf l ≡ bookingsOf m
+  pub dues : duesOf l ≡ duesOf m

@@ -10,7 +10,7 @@ use Rattle.finite.specs.Each.{Each}
 use Rattle.line.specs.declared.Train.{Train}
 use Rattle.line.specs.declared.Booking.{Booking}
 use Rattle.line.specs.declared.Line.{Line}
-use Rattle.line.specs.Ranges.{In, stationCount, trainCount, trainNumber, bookingCount, station, time, weight, run}
+use Rattle.line.specs.Ranges.{In, stationCount, trainCount, trainNumber, bookingCount, listCount, station, time, weight, run}
 use Rattle.line.specs.Record.{segmentsOf, trainsOf, bookingsOf, runsOf, stopsOf}
 use Rattle.line.specs.Bookings.{Between, numbered}
 use Rattle.line.specs.Within.{SegmentWithin}
@@ -45,3 +45,4 @@ pub record Runnable (l : Line) : Type 0 where
   pub each-train : Each (TrainRunnable (l .track .«station_count»)) (trainsOf l)
   pub bookings : In bookingCount (l .booked .«booking_count»)
   pub each-booking : Each (BookingRunnable (trainsOf l)) (bookingsOf l)
+  pub dues : In (listCount (l .traffic .«train_count»)) (l .dues .count)

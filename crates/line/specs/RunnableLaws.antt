@@ -35,4 +35,5 @@ within-runnable l w =
       each-booking =
           each-of-after (λ before b. b) (BookingWithin n (trainsOf l)) (BookingRunnable (trainsOf l))
           (λ before b v. record { train = v .train; middle = v .middle; minute = v .minute }) (bookingsOf l) noBooking (w .each-booking);
+      dues = w .dues;
     }

@@ -12,8 +12,11 @@ use Rattle.line.specs.declared.Segment.{Segment}
 use Rattle.line.specs.declared.Train.{Train}
 use Rattle.line.specs.declared.Booking.{Booking}
 use Rattle.line.specs.declared.Booked.{Booked}
+use Rattle.line.specs.declared.Listed.{Listed}
+use Rattle.line.specs.declared.TrainList.{TrainList}
 use Rattle.line.specs.declared.Line.{Line}
-use Rattle.line.specs.Record.{tracksOf, segmentsOf, trainsOf, runsOf, stopsOf}
+use Rattle.line.specs.File.{null}
+use Rattle.line.specs.Record.{Further, tracksOf, segmentsOf, trainsOf, runsOf, stopsOf}
 
 -- a number and the byte b after it
 abbrev pub field : ℕ → ℕ → List ℕ → List ℕ
@@ -44,20 +47,44 @@ trainText t rest = headText t (journeyText (stopsOf t) (runsOf t) rest)
 abbrev pub bookingText : Booking → List ℕ → List ℕ
 bookingText b rest = field (b .train) 32 (field (b .station) 32 (field (b .minute) 10 rest))
 
-abbrev pub bookingsText : List Booking → List ℕ → List ℕ
-bookingsText bs rest = field (length bs) 10 (eachThen bookingText bs rest)
+abbrev pub listedText : Listed → List ℕ → List ℕ
+listedText x rest = field (x .train) 32 (field (x .minutes) 10 rest)
+
+-- ---- the sections past the third: "may be left off from the end, and the last one written is never empty"
+
+-- a section of these elements: their count, and a line each
+abbrev pub countedText : {A : Type 0} → (A → List ℕ → List ℕ) → List A → List ℕ → List ℕ
+countedText text xs rest = field (length xs) 10 (eachThen text xs rest)
+
+abbrev pub furtherText : Further → List ℕ
+furtherText x = optionalText null (countedText bookingText) (x .bookings) (optionalText null (countedText listedText) (x .dues) [])
+
+-- of the first n of an array
+abbrev pub arrayText : {A : Type 0} → (A → List ℕ → List ℕ) → ℕ → List A → List ℕ → List ℕ
+arrayText text n xs rest = field n 10 (eachThen text (take n xs) rest)
 
 -- the section of a record's bookings, and whether it is empty
 abbrev pub bookedText : Booked → List ℕ → List ℕ
-bookedText b rest = field (b .«booking_count») 10 (eachThen bookingText (take (b .«booking_count») (b .bookings)) rest)
+bookedText b rest = arrayText bookingText (b .«booking_count») (b .bookings) rest
 
 abbrev pub unbooked : Booked → Bool
 unbooked b = eqb (b .«booking_count») 0
 
--- the whole text; "Sections past the third may be left off from the end, and the last one written is never empty"
+-- and of a list of trains
+abbrev pub trainListText : TrainList → List ℕ → List ℕ
+trainListText x rest = arrayText listedText (x .count) (x .listed) rest
+
+abbrev pub unlisted : TrainList → Bool
+unlisted x = eqb (x .count) 0
+
+abbrev pub duesText : Line → List ℕ
+duesText l = optionalText unlisted trainListText (l .dues) []
+
+-- ---- the whole text
+
 unfoldable pub textOf : Line → List ℕ
 textOf l =
     field (l .track .«station_count») 10 (eachThen stationText (tracksOf l)
     (field (l .track .«station_count» - 1) 10 (eachThen segmentText (segmentsOf l)
     (field (l .traffic .«train_count») 10 (eachThen trainText (trainsOf l)
-    (optionalText unbooked bookedText (l .booked) []))))))
+    (optionalText unbooked bookedText (l .booked) (duesText l)))))))

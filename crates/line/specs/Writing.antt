@@ -3,7 +3,7 @@
 use Prim.Native.Nat.{ℕ, _+_, _-_}
 use mathlib.Core.Bool.{not}
 use mathlib.Core.List.{List, [], _∷_}
-use lib.Dec.{eqb}
+use lib.Dec.{eqb, ltb}
 use lib.ListN.{length, take}
 use Rattle.text.specs.declared.Bounded.{Bounded}
 use Rattle.text.specs.declared.Limits.{Limits}
@@ -15,10 +15,12 @@ use Rattle.line.specs.declared.Train.{Train}
 use Rattle.line.specs.declared.Track.{Track}
 use Rattle.line.specs.declared.Traffic.{Traffic}
 use Rattle.line.specs.declared.Booking.{Booking}
+use Rattle.line.specs.declared.Listed.{Listed}
+use Rattle.line.specs.declared.TrainList.{TrainList}
 use Rattle.line.specs.declared.Line.{Line}
 use Rattle.line.specs.declared.writing.Fault.{Fault}
-use Rattle.line.specs.Ranges.{stationCount, tracks, gap, trainCount, trainNumber, bookingCount, station, time, weight, run, stop}
-use Rattle.line.specs.Record.{noBooking, trainsOf, bookingsOf, runsOf, stopsOf}
+use Rattle.line.specs.Ranges.{stationCount, tracks, gap, trainCount, trainNumber, bookingCount, listCount, station, time, weight, run, stop}
+use Rattle.line.specs.Record.{noBooking, noListed, trainsOf, bookingsOf, listedIn, runsOf, stopsOf}
 use Rattle.line.specs.Bookings.{standsAfter, bookable}
 use Rattle.line.specs.Spell.{textOf}
 
@@ -87,6 +89,12 @@ bookingFaultWith n t train before p b =
     (thenFault (numberFault (station n) (b .station) p)
     (pick (not (standsAfter before (b .train) (b .station) train)) (Fault.At 19 p) (numberFault time (b .minute) p)))
 
+-- of a list of trains of a line with t of them: train (3, then 19), minutes (3)
+unfoldable pub listedFault : ℕ → Limits → Listed → ℕ → Listed → Fault
+listedFault t r before p x =
+    thenFault (numberFault (trainNumber t) (x .train) p)
+    (pick (not (ltb (before .train) (x .train))) (Fault.At 19 p) (numberFault r (x .minutes) p))
+
 -- the first fault of elements on lines of their own, each after the one before it, from line p on
 unfoldable pub risingFault : {A : Type 0} → List A → (A → ℕ → A → Fault) → A → ℕ → Fault
 risingFault [] f before p = Fault.None
@@ -115,11 +123,24 @@ bookedFaultOf l =
     thenFault (numberFault bookingCount (l .booked .«booking_count») (bookingsLine l))
     (risingFault (bookingsOf l) (bookingFault (l .track .«station_count») (trainsOf l)) noBooking (bookingsLine l + 1))
 
+-- of a list of trains of a line with t of them, its count on line p
+unfoldable pub listFault : ℕ → Limits → TrainList → ℕ → Fault
+listFault t r x p =
+    thenFault (numberFault (listCount t) (x .count) p)
+    (risingFault (listedIn x) (listedFault t r) noListed (p + 1))
+
+-- the line of the count of dues
+abbrev pub duesLine : Line → ℕ
+duesLine l = bookingsLine l + 1 + l .booked .«booking_count»
+
+abbrev pub duesFaultOf : Line → Fault
+duesFaultOf l = listFault (l .traffic .«train_count») time (l .dues) (duesLine l)
+
 unfoldable pub faultOf : Line → Fault
 faultOf l =
     thenFault (trackFaultOf (l .track))
     (thenFault (trafficFaultOf (l .track .«station_count») (l .traffic))
-    (bookedFaultOf l))
+    (thenFault (bookedFaultOf l) (duesFaultOf l)))
 
 abbrev pub onFault : {A : Type 0} → Fault → A → (ℕ → ℕ → A) → A
 onFault Fault.None a f = a

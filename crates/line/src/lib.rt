@@ -2,7 +2,7 @@
 ghost use mathlib.Core.Path.{_≡_};
 ghost use Prim.Native.Nat.{_+_, _-_, _<_};
 ghost use Rattle.text.specs.Reading.Limits.{boundedOf};
-ghost use Rattle.line.specs.Ranges.{time, station, trainNumber};
+ghost use Rattle.line.specs.Ranges.{time, station, trainNumber, listCount};
 ghost use Rattle.line.specs.Record.{legsBetween};
 use text::Bounded;
 use text::Limits;
@@ -64,11 +64,24 @@ pub struct Booked {
     pub bookings: [Booking; 120],
 }
 
+// A train of a list of trains, and the minutes listed for it: in the list of dues, its due minute.
+pub struct Listed {
+    pub train: u16,
+    pub minutes: u16,
+}
+
+// A list of trains, rising by train.
+pub struct TrainList {
+    pub count: u16,
+    pub listed: [Listed; 12],
+}
+
 // Entries beyond a count are 0 (a kind is S) after reading and ignored in writing.
 pub struct Line {
     pub track: Track,
     pub traffic: Traffic,
     pub booked: Booked,
+    pub dues: TrainList,
 }
 
 pub enum Answer {
@@ -154,10 +167,19 @@ impl Train {
 }
 
 impl Booking {
-    // How many there may be. In the file the section is left off where there are none, so its count is from 1.
     pub const COUNT: Limits = Limits { min: 0, max: 120 };
+}
 
-    pub const WRITTEN: Limits = Limits { min: 1, max: 120 };
+impl TrainList {
+    // How many a list of a line with so many trains may have.
+    pub fn counts(trains: u16) -> Limits
+        ensures { λ r. ⌜ r ≡ listCount trains ⌝ }
+    {
+        Limits {
+            min: 0,
+            max: trains,
+        }
+    }
 }
 
 // How many segments lie between two stations.

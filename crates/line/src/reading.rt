@@ -5,18 +5,22 @@ ghost use Rattle.text.specs.Places.Lines.{Counted};
 ghost use Rattle.text.specs.Reading.Parsed.{mapParsed, lines};
 ghost use Rattle.text.specs.Reading.Told.{toldEnding};
 ghost use Rattle.text.specs.Elements.Padded.{padded};
-ghost use Rattle.line.specs.Record.{noSegment, noTrain, noBooking, trackWith, trafficWith, bookedWith, emptyTrack, emptyLine};
+ghost use Rattle.line.specs.Record.{noSegment, noTrain, noBooking, noListed, trackWith, trafficWith, bookedWith, listWith, emptyTrack, emptyLine};
 ghost use Rattle.line.specs.Bookings.{rises, between, standsAfter};
-ghost use Rattle.text.specs.Sections.Chained.{chained};
+ghost use Rattle.text.specs.Sections.Chained.{chained, left};
+ghost use mathlib.Core.Bool.{not, _&&_};
 ghost use mathlib.Core.List.{[]};
+ghost use lib.Dec.{eqb};
 ghost use lib.ListN.{take};
-ghost use Rattle.line.specs.File.{toldKind, stationLine, stationSection, letterOf, kindAt, afterField, segmentLine, segmentSection, pathAt, headAt, trainWith, trainLine, trainSection, placeAt, restAt, bookingLine, bookingSection, lineFile, answered};
-ghost use Rattle.line.specs.Parts.{trackFrom, endOf, CanComplete, completedFrom};
+ghost use Rattle.line.specs.File.{toldKind, stationLine, stationSection, letterOf, kindAt, afterField, segmentLine, segmentSection, pathAt, headAt, trainWith, trainLine, trainSection, placeAt, restAt, bookingLine, bookingSection, listedLine, risingSection, furtherAt, lineFile, answered};
+ghost use Rattle.line.specs.Parts.{sectionsWith, trackFrom, endOf, CanComplete, completedFrom};
+ghost use Rattle.line.specs.Ranges.{newest};
 use crate::Answer;
 use crate::Booked;
 use crate::Booking;
 use crate::Kind;
 use crate::Line;
+use crate::Listed;
 use crate::MAX_BYTES;
 use crate::ReadLine;
 use crate::Segment;
@@ -25,6 +29,7 @@ use crate::Time;
 use crate::Track;
 use crate::Traffic;
 use crate::Train;
+use crate::TrainList;
 use crate::legs_between;
 use crate::reader::complete;
 use crate::reader::moved;
@@ -136,6 +141,33 @@ pub struct BookingLines {
 pub struct BookingSection {
     pub ending: Ending,
     pub booked: Booked,
+}
+
+// A line of a list of trains, its lines, and the section.
+pub struct ListedPart {
+    pub ending: Ending,
+    pub listed: Listed,
+}
+
+pub struct ListLines {
+    pub ending: Ending,
+    pub listed: [Listed; 12],
+}
+
+pub struct ListSection {
+    pub ending: Ending,
+    pub list: TrainList,
+}
+
+// What the sections past the third give.
+pub struct FurtherSections {
+    pub booked: Booked,
+    pub dues: TrainList,
+}
+
+pub struct FurtherPart {
+    pub ending: Ending,
+    pub sections: FurtherSections,
 }
 
 // The stations and segments, and where the reader stands after them; where they are refused, where it stood before.
@@ -654,6 +686,13 @@ fn booking_lines(
     BookingLines { ending, bookings }
 }
 
+// Whether a section with this count, which ended here, is empty and the last: "the last one written is never empty".
+fn empty_last(s: &[u8], count: u16, next: Cursor) -> bool
+    ensures { λ r. ⌜ r ≡ eqb count 0 && not (left (now (s .entry)) next) ⌝ }
+{
+    count == 0 && s.len() <= next.at
+}
+
 // 4. Bookings, which may be left off: their count and a line each.
 fn booking_section(s: &[u8], start: Cursor, stations: u16, traffic: Traffic) -> BookingSection
     requires { ⌜ (traffic .«train_count» ≤ 12) × Counted start ⌝ }
@@ -666,13 +705,19 @@ fn booking_section(s: &[u8], start: Cursor, stations: u16, traffic: Traffic) -> 
             booked: none,
         };
     }
-    let field = start.ranged(s, LINE_FEED, Booking::WRITTEN, FAULTS);
+    let field = start.ranged(s, LINE_FEED, Booking::COUNT, FAULTS);
     let Field::Value(count, next) = field else {
         return BookingSection {
             ending: ending_of(field),
             booked: none,
         };
     };
+    if empty_last(s, count, next) {
+        return BookingSection {
+            ending: Ending::Refused(3, start.line),
+            booked: none,
+        };
+    }
     let part = booking_lines(s, next, count as usize, stations, traffic);
     let ending = part.ending;
     let bookings = part.bookings;
@@ -682,6 +727,161 @@ fn booking_section(s: &[u8], start: Cursor, stations: u16, traffic: Traffic) -> 
             booking_count: count,
             bookings,
         },
+    }
+}
+
+fn no_listed() -> Listed
+    ensures { λ r. ⌜ r ≡ noListed ⌝ }
+{
+    Listed {
+        train: 0,
+        minutes: 0,
+    }
+}
+
+fn empty_list() -> TrainList
+    ensures { λ r. ⌜ r ≡ listWith [] ⌝ }
+{
+    let none = no_listed();
+    let listed = [none; 12];
+    TrainList { count: 0, listed }
+}
+
+// A line of a list of trains that was not read.
+fn no_listed_part(ending: Ending) -> ListedPart
+    ensures { λ r. ⌜ r .ending ≡ ending ⌝ }
+{
+    let listed = no_listed();
+    ListedPart { ending, listed }
+}
+
+// A line of a list of trains, after the one before it: the train, and its minutes within the limits.
+fn listed_line(
+    s: &[u8],
+    cursor: Cursor,
+    before: Listed,
+    trains: u16,
+    limits: Limits,
+) -> ListedPart
+    requires { ⌜ Counted cursor ⌝ }
+    ensures { λ r. ⌜ toldEnding (r .ending) (r .listed) ≡ listedLine trains limits before (now (s .entry)) cursor ⌝ }
+{
+    let t = cursor.ranged(s, SPACE, Train::numbers(trains), FAULTS);
+    let Field::Value(train, after_train) = t else {
+        return no_listed_part(ending_of(t));
+    };
+    if train <= before.train {
+        return no_listed_part(Ending::Refused(19, cursor.line));
+    }
+    let m = after_train.ranged(s, LINE_FEED, limits, FAULTS);
+    let Field::Value(minutes, next) = m else {
+        return no_listed_part(ending_of(m));
+    };
+    ListedPart {
+        ending: Ending::Done(next),
+        listed: Listed { train, minutes },
+    }
+}
+
+// The lines of a list of trains, each after the one before it.
+fn list_lines(s: &[u8], start: Cursor, count: usize, trains: u16, limits: Limits) -> ListLines
+    requires { ⌜ (count ≤ 12) × Counted start ⌝ }
+    ensures { λ r. ⌜ toldEnding (r .ending) (r .listed) ≡ mapParsed (padded 12 noListed) (chained (λ a b. b) (listedLine trains limits) count noListed (now (s .entry)) start) ⌝ }
+{
+    let mut before = no_listed();
+    let mut listed = [before; 12];
+    let mut cursor = start;
+    let mut i: usize = 0;
+    let ending = 'lines: loop {
+        if i == count {
+            break 'lines Ending::Done(cursor);
+        }
+        let part = listed_line(s, cursor, before, trains, limits);
+        let ended = part.ending;
+        let Ending::Done(next) = ended else {
+            break 'lines ended;
+        };
+        before = part.listed;
+        listed[i] = before;
+        cursor = next;
+        i = i + 1;
+    };
+    ListLines { ending, listed }
+}
+
+// The section of a list of trains, which may be left off: its count, in these limits, and a line each.
+fn list_section(
+    s: &[u8],
+    start: Cursor,
+    counts: Limits,
+    trains: u16,
+    limits: Limits,
+) -> ListSection
+    requires { ⌜ (counts .max ≤ 12) × Counted start ⌝ }
+    ensures { λ r. ⌜ toldEnding (r .ending) (r .list) ≡ mapParsed listWith (risingSection counts noListed (listedLine trains limits) (now (s .entry)) start) ⌝ }
+{
+    let none = empty_list();
+    if s.len() <= start.at {
+        return ListSection {
+            ending: Ending::Done(start),
+            list: none,
+        };
+    }
+    let field = start.ranged(s, LINE_FEED, counts, FAULTS);
+    let Field::Value(count, next) = field else {
+        return ListSection {
+            ending: ending_of(field),
+            list: none,
+        };
+    };
+    if empty_last(s, count, next) {
+        return ListSection {
+            ending: Ending::Refused(3, start.line),
+            list: none,
+        };
+    }
+    let part = list_lines(s, next, count as usize, trains, limits);
+    let ending = part.ending;
+    let listed = part.listed;
+    ListSection {
+        ending,
+        list: TrainList { count, listed },
+    }
+}
+
+// In the file the count of the newest section, which can only be the last, is from 1.
+fn newest_counts(limits: Limits) -> Limits
+    ensures { λ r. ⌜ r ≡ newest limits ⌝ }
+{
+    Limits {
+        min: 1,
+        max: limits.max,
+    }
+}
+
+// The sections past the third: bookings, and 5. dues.
+fn further_sections(s: &[u8], start: Cursor, stations: u16, traffic: Traffic) -> FurtherPart
+    requires { ⌜ (traffic .«train_count» ≤ 12) × Counted start ⌝ }
+    ensures { λ r. ⌜ toldEnding (r .ending) (r .sections) ≡ mapParsed sectionsWith (furtherAt stations (record { count = traffic .«train_count»; entries = traffic .trains }) (now (s .entry)) start) ⌝ }
+{
+    let trains = traffic.train_count;
+    let fourth = booking_section(s, start, stations, traffic);
+    let booked = fourth.booked;
+    let bookings_end = fourth.ending;
+    let Ending::Done(after_bookings) = bookings_end else {
+        let none = empty_list();
+        return FurtherPart {
+            ending: bookings_end,
+            sections: FurtherSections { booked, dues: none },
+        };
+    };
+    let counts = newest_counts(TrainList::counts(trains));
+    let fifth = list_section(s, after_bookings, counts, trains, Time::LIMITS);
+    let ending = fifth.ending;
+    let dues = fifth.list;
+    FurtherPart {
+        ending,
+        sections: FurtherSections { booked, dues },
     }
 }
 
@@ -707,13 +907,14 @@ fn traffic_with(count: u16, trains: [Train; 12]) -> Traffic
 }
 
 // The line of these parts; nothing else makes one.
-fn line_with(track: Track, traffic: Traffic, booked: Booked) -> Line
-    ensures { λ r. ⌜ r ≡ record { track = track; traffic = traffic; booked = booked } ⌝ }
+fn line_with(track: Track, traffic: Traffic, booked: Booked, dues: TrainList) -> Line
+    ensures { λ r. ⌜ r ≡ record { track = track; traffic = traffic; booked = booked; dues = dues } ⌝ }
 {
     Line {
         track,
         traffic,
         booked,
+        dues,
     }
 }
 
@@ -734,7 +935,8 @@ fn empty_line() -> Line
     let trains = [train; 12];
     let traffic = traffic_with(0, trains);
     let booked = no_bookings();
-    line_with(track, traffic, booked)
+    let dues = empty_list();
+    line_with(track, traffic, booked, dues)
 }
 
 // What reading gives where it ended so: this line; or a refusal and the empty one.
@@ -792,7 +994,7 @@ pub fn track_from(s: &[u8], at: usize) -> TrackPart
     }
 }
 
-// This track completed to a line: the trains and bookings from a position on, and nothing after the last; or the first refusal.
+// This track completed to a line: the trains and the sections past them from a position on, and nothing after the last; or the first refusal.
 pub fn complete_from(s: &[u8], at: usize, part: TrackPart) -> ReadLine
     requires { ⌜ CanComplete at (toldEnding (part .ending) (part .track)) ⌝ }
     ensures { λ r. ⌜ r ≡ answered (completedFrom (now (s .entry)) at (toldEnding (part .ending) (part .track))) ⌝ }
@@ -814,16 +1016,17 @@ pub fn complete_from(s: &[u8], at: usize, part: TrackPart) -> ReadLine
     };
     let trains = third.trains;
     let traffic = traffic_with(third.count, trains);
-    let fourth = booking_section(s, after_trains, track.station_count, traffic);
-    let bookings_end = fourth.ending;
-    let Ending::Done(last) = bookings_end else {
-        return answer_for(bookings_end, empty);
+    let further = further_sections(s, after_trains, track.station_count, traffic);
+    let further_end = further.ending;
+    let Ending::Done(last) = further_end else {
+        return answer_for(further_end, empty);
     };
     if last.at < s.len() {
         return answer_for(Ending::Refused(2, last.line), empty);
     }
-    let booked = fourth.booked;
-    let line = line_with(track, traffic, booked);
+    let booked = further.sections.booked;
+    let dues = further.sections.dues;
+    let line = line_with(track, traffic, booked, dues);
     answer_for(Ending::Done(last), line)
 }
 
