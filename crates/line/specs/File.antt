@@ -1,7 +1,7 @@
 -- Reading the line file: document 01, "The line file", section by section and field by field: the field's form, the byte after it (2), its range
 -- (3), at a destination whether it equals the origin (4), and at a booking's station and a due's train whether it may stand there (19).
 use Prim.Native.Nat.{ℕ, zero, suc, _-_}
-use mathlib.Core.Bool.{Bool, true, false, not}
+use mathlib.Core.Bool.{Bool, true, false, not, _&&_}
 use mathlib.Core.List.{List, [], _∷_}
 use lib.ListN.{length, take}
 use lib.Dec.{ltb, eqb}
@@ -11,7 +11,7 @@ use Rattle.text.specs.Reading.Choice.{pick, onStep}
 use Rattle.text.specs.Reading.Bytes.{byteAt, ahead, pastOf}
 use Rattle.text.specs.Reading.Parsed.{Parsed, thenRead, lines, rangedAt}
 use Rattle.text.specs.Elements.Padded.{padded}
-use Rattle.text.specs.Sections.Chained.{chained, optionalAt}
+use Rattle.text.specs.Sections.Chained.{chained, left, optionalAt}
 use Rattle.line.specs.declared.Kind.{Kind}
 use Rattle.line.specs.declared.Segment.{Segment}
 use Rattle.line.specs.declared.Train.{Train}
@@ -177,6 +177,10 @@ risingAt r none line s c = thenRead (number r 10 s c) (λ n c₁. chained (λ be
 abbrev pub null : {A : Type 0} → List A → Bool
 null [] = true
 null (x ∷ xs) = false
+
+-- a section of n lines that ended at this cursor is empty and the last
+abbrev pub emptyLast : ℕ → List ℕ → Cursor → Bool
+emptyLast n s next = eqb n 0 && not (left s next)
 
 -- "Sections past the third may be left off from the end, and the last one written is never empty"
 unfoldable pub risingSection : {A : Type 0} → Limits → A → (A → List ℕ → Cursor → Parsed A) → List ℕ → Cursor → Parsed (List A)

@@ -17,13 +17,49 @@ use Rattle.text.specs.Elements.Padded.{padded}
 use Rattle.text.specs.Reading.Told.{toldEnding}
 use Rattle.text.specs.Sections.Chained.{chained, left, optionalAt}
 use Rattle.text.specs.Sections.ChainedLaws.{chained-done, chained-length}
+use Rattle.line.specs.declared.Train.{Train}
+use Rattle.line.specs.declared.Booking.{Booking}
+use Rattle.line.specs.declared.Booked.{Booked}
+use Rattle.line.specs.declared.Listed.{Listed}
+use Rattle.line.specs.declared.TrainList.{TrainList}
+use Rattle.line.specs.declared.reading.FurtherSections.{FurtherSections}
 use Rattle.line.specs.Ranges.{In}
-use Rattle.line.specs.File.{number, Section, sectionAt, risingAt, risingSection, null, lineAt, lineFile}
+use Rattle.line.specs.Record.{bookedWith, listWith}
+use Rattle.line.specs.Parts.{sectionsWith}
+use Rattle.line.specs.File.{number, Section, usedIn, sectionAt, risingAt, emptyLast, risingSection, null, bookingSection, dueSection, furtherAt, lineAt, lineFile}
 
 -- what a part tells with its value turned into another
 told-map : {A B : Type 0} (f : A → B) (e : Ending) (x : A) → toldEnding e (f x) ≡ mapParsed f (toldEnding e x)
 told-map f (Ending.Done c) x = refl
 told-map f (Ending.Refused n p) x = refl
+
+module _ {A B : Type 0} (f : A → B) (p : Parsed A) where
+  pub told-got : {b : B} {x : A} {c : Cursor} → b ≡ f x → p ≡ Parsed.got x c → Parsed.got b c ≡ mapParsed f p
+  told-got {c = c} made is = ap (λ (y : B). Parsed.got y c) made ∙ sym (ap (λ (y : Parsed A). mapParsed f y) is)
+
+  pub told-bad : {e : Ending} (b : B) {n q : ℕ} → e ≡ Ending.Refused n q → p ≡ Parsed.bad n q → toldEnding e b ≡ mapParsed f p
+  told-bad b refused is = ap (λ (k : Ending). toldEnding k b) refused ∙ sym (ap (λ (y : Parsed A). mapParsed f y) is)
+
+  -- and back: the value that was turned into this one
+  pub record MadeOf (b : B) (next : Cursor) : Type 0 where
+    pub value : A
+    pub read : p ≡ Parsed.got value next
+    pub made : b ≡ f value
+
+  module _ (e : Ending) (b : B) (told : toldEnding e b ≡ mapParsed f p) where
+    pub made-of : {next : Cursor} → e ≡ Ending.Done next → MadeOf b next
+    made-of {next} is = go p refl (sym told ∙ ap (λ (k : Ending). toldEnding k b) is)
+      where
+        go : (y : Parsed A) → p ≡ y → mapParsed f y ≡ Parsed.got b next → MadeOf b next
+        go (Parsed.got x d) h q = got-is (λ z end. MadeOf z end) q (record { value = x; read = h; made = refl })
+        go (Parsed.bad m k) h q = let y : _≡_ {A = ℕ} 0 1 = cc in absurd (omega arith)
+
+    pub refused-of : {m q : ℕ} → e ≡ Ending.Refused m q → p ≡ Parsed.bad m q
+    refused-of {m} {q} is = go p (sym (ap (λ (k : Ending). toldEnding k b) is) ∙ told)
+      where
+        go : (y : Parsed A) → Parsed.bad m q ≡ mapParsed f y → y ≡ Parsed.bad m q
+        go (Parsed.got x d) h = let y : _≡_ {A = ℕ} 0 1 = cc in absurd (omega arith)
+        go (Parsed.bad k r) h = cc
 
 -- ---- a section: its count, then its lines
 
@@ -56,10 +92,6 @@ module _ {A : Type 0} (r : Limits) (size : ℕ) (none : A) (line : List ℕ → 
       got-is (λ y end. In r (y .count)) (xs .after) (count .low, count .high)
 
 -- ---- a section that may be left off, of lines in rising order
-
--- it has this count, is empty, and nothing follows it
-abbrev pub emptyLast : ℕ → List ℕ → Cursor → Bool
-emptyLast n s next = eqb n 0 && not (left s next)
 
 module _ {A : Type 0} (r : Limits) (none : A) (line : A → List ℕ → Cursor → Parsed A) (s : List ℕ) (c : Cursor) where
   pub rising-left-off : length s ≤ c .at → risingSection r none line s c ≡ Parsed.got [] c
@@ -108,6 +140,29 @@ module _ {A : Type 0} (r : Limits) (none : A) (line : A → List ℕ → Cursor 
           both (Parsed.got ys d) is =
               ap (λ (k : ℕ). Parsed.got (with k (padded size none ys)) d) (sym (chained-length (λ before x. x) line n none s c₁ ys d is))
           both (Parsed.bad m q) is = refl
+
+-- ---- the sections past the third, one after the other
+
+module _ (n : ℕ) (z : Section Train) (s : List ℕ) (c : Cursor) where
+  pub further-no-bookings : {m q : ℕ} → bookingSection n (usedIn z) s c ≡ Parsed.bad m q → furtherAt n z s c ≡ Parsed.bad m q
+  unfolding furtherAt
+  further-no-bookings e = rw e refl
+
+  -- with these bookings, the dues as they ended and were told
+  pub further-dues : {bs : List Booking} {c₁ : Cursor} {b : Booked} (e : Ending) (d : TrainList) → bookingSection n (usedIn z) s c ≡ Parsed.got bs c₁ →
+      b ≡ bookedWith bs → toldEnding e d ≡ mapParsed listWith (dueSection (z .count) s c₁) →
+      toldEnding e (record { booked = b; dues = d }) ≡ mapParsed sectionsWith (furtherAt n z s c)
+  unfolding furtherAt
+  further-dues {bs} {c₁} {b} e d bookings made told =
+      told-map with e d ∙ ap (λ (p : Parsed TrainList). mapParsed with p) told ∙ (rw bookings (both (dueSection (z .count) s c₁)))
+    where
+      with : TrainList → FurtherSections
+      with y = record { booked = b; dues = y }
+
+      both : (p : Parsed (List Listed)) → mapParsed with (mapParsed listWith p)
+          ≡ mapParsed sectionsWith (thenRead p (λ ds c₂. Parsed.got (record { bookings = bs; dues = ds }) c₂))
+      both (Parsed.got ds c₂) = ap (λ (y : Booked). Parsed.got (record { booked = y; dues = listWith ds }) c₂) made
+      both (Parsed.bad m q) = refl
 
 -- ---- the file
 

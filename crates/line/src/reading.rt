@@ -7,12 +7,10 @@ ghost use Rattle.text.specs.Reading.Told.{toldEnding};
 ghost use Rattle.text.specs.Elements.Padded.{padded};
 ghost use Rattle.line.specs.Record.{noSegment, noTrain, noBooking, noListed, trackWith, trafficWith, bookedWith, listWith, emptyTrack, emptyLine};
 ghost use Rattle.line.specs.Bookings.{rises, between, standsAfter};
-ghost use Rattle.text.specs.Sections.Chained.{chained, left};
-ghost use mathlib.Core.Bool.{not, _&&_};
+ghost use Rattle.text.specs.Sections.Chained.{chained};
 ghost use mathlib.Core.List.{[]};
-ghost use lib.Dec.{eqb};
 ghost use lib.ListN.{take};
-ghost use Rattle.line.specs.File.{toldKind, stationLine, stationSection, letterOf, kindAt, afterField, segmentLine, segmentSection, pathAt, headAt, trainWith, trainLine, trainSection, placeAt, restAt, bookingLine, bookingSection, listedLine, risingSection, furtherAt, lineFile, answered};
+ghost use Rattle.line.specs.File.{toldKind, stationLine, stationSection, letterOf, kindAt, afterField, segmentLine, segmentSection, pathAt, headAt, trainWith, trainLine, trainSection, placeAt, restAt, bookingLine, bookingSection, emptyLast, listedLine, risingSection, furtherAt, lineFile, answered};
 ghost use Rattle.line.specs.Parts.{sectionsWith, trackFrom, endOf, CanComplete, completedFrom};
 ghost use Rattle.line.specs.Ranges.{newest};
 use crate::Answer;
@@ -688,7 +686,7 @@ fn booking_lines(
 
 // Whether a section with this count, which ended here, is empty and the last: "the last one written is never empty".
 fn empty_last(s: &[u8], count: u16, next: Cursor) -> bool
-    ensures { λ r. ⌜ r ≡ eqb count 0 && not (left (now (s .entry)) next) ⌝ }
+    ensures { λ r. ⌜ r ≡ emptyLast count (now (s .entry)) next ⌝ }
 {
     count == 0 && s.len() <= next.at
 }
@@ -730,7 +728,7 @@ fn booking_section(s: &[u8], start: Cursor, stations: u16, traffic: Traffic) -> 
     }
 }
 
-fn no_listed() -> Listed
+pub fn no_listed() -> Listed
     ensures { λ r. ⌜ r ≡ noListed ⌝ }
 {
     Listed {
