@@ -93,7 +93,7 @@ module _ (o d p : ℕ) where
   pub other-ends : (d ≡ o → ⊥) → Fault.None ≡ pick (eqb d o) (Fault.At 4 p) Fault.None
   other-ends h = simp (ne-eqb d o h)
 
--- ---- whether a booking may stand, which a call told
+-- ---- whether a line may stand after the one before it, which a call or a test told
 
 module _ {m b : Bool} (p : ℕ) (f : Fault) (told : m ≡ b) where
   pub stands-not : not m ≡ true → Fault.At 19 p ≡ pick (not b) (Fault.At 19 p) f
@@ -180,8 +180,8 @@ legs-fit n p t e g h l =
     let path = tells-head n p t .holds (sym e ∙ g) .0 in
     rw l (path-legs n (t .origin) (t .destination) h (path .0) (path .1 .0) (path .1 .1))
 
--- the counts of a track and of traffic that were checked and have no fault
-counts-fit : {r : Fault} (l : Limits) (n p : ℕ) (later : Fault) → r ≡ thenFault (numberFault l n p) later → r ≡ Fault.None → In l n
+-- the count of a part that was checked and has no fault; that of a track, and that of traffic
+pub counts-fit : {r : Fault} (l : Limits) (n p : ℕ) (later : Fault) → r ≡ thenFault (numberFault l n p) later → r ≡ Fault.None → In l n
 counts-fit l n p later e g =
     tells-then _ _ (tells-number l n p) (record { holds = λ (h : later ≡ Fault.None). h; clean = λ h. h }) .holds (sym e ∙ g) .0
 
