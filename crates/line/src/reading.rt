@@ -730,7 +730,7 @@ fn booking_section(s: &[u8], start: Cursor, stations: u16, traffic: Traffic) -> 
     }
 }
 
-fn no_listed() -> Listed
+pub fn no_listed() -> Listed
     ensures { λ r. ⌜ r ≡ noListed ⌝ }
 {
     Listed {
