@@ -4,7 +4,7 @@ use mathlib.Core.Path.{_≡_, refl, sym, ap, _∙_}
 use mathlib.Core.Bool.{Bool, true, false, not}
 use mathlib.Core.List.{List, [], _∷_}
 use native.Mathlib.Omega.{arith}
-use borrow.Author.Tests.{ltb-false, eqb-false, not-false}
+use borrow.Author.Tests.{ltb-true, ltb-false, eqb-false, not-false}
 use lib.Dec.{ltb, eqb}
 use lib.ListN.{length, take, drop-of-length-le}
 use Rattle.text.specs.declared.Cursor.{Cursor}
@@ -16,7 +16,7 @@ use Rattle.text.specs.Reading.BytesLaws.{from-cons, past-spelt}
 use Rattle.text.specs.Elements.Padded.{padded}
 use Rattle.text.specs.Elements.PaddedLaws.{take-padded, padded-length}
 use Rattle.text.specs.Elements.EachThen.{eachThen}
-use Rattle.text.specs.Sections.Chained.{optionalText}
+use Rattle.text.specs.Sections.Chained.{EachAfter, optionalText}
 use Rattle.text.specs.Sections.ChainedLaws.{chained-spelt, optional-spelt}
 use Rattle.finite.specs.Each.{Each}
 use Rattle.text.specs.Reading.Parsed.{Parsed, lines}
@@ -25,19 +25,20 @@ use Rattle.line.specs.declared.Kind.{Kind}
 use Rattle.line.specs.declared.Segment.{Segment}
 use Rattle.line.specs.declared.Train.{Train}
 use Rattle.line.specs.declared.Booking.{Booking}
+use Rattle.line.specs.declared.Listed.{Listed}
 use Rattle.line.specs.declared.Line.{Line}
 use Rattle.line.specs.declared.reading.Letter.{Letter}
 use Rattle.line.specs.declared.reading.Path.{Path}
 use Rattle.line.specs.declared.reading.Head.{Head}
-use Rattle.line.specs.Ranges.{In, stationCount, tracks, gap, trainCount, trainNumber, bookingCount, newest, station, time, weight, run, stop}
-use Rattle.line.specs.Record.{noSegment, noTrain, noBooking, lineWith, legsBetween, tidyTrain}
+use Rattle.line.specs.Ranges.{In, stationCount, tracks, gap, trainCount, trainNumber, bookingCount, listCount, newest, station, time, weight, run, stop}
+use Rattle.line.specs.Record.{noSegment, noTrain, noBooking, noListed, Further, lineWith, legsBetween, tidyTrain}
 use Rattle.line.specs.Bookings.{bookable}
 use Rattle.line.specs.BookingsLaws.{decides-bookable}
-use Rattle.line.specs.File.{number, stationLine, letterOf, onLetter, kindAt, segmentLine, pathAt, headAt, Journey, journeyAt, trainWith, trainLine, Section, usedIn, sectionAt, stationSection, segmentSection, trainSection, bookingLine, risingAt, null, bookingSection, joins, lineFrom, lineAt, lineFile}
-use Rattle.line.specs.Spell.{field, stationText, letterByte, segmentText, journeyText, trainText, bookingText, bookingsText}
+use Rattle.line.specs.File.{number, stationLine, letterOf, onLetter, kindAt, segmentLine, pathAt, headAt, Journey, journeyAt, trainWith, trainLine, Section, usedIn, sectionAt, stationSection, segmentSection, trainSection, bookingLine, risingAt, null, risingSection, bookingSection, listedLine, dueSection, furtherAt, joins, lineFrom, lineAt, lineFile}
+use Rattle.line.specs.Spell.{field, stationText, letterByte, segmentText, journeyText, trainText, bookingText, listedText, countedText, furtherText}
 use Rattle.line.specs.RecordLaws.{path-legs}
 use Rattle.line.specs.FileLaws.{letter-byte, letter-inside}
-use Rattle.line.specs.Within.{SegmentWithin, TrainWithin, BookingWithin, BookingsWithin, TrainArrays}
+use Rattle.line.specs.Within.{SegmentWithin, TrainWithin, BookingWithin, ListedWithin, FurtherWithin, TrainArrays}
 
 -- a number that was read
 pub record NumberSpelt (r : Limits) (b : ℕ) (s : List ℕ) (c : Cursor) (n : ℕ) (next : Cursor) : Type 0 where
@@ -305,29 +306,69 @@ booking-spelt n trains s before c b next e =
           ∙ ap (λ (l : List ℕ). field (i .value) 32 (field (p .value) 32 l)) (minute .text),
     )
 
-module _ (n : ℕ) (trains : List Train) (s : List ℕ) where
-  rising-spelt : (c : Cursor) (bs : List Booking) (next : Cursor) → risingAt (newest bookingCount) noBooking (bookingLine n trains) s c ≡ Parsed.got bs next →
-      BookingsWithin n trains bs × (from s c ≡ bookingsText bs (from s next))
+-- ---- lists of trains
+
+listed-spelt : (t : ℕ) (r : Limits) (s : List ℕ) (before : Listed) (c : Cursor) (x : Listed) (next : Cursor) →
+    listedLine t r before s c ≡ Parsed.got x next → ListedWithin t r before x × (from s c ≡ listedText x (from s next))
+unfolding listedLine
+listed-spelt t r s before c x next e =
+    let i = then-got (number (trainNumber t) 32 s c) _ x next e in
+    let q = pick-got (not (ltb (before .train) (i .value))) 19 (c .line) _ x next (i .after) in
+    let m = then-got (number r 10 s (i .next)) _ x next (q .1) in
+    let train = number-spelt (trainNumber t) 32 s c (i .value) (i .next) (omega arith) (i .first) in
+    let minutes = number-spelt r 10 s (i .next) (m .value) (m .next) (omega arith) (m .first) in
+    got-is (λ y end. ListedWithin t r before y × (from s c ≡ listedText y (from s end))) (m .after) (
+      record { train = train .range; order = ltb-true (before .train) (i .value) (not-false _ (q .0)); minutes = minutes .range },
+      train .text ∙ ap (λ (l : List ℕ). field (i .value) 32 l) (minutes .text),
+    )
+
+-- ---- the sections past the third
+
+-- a section of lines in rising order, each of which was read as its text
+module _ {A : Type 0} (r : Limits) (none : A) (line : A → List ℕ → Cursor → Parsed A) (P : A → A → Type 0) (text : A → List ℕ → List ℕ) (s : List ℕ)
+    (one : (before : A) (c : Cursor) (x : A) (next : Cursor) → line before s c ≡ Parsed.got x next → P before x × (from s c ≡ text x (from s next))) where
+  abbrev RisingWithin : List A → Type 0
+  RisingWithin xs = (length xs ≤ r .max) × EachAfter (λ before x. x) P none xs
+
+  rising-spelt : (c : Cursor) (xs : List A) (next : Cursor) → risingAt r none line s c ≡ Parsed.got xs next →
+      RisingWithin xs × (from s c ≡ countedText text xs (from s next))
   unfolding risingAt
-  rising-spelt c bs next e =
-      let m = then-got (number (newest bookingCount) 10 s c) _ bs next e in
-      let count = number-spelt (newest bookingCount) 10 s c (m .value) (m .next) (omega arith) (m .first) in
-      let each = chained-spelt (λ before b. b) (bookingLine n trains) (BookingWithin n trains) bookingText s (booking-spelt n trains s) (m .value) noBooking
-      (m .next) bs next (m .after) in (
+  rising-spelt c xs next e =
+      let m = then-got (number r 10 s c) _ xs next e in
+      let count = number-spelt r 10 s c (m .value) (m .next) (omega arith) (m .first) in
+      let each = chained-spelt (λ before x. x) line P text s one (m .value) none (m .next) xs next (m .after) in (
         (omega (arith, each .many, count .range .1), each .valid),
         (rw (each .many) (count .text ∙ ap (λ (l : List ℕ). field (m .value) 10 l) (each .spelt))),
       )
 
-  bookings-spelt : (c : Cursor) (bs : List Booking) (next : Cursor) → bookingSection n trains s c ≡ Parsed.got bs next →
-      BookingsWithin n trains bs × (from s c ≡ optionalText null bookingsText bs (from s next))
-  bookings-spelt c bs next e =
-      optional-spelt 3 [] null refl (risingAt (newest bookingCount) noBooking (bookingLine n trains)) s (BookingsWithin n trains) bookingsText (omega arith, tt)
-      rising-spelt c bs next e
+  rising-section-spelt : (c : Cursor) (xs : List A) (next : Cursor) → risingSection r none line s c ≡ Parsed.got xs next →
+      RisingWithin xs × (from s c ≡ optionalText null (countedText text) xs (from s next))
+  unfolding risingSection
+  rising-section-spelt c xs next e =
+      optional-spelt 3 [] null refl (risingAt r none line) s RisingWithin (countedText text) (omega arith, tt) rising-spelt c xs next e
 
--- the record of a line with these stations, segments, trains and bookings
-abbrev pub lineOf : ℕ → List ℕ → List Segment → ℕ → List Train → List Booking → Line
-lineOf n ts gs t trs bs =
-    lineWith n (padded 12 0 ts) (padded 11 noSegment gs) t (padded 12 noTrain trs) bs
+-- of a line with these trains
+further-spelt : (n : ℕ) (z : Section Train) (trains : List Train) → usedIn z ≡ trains → (s : List ℕ) (c : Cursor) (x : Further) (next : Cursor) →
+    furtherAt n z s c ≡ Parsed.got x next → from s next ≡ [] → FurtherWithin n (z .count) trains x × (from s c ≡ furtherText x)
+unfolding furtherAt
+further-spelt n z trains used s c x next e end =
+    let t = z .count in
+    let b = then-got (bookingSection n (usedIn z) s c) _ x next e in
+    let d = then-got (dueSection t s (b .next)) _ x next (b .after) in
+    let bookings = rising-section-spelt bookingCount noBooking (bookingLine n trains) (BookingWithin n trains) bookingText s (booking-spelt n trains s) c
+    (b .value) (b .next) (ap (λ (ts : List Train). bookingSection n ts s c) (sym used) ∙ b .first) in
+    let dues = rising-section-spelt (newest (listCount t)) noListed (listedLine t time) (ListedWithin t time) listedText s (listed-spelt t time s) (b .next)
+    (d .value) (d .next) (d .first) in
+    got-is (λ y last. from s last ≡ [] → FurtherWithin n t trains y × (from s c ≡ furtherText y)) (d .after) (λ none. (
+      record { bookings = bookings .0; dues = dues .0 },
+      bookings .1 ∙ ap (λ (l : List ℕ). optionalText null (countedText bookingText) (b .value) l)
+          (dues .1 ∙ ap (λ (l : List ℕ). optionalText null (countedText listedText) (d .value) l) none),
+    )) end
+
+-- the record of a line with these stations, segments and trains, and what the sections past them give
+abbrev pub lineOf : ℕ → List ℕ → List Segment → ℕ → List Train → Further → Line
+lineOf n ts gs t trs x =
+    lineWith n (padded 12 0 ts) (padded 11 noSegment gs) t (padded 12 noTrain trs) x
 
 -- the whole file
 pub record LineRead (s : List ℕ) (l : Line) : Type 0 where
@@ -344,28 +385,25 @@ pub record LineRead (s : List ℕ) (l : Line) : Type 0 where
   pub trains : In trainCount t
   pub many-trains : length trs ≡ t
   pub each-train : Each (TrainRead n) trs
-  pub bs : List Booking
-  pub bookings : BookingsWithin n trs bs
-  pub line : l ≡ lineOf n ts gs t trs bs
-  pub text : s ≡ field n 10 (eachThen stationText ts (field (n - 1) 10 (eachThen segmentText gs (field t 10 (eachThen trainText trs
-      (optionalText null bookingsText bs []))))))
+  pub x : Further
+  pub further : FurtherWithin n t trs x
+  pub line : l ≡ lineOf n ts gs t trs x
+  pub text : s ≡ field n 10 (eachThen stationText ts (field (n - 1) 10 (eachThen segmentText gs (field t 10 (eachThen trainText trs (furtherText x))))))
 
 -- the used entries of a section that was read
 used-spelt : {A : Type 0} (size : ℕ) (none : A) (x : Section A) (xs : List A) → length xs ≡ x .count → x .count ≤ size → x .entries ≡ padded size none xs → usedIn x ≡ xs
 used-spelt size none x xs many few array =
     ap (take (x .count)) array ∙ ap (λ (k : ℕ). take k (padded size none xs)) (sym many) ∙ take-padded size none xs (omega (arith, many))
 
--- the line of three sections and the bookings, and nothing after them
-line-of : (s : List ℕ) (x : Section ℕ) (y : Section Segment) (z : Section Train) (bs : List Booking) (c c₁ c₂ c₃ c₄ : Cursor) → from s c ≡ s →
+-- the line of three sections and those past them
+line-of : (s : List ℕ) (x : Section ℕ) (y : Section Segment) (z : Section Train) (u : Further) (c c₁ c₂ c₃ : Cursor) → from s c ≡ s →
     SectionSpelt stationCount 12 0 (In tracks) stationText s c x c₁ → SectionSpelt (joins (x .count)) 11 noSegment SegmentWithin segmentText s c₁ y c₂ →
     (d : SectionSpelt trainCount 12 noTrain (TrainRead (x .count)) trainText s c₂ z c₃) →
-    BookingsWithin (x .count) (d .xs) bs × (from s c₃ ≡ optionalText null bookingsText bs (from s c₄)) → length s ≤ c₄ .at → LineRead s (lineFrom x y z bs)
-line-of s x y z bs c c₁ c₂ c₃ c₄ start a b d booked end =
+    FurtherWithin (x .count) (z .count) (d .xs) u × (from s c₃ ≡ furtherText u) → LineRead s (lineFrom x y z u)
+line-of s x y z u c c₁ c₂ c₃ start a b d further =
     let n = x .count in
     let joined : y .count ≡ n - 1 = omega (arith, b .range .0, b .range .1) in
-    let last : from s c₃ ≡ optionalText null bookingsText bs [] =
-    booked .1 ∙ ap (λ (l : List ℕ). optionalText null bookingsText bs l) (drop-of-length-le s end) in
-    let trains = d .spelt ∙ ap (λ (l : List ℕ). field (z .count) 10 (eachThen trainText (d .xs) l)) last in
+    let trains = d .spelt ∙ ap (λ (l : List ℕ). field (z .count) 10 (eachThen trainText (d .xs) l)) (further .1) in
     let segments = b .spelt ∙ ap (λ (k : ℕ). field k 10 (eachThen segmentText (b .xs) (from s c₂))) joined
     ∙ ap (λ (l : List ℕ). field (n - 1) 10 (eachThen segmentText (b .xs) l)) trains in
     record {
@@ -382,9 +420,9 @@ line-of s x y z bs c c₁ c₂ c₃ c₄ start a b d booked end =
       trains = d .range;
       many-trains = d .many;
       each-train = d .each;
-      bs = bs;
-      bookings = booked .0;
-      line = λ i. lineWith n (a .array i) (b .array i) (z .count) (d .array i) bs;
+      x = u;
+      further = further .0;
+      line = λ i. lineWith n (a .array i) (b .array i) (z .count) (d .array i) u;
       text = sym start ∙ a .spelt ∙ ap (λ (l : List ℕ). field n 10 (eachThen stationText (a .xs) l)) segments;
     }
 
@@ -400,14 +438,13 @@ line-spelt s l end e =
     let segments = section-spelt (joins n) 11 noSegment SegmentWithin segmentText segmentLine s (segment-spelt s) (x .next) (y .value) (y .next) (y .first) in
     let trains = section-spelt trainCount 12 noTrain (TrainRead n) trainText (trainLine n) s (train-spelt n (stations .range .1) s) (y .next) (z .value)
     (z .next) (z .first) in
-    let b = then-got (bookingSection n (usedIn (z .value)) s (z .next)) _ l end (z .after) in
+    let u = then-got (furtherAt n (z .value) s (z .next)) _ l end (z .after) in
     let used = used-spelt 12 noTrain (z .value) (trains .xs) (trains .many) (trains .range .1) (trains .array) in
-    let booked = bookings-spelt n (trains .xs) s (z .next) (b .value) (b .next)
-    (ap (λ (ts : List Train). bookingSection n ts s (z .next)) (sym used) ∙ b .first) in
-    let done = pick-got (ltb (b .next .at) (length s)) 2 (b .next .line) _ l end (b .after) in
+    let done = pick-got (ltb (u .next .at) (length s)) 2 (u .next .line) _ l end (u .after) in
+    let further = further-spelt n (z .value) (trains .xs) used s (z .next) (u .value) (u .next) (u .first)
+    (drop-of-length-le s (ltb-false (u .next .at) (length s) (done .0))) in
     got-is (λ m c. LineRead s m) (done .1)
-    (line-of s (x .value) (y .value) (z .value) (b .value) start (x .next) (y .next) (z .next) (b .next) refl stations segments trains booked
-    (ltb-false (b .next .at) (length s) (done .0)))
+    (line-of s (x .value) (y .value) (z .value) (u .value) start (x .next) (y .next) (z .next) refl stations segments trains further)
 
 pub file-spelt : (s : List ℕ) (l : Line) (end : Cursor) → lineFile s ≡ Parsed.got l end → LineRead s l
 unfolding lineFile

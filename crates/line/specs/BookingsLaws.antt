@@ -1,26 +1,17 @@
--- Laws of bookings: where one may stand, their text, and their trains. Of where one may stand: the tests decide the statements; of the trains only the one
--- booked matters, and of that only origin and destination, so that a booking within the limits is one too where their entries beyond the path are emptied.
+-- Laws of bookings: where one may stand, and their trains. Of where one may stand: the tests decide the statements; of the trains only the one booked
+-- matters, and of that only origin and destination, so that a booking within the limits is one too where their entries beyond the path are emptied.
 use Prim.Native.Nat.{ℕ, zero, suc, _-_, _≤_}
 use mathlib.Core.Path.{_≡_, refl, sym, ap, _∙_}
-use mathlib.Core.Bool.{Bool, _&&_}
 use mathlib.Core.List.{List, [], _∷_, map}
 use native.Mathlib.Omega.{arith}
-use borrow.Author.Tests.{ne-eqb}
-use lib.Dec.{eqb}
 use lib.ListN.{length, getD, take, length-map, List·getD-map}
 use lib.Seq.{getD-take}
-use Rattle.text.specs.Reading.Choice.{pick}
-use Rattle.text.specs.Elements.EachThen.{eachThen}
-use Rattle.text.specs.Sections.Chained.{nothing, optionalText}
 use Rattle.finite.specs.Decide.{Decides}
 use Rattle.finite.specs.DecideLaws.{decides-lt, decides-eq, decides-and, decides-or}
 use Rattle.line.specs.declared.Train.{Train}
 use Rattle.line.specs.declared.Booking.{Booking}
-use Rattle.line.specs.declared.Booked.{Booked}
 use Rattle.line.specs.Record.{noTrain, tidyTrain}
 use Rattle.line.specs.Bookings.{Rises, rises, Between, between, numbered, standsAfter, bookable}
-use Rattle.line.specs.File.{null}
-use Rattle.line.specs.Spell.{field, bookingText, bookingsText, bookedText, unbooked}
 use Rattle.line.specs.Within.{BookingWithin}
 
 pub decides-rises : (a : Booking) (t s : ℕ) → Decides (Rises a t s) (rises a t s)
@@ -44,19 +35,6 @@ unfolding bookable
 bookable-used t trains a i s low high =
     ap (standsAfter a i s) (getD-take t trains (i - 1) noTrain (omega arith))
     ∙ sym (List·getD-map (standsAfter a i s) trains (i - 1) noTrain) ∙ List·getD-map (standsAfter a i s) trains (i - 1) _
-
--- the section of a record whose array has as many bookings as it counts
-pub booked-text : (b : Booked) (later : List ℕ) → length (take (b .«booking_count») (b .bookings)) ≡ b .«booking_count» →
-    optionalText unbooked bookedText b later ≡ optionalText null bookingsText (take (b .«booking_count») (b .bookings)) later
-unfolding optionalText
-booked-text b later many =
-    ap (λ (e : Bool). pick (e && nothing later) [] (bookedText b later)) (ap (λ (k : ℕ). eqb k 0) (sym many) ∙ none (take (b .«booking_count») (b .bookings)))
-    ∙ ap (λ (k : ℕ). pick (null (take (b .«booking_count») (b .bookings)) && nothing later) []
-    (field k 10 (eachThen bookingText (take (b .«booking_count») (b .bookings)) later))) (sym many)
-  where
-    none : (xs : List Booking) → eqb (length xs) 0 ≡ null xs
-    none [] = refl
-    none (x ∷ xs) = ne-eqb (suc (length xs)) 0 (omega arith)
 
 -- ---- trains with their entries beyond the path emptied
 

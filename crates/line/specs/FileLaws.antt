@@ -4,12 +4,13 @@ use mathlib.Core.Path.{_≡_, refl, ap, _∙_}
 use mathlib.Core.Bool.{Bool, true, false, not}
 use mathlib.Core.List.{List, [], _∷_}
 use native.Mathlib.Omega.{arith}
-use borrow.Author.Tests.{eqb-true, eq-eqb, ne-eqb}
+use borrow.Author.Tests.{eqb-true, eq-eqb, ne-eqb, lt-ltb, le-ltb}
 use lib.Dec.{eqb}
 use lib.ListN.{length, getD, replicate, take}
 use lib.Seq.{sets, length-take-le}
 use Rattle.text.specs.declared.Cursor.{Cursor}
 use Rattle.text.specs.declared.Ending.{Ending}
+use Rattle.text.specs.declared.Limits.{Limits}
 use Rattle.text.specs.Reading.Choice.{pick}
 use Rattle.text.specs.Reading.Bytes.{byteAt}
 use Rattle.text.specs.Reading.BytesLaws.{inside}
@@ -21,6 +22,7 @@ use Rattle.line.specs.declared.Kind.{Kind}
 use Rattle.line.specs.declared.Segment.{Segment}
 use Rattle.line.specs.declared.Train.{Train}
 use Rattle.line.specs.declared.Booking.{Booking}
+use Rattle.line.specs.declared.Listed.{Listed}
 use Rattle.line.specs.declared.reading.Letter.{Letter}
 use Rattle.line.specs.declared.reading.Path.{Path}
 use Rattle.line.specs.declared.reading.Place.{Place}
@@ -28,7 +30,7 @@ use Rattle.line.specs.Ranges.{In, gap, trainNumber, station, time, weigh
 use Rattle.line.specs.Bookings.{numbered, standsAfter, bookable}
 use Rattle.line.specs.BookingsLaws.{entry, bookable-used}
 use Rattle.line.specs.Spell.{letterByte}
-use Rattle.line.specs.File.{number, afterField, letterOf, kindAt, segmentLine, pathAt, headAt, placeAt, restAt, bookingLine}
+use Rattle.line.specs.File.{number, afterField, letterOf, kindAt, segmentLine, pathAt, headAt, placeAt, restAt, bookingLine, listedLine}
 
 -- what a part tells whose ending is known
 pub ended-told : {A : Type 0} {e y : Ending} (x : A) → e ≡ y → toldEnding e x ≡ toldEnding y x
@@ -226,3 +228,25 @@ module _ (t k : ℕ) (trains : List Train) (room : t ≤ length trains) (before 
       in-two ∙ rw e (ap (λ (b : Bool). pick (not b) (Parsed.bad 19 (x .line))
       (thenRead (number time 10 s c₂) (λ m next. Parsed.got (record { train = x .train; station = x .station; minute = m }) next)))
       (bookable-used t trains before (x .train) (x .station) (range .0) (range .1)))
+
+-- ---- a line of a list of trains
+
+module _ (t : ℕ) (r : Limits) (before : Listed) (s : List ℕ) (c : Cursor) where
+  pub listed-no-train : {n q : ℕ} → number (trainNumber t) 32 s c ≡ Parsed.bad n q → listedLine t r before s c ≡ Parsed.bad n q
+  unfolding listedLine
+  listed-no-train e = rw e refl
+
+  module _ {i : ℕ} {c₁ : Cursor} (train : number (trainNumber t) 32 s c ≡ Parsed.got i c₁) where
+    pub listed-not-rising : i ≤ before .train → listedLine t r before s c ≡ Parsed.bad 19 (c .line)
+    unfolding listedLine
+    listed-not-rising e = rw (train, le-ltb (before .train) i e) refl
+
+    module _ (rises : before .train < i) where
+      pub listed-no-minutes : {n q : ℕ} → number r 10 s c₁ ≡ Parsed.bad n q → listedLine t r before s c ≡ Parsed.bad n q
+      unfolding listedLine
+      listed-no-minutes e = rw (train, lt-ltb (before .train) i rises, e) refl
+
+      pub listed-got : {m : ℕ} {c₂ : Cursor} → number r 10 s c₁ ≡ Parsed.got m c₂ →
+          listedLine t r before s c ≡ Parsed.got (record { train = i; minutes = m }) c₂
+      unfolding listedLine
+      listed-got e = rw (train, lt-ltb (before .train) i rises, e) refl

@@ -11,6 +11,7 @@ pub mod Runnable
 pub mod RunnableLaws
 pub mod RecordLaws
 pub mod BookingsLaws
+pub mod FurtherLaws
 pub mod FileLaws
 pub mod TrainLaws
 pub mod SectionLaws

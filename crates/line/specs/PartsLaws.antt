@@ -13,9 +13,8 @@ use Rattle.text.specs.Places.LinesLaws.{keeps-counted}
 use Rattle.line.specs.declared.Segment.{Segment}
 use Rattle.line.specs.declared.Track.{Track}
 use Rattle.line.specs.declared.Train.{Train}
-use Rattle.line.specs.declared.Booking.{Booking}
-use Rattle.line.specs.Record.{trackWith, trafficWith, bookedWith}
-use Rattle.line.specs.File.{Section, usedIn, stationSection, segmentSection, trainSection, bookingSection, lineAt, lineFile}
+use Rattle.line.specs.Record.{Further, trackWith, trafficWith, bookedWith, listWith}
+use Rattle.line.specs.File.{Section, stationSection, segmentSection, trainSection, furtherAt, lineAt, lineFile}
 use Rattle.line.specs.SectionLaws.{section-range, file-long, file-short}
 use Rattle.line.specs.PlaceLaws.{any-line-number, stands-stations, stands-segments}
 use Rattle.line.specs.Parts.{trackAt, completedAt, trackFrom, endOf, completedFrom, CanComplete}
@@ -48,7 +47,7 @@ module _ (s : List ℕ) (i : ℕ) (short : length s ≤ 4096) where
     unfolding trackAt
     track-read e = track-short ∙ rw (stations, e) refl
 
--- ---- the trains
+-- ---- the trains and the sections past them
 
 module _ (t : Track) (s : List ℕ) (c : Cursor) where
   pub no-trains : {m q : ℕ} → trainSection (t .«station_count») s c ≡ Parsed.bad m q → completedAt t s c ≡ Parsed.bad m q
@@ -56,19 +55,20 @@ module _ (t : Track) (s : List ℕ) (c : Cursor) where
   no-trains e = rw e refl
 
   module _ {z : Section Train} {c₁ : Cursor} (trains : trainSection (t .«station_count») s c ≡ Parsed.got z c₁) where
-    pub no-bookings : {m q : ℕ} → bookingSection (t .«station_count») (usedIn z) s c₁ ≡ Parsed.bad m q → completedAt t s c ≡ Parsed.bad m q
+    pub no-further : {m q : ℕ} → furtherAt (t .«station_count») z s c₁ ≡ Parsed.bad m q → completedAt t s c ≡ Parsed.bad m q
     unfolding completedAt
-    no-bookings e = rw (trains, e) refl
+    no-further e = rw (trains, e) refl
 
-    module _ {bs : List Booking} {c₂ : Cursor} (bookings : bookingSection (t .«station_count») (usedIn z) s c₁ ≡ Parsed.got bs c₂) where
+    module _ {x : Further} {c₂ : Cursor} (further : furtherAt (t .«station_count») z s c₁ ≡ Parsed.got x c₂) where
       pub bytes-after : c₂ .at < length s → completedAt t s c ≡ Parsed.bad 2 (c₂ .line)
       unfolding completedAt
-      bytes-after more = rw (trains, bookings, lt-ltb (c₂ .at) (length s) more) refl
+      bytes-after more = rw (trains, further, lt-ltb (c₂ .at) (length s) more) refl
 
       pub track-completed : length s ≤ c₂ .at →
-          completedAt t s c ≡ Parsed.got (record { track = t; traffic = trafficWith (z .count) (z .entries); booked = bookedWith bs }) c₂
+          completedAt t s c ≡ Parsed.got
+          (record { track = t; traffic = trafficWith (z .count) (z .entries); booked = bookedWith (x .bookings); dues = listWith (x .dues) }) c₂
       unfolding completedAt
-      track-completed done = rw (trains, bookings, le-ltb (c₂ .at) (length s) done) refl
+      track-completed done = rw (trains, further, le-ltb (c₂ .at) (length s) done) refl
 
 -- ---- the file is its two parts
 

@@ -25,15 +25,16 @@ use Rattle.line.specs.declared.Kind.{Kind}
 use Rattle.line.specs.declared.Answer.{Answer}
 use Rattle.line.specs.declared.Train.{Train}
 use Rattle.line.specs.declared.Booking.{Booking}
+use Rattle.line.specs.declared.Listed.{Listed}
 use Rattle.line.specs.declared.Line.{Line}
 use Rattle.line.specs.declared.ReadLine.{ReadLine}
 use Rattle.line.specs.declared.reading.Letter.{Letter}
 use Rattle.line.specs.declared.reading.KindField.{KindField}
-use Rattle.line.specs.Ranges.{stationCount, tracks, gap, trainCount, trainNumber, bookingCount, newest, station, time, weight, run, stop}
-use Rattle.line.specs.Record.{noSegment, noTrain, noBooking, legsBetween}
+use Rattle.line.specs.Ranges.{stationCount, tracks, gap, trainCount, trainNumber, bookingCount, listCount, newest, station, time, weight, run, stop}
+use Rattle.line.specs.Record.{noSegment, noTrain, noBooking, noListed, legsBetween}
 use Rattle.line.specs.Bookings.{bookable}
 use Rattle.line.specs.Spell.{letterByte}
-use Rattle.line.specs.File.{number, sectionAt, stationLine, stationSection, letterOf, onLetter, kindAt, toldKind, segmentLine, segmentSection, joins, pathAt, headAt, journeyAt, trainLine, usedIn, trainSection, placeAt, bookingLine, risingAt, null, bookingSection, lineAt, lineFile, answered}
+use Rattle.line.specs.File.{number, Section, sectionAt, stationLine, stationSection, letterOf, onLetter, kindAt, toldKind, segmentLine, segmentSection, joins, pathAt, headAt, journeyAt, trainLine, usedIn, trainSection, placeAt, bookingLine, risingAt, null, risingSection, bookingSection, listedLine, dueSection, furtherAt, lineAt, lineFile, answered}
 use Rattle.line.specs.FileLaws.{letter-byte}
 use Rattle.line.specs.SectionLaws.{file-long, file-short}
 
@@ -48,10 +49,10 @@ pub record LineNumbers (Q : ℕ → Type 0) : Type 0 where
   pub form : Q 2
   pub range : Q 3
   pub path : Q 4
-  pub booking : Q 19
+  pub order : Q 19
 
 pub any-line-number : LineNumbers AnyNumber
-any-line-number = record { form = tt; range = tt; path = tt; booking = tt }
+any-line-number = record { form = tt; range = tt; path = tt; order = tt }
 
 module _ (s : List ℕ) (P : Cursor → Type 0) (k : KeepsPassing s P) (Q : ℕ → Type 0) (q : LineNumbers Q) where
   stands-number : (r : Limits) (b : ℕ) (c : Cursor) → P c → HoldsOn P Q (number r b s c)
@@ -143,15 +144,34 @@ module _ (s : List ℕ) (P : Cursor → Type 0) (k : KeepsPassing s P) (Q : ℕ 
   stands-booking n trains before c h =
       stands-then P Q (number (trainNumber (length trains)) 32 s c) _ (stands-number (trainNumber (length trains)) 32 c h)
       (λ i c₁ h₁. stands-then P Q (number (station n) 32 s c₁) _ (stands-number (station n) 32 c₁ h₁)
-      (λ p c₂ h₂. stands-test P Q (not (bookable trains before i p)) 19 c₁ _ (q .booking) h₁
+      (λ p c₂ h₂. stands-test P Q (not (bookable trains before i p)) 19 c₁ _ (q .order) h₁
       (stands-then P Q (number time 10 s c₂) _ (stands-number time 10 c₂ h₂) (λ m c₃ h₃. h₃))))
 
-  pub stands-bookings : (n : ℕ) (trains : List Train) (c : Cursor) → P c → HoldsOn P Q (bookingSection n trains s c)
-  unfolding risingAt
-  stands-bookings n trains c h =
+  pub stands-listed : (t : ℕ) (r : Limits) (before : Listed) (c : Cursor) → P c → HoldsOn P Q (listedLine t r before s c)
+  unfolding listedLine
+  stands-listed t r before c h =
+      stands-then P Q (number (trainNumber t) 32 s c) _ (stands-number (trainNumber t) 32 c h)
+      (λ i c₁ h₁. stands-test P Q (not (ltb (before .train) i)) 19 c _ (q .order) h
+      (stands-then P Q (number r 10 s c₁) _ (stands-number r 10 c₁ h₁) (λ m c₂ h₂. h₂)))
+
+  stands-rising : {A : Type 0} (r : Limits) (none : A) (line : A → List ℕ → Cursor → Parsed A) →
+      ((before : A) (c : Cursor) → P c → HoldsOn P Q (line before s c)) → (c : Cursor) → P c → HoldsOn P Q (risingSection r none line s c)
+  unfolding risingSection risingAt
+  stands-rising r none line one c h =
       stands-optional 3 [] null refl _ s P Q (q .range) c h
-      (stands-then P Q (number (newest bookingCount) 10 s c) _ (stands-number (newest bookingCount) 10 c h)
-      (λ k c₁ h₁. stands-chained P Q (λ before b. b) (bookingLine n trains) s (stands-booking n trains) k noBooking c₁ h₁))
+      (stands-then P Q (number r 10 s c) _ (stands-number r 10 c h)
+      (λ k c₁ h₁. stands-chained P Q (λ before x. x) line s one k none c₁ h₁))
+
+  pub stands-bookings : (n : ℕ) (trains : List Train) (c : Cursor) → P c → HoldsOn P Q (bookingSection n trains s c)
+  stands-bookings n trains c h = stands-rising bookingCount noBooking (bookingLine n trains) (stands-booking n trains) c h
+
+  stands-further : (n : ℕ) (trains : Section Train) (c : Cursor) → P c → HoldsOn P Q (furtherAt n trains s c)
+  unfolding furtherAt
+  stands-further n trains c h =
+      let t = trains .count in
+      stands-then P Q (bookingSection n (usedIn trains) s c) _ (stands-bookings n (usedIn trains) c h)
+      (λ bs c₁ h₁. stands-then P Q (dueSection t s c₁) _ (stands-rising (newest (listCount t)) noListed (listedLine t time) (stands-listed t time) c₁ h₁)
+      (λ ds c₂ h₂. h₂))
 
   stands-line : (c : Cursor) → P c → HoldsOn P Q (lineAt s c)
   unfolding lineAt
@@ -159,7 +179,7 @@ module _ (s : List ℕ) (P : Cursor → Type 0) (k : KeepsPassing s P) (Q : ℕ 
       stands-then P Q (stationSection s c) _ (stands-stations c h)
       (λ x c₁ h₁. stands-then P Q (segmentSection (x .count) s c₁) _ (stands-segments (x .count) c₁ h₁)
       (λ y c₂ h₂. stands-then P Q (trainSection (x .count) s c₂) _ (stands-trains (x .count) c₂ h₂)
-      (λ z c₃ h₃. stands-then P Q (bookingSection (x .count) (usedIn z) s c₃) _ (stands-bookings (x .count) (usedIn z) c₃ h₃)
+      (λ z c₃ h₃. stands-then P Q (furtherAt (x .count) z s c₃) _ (stands-further (x .count) z c₃ h₃)
       (λ bs c₄ h₄. stands-test P Q (ltb (c₄ .at) (length s)) 2 c₄ _ (q .form) h₄ h₄))))
 
 -- ---- the numbers and places of a line file's refusals
@@ -174,7 +194,7 @@ field-numbers =
       form = inl (omega arith, omega arith);
       range = inl (omega arith, omega arith);
       path = inl (omega arith, omega arith);
-      booking = inr refl;
+      order = inr refl;
     }
 
 -- A line file of at most 4,096 bytes that is refused is refused by 2, 3, 4 or 19, on the line of a position in it, that at which the field began.

@@ -4,7 +4,8 @@ use mathlib.Core.Path.{_≡_, refl, sym, ap, _∙_}
 use mathlib.Core.Bool.{true, false, not, _&&_, true≢false}
 use mathlib.Core.List.{List, [], _∷_, map, map-id}
 use native.Mathlib.Omega.{arith}
-use borrow.Author.Tests.{le-ltb, ne-eqb}
+use borrow.Author.Tests.{le-ltb, lt-ltb, ne-eqb}
+use lib.Dec.{ltb}
 use lib.ListN.{length, take, length-map, length-append}
 use lib.Seq.{length-take-le}
 use Rattle.text.specs.declared.Cursor.{Cursor}
@@ -14,7 +15,7 @@ use Rattle.text.specs.Reading.BytesLaws.{from-byte, from-ahead, at-length, past
 use Rattle.text.specs.Elements.Padded.{padded}
 use Rattle.text.specs.Elements.EachThen.{eachThen}
 use Rattle.text.specs.Elements.PaddedLaws.{take-padded}
-use Rattle.text.specs.Sections.Chained.{optionalText}
+use Rattle.text.specs.Sections.Chained.{EachAfter, nothing, optionalText}
 use Rattle.text.specs.Sections.ChainedLaws.{each-after-map, chained-reads, optional-reads}
 use Rattle.text.specs.Writing.Digits.{digits}
 use Rattle.finite.specs.DecideLaws.{is-true}
@@ -26,16 +27,18 @@ use Rattle.line.specs.declared.Kind.{Kind}
 use Rattle.line.specs.declared.Segment.{Segment}
 use Rattle.line.specs.declared.Train.{Train}
 use Rattle.line.specs.declared.Booking.{Booking}
+use Rattle.line.specs.declared.Listed.{Listed}
 use Rattle.line.specs.declared.Line.{Line}
 use Rattle.line.specs.declared.reading.Letter.{Letter}
 use Rattle.line.specs.declared.reading.Head.{Head}
-use Rattle.line.specs.Ranges.{In, stationCount, tracks, gap, trainCount, trainNumber, bookingCount, newest, station, time, weight, run, stop}
-use Rattle.line.specs.Record.{noSegment, noTrain, noBooking, legsOf, runsOf, stopsOf, tracksOf, segmentsOf, trainsOf, bookingsOf, tidyTrain, tidyLine}
+use Rattle.line.specs.Ranges.{In, stationCount, tracks, gap, trainCount, trainNumber, bookingCount, listCount, newest, station, time, weight, run, stop}
+use Rattle.line.specs.Record.{noSegment, noTrain, noBooking, noListed, Further, legsOf, runsOf, stopsOf, tracksOf, segmentsOf, trainsOf, bookingsOf, duesOf, furtherOf, tidyTrain, tidyLine}
 use Rattle.line.specs.Bookings.{bookable}
-use Rattle.line.specs.BookingsLaws.{decides-bookable, booked-text, within-tidy}
-use Rattle.line.specs.File.{number, stationLine, letterOf, kindAt, segmentLine, pathAt, headAt, journeyAt, trainLine, usedIn, sectionAt, stationSection, segmentSection, trainSection, bookingLine, risingAt, null, bookingSection, joins, lineAt, lineFile}
-use Rattle.line.specs.Spell.{field, stationText, letterByte, segmentText, journeyText, headText, trainText, bookingText, bookingsText, bookedText, unbooked, textOf}
-use Rattle.line.specs.Within.{SegmentWithin, TrainWithin, BookingWithin, BookingsWithin, Within, TrainArrays, Arrays}
+use Rattle.line.specs.BookingsLaws.{decides-bookable, within-tidy}
+use Rattle.line.specs.FurtherLaws.{further-text}
+use Rattle.line.specs.File.{number, stationLine, letterOf, kindAt, segmentLine, pathAt, headAt, journeyAt, trainLine, Section, usedIn, sectionAt, stationSection, segmentSection, trainSection, bookingLine, risingAt, null, risingSection, listedLine, furtherAt, joins, lineAt, lineFile}
+use Rattle.line.specs.Spell.{field, stationText, letterByte, segmentText, journeyText, headText, trainText, bookingText, listedText, countedText, furtherText, bookedText, unbooked, duesText, textOf}
+use Rattle.line.specs.Within.{SegmentWithin, TrainWithin, BookingWithin, ListedWithin, FurtherWithin, Within, TrainArrays, Arrays}
 use Rattle.line.specs.RecordLaws.{train-path}
 
 -- ---- a number
@@ -162,6 +165,18 @@ booking-reads n trains few some s before c b rest w e =
     (λ c₁ e₁. reads-then _ (before-space (station n) s c₁ (b .station) _ (w .station) (omega (arith, few)) e₁)
     (λ c₂ e₂. rw stands (reads-then _ (before-feed time s c₂ (b .minute) rest (w .minute) (omega arith) e₂) (λ c₃ e₃. at-end _ c₃ e₃))))
 
+-- ---- lists of trains
+
+listed-reads : (t : ℕ) (r : Limits) → t ≤ 12 → r .max < 10000 → (s : List ℕ) (before : Listed) (c : Cursor) (x : Listed) (rest : List ℕ) →
+    ListedWithin t r before x → from s c ≡ listedText x rest → Reads (listedLine t r before s c) x s rest
+unfolding listedLine
+listed-reads t r few small s before c x rest w e =
+    let rises : not (ltb (before .train) (x .train)) ≡ false = ap not (lt-ltb (before .train) (x .train) (w .order)) in
+    reads-then _ (before-space (trainNumber t) s c (x .train) _ (w .train) (omega (arith, few)) e)
+    (λ c₁ e₁. rw rises (reads-then _ (before-feed r s c₁ (x .minutes) rest (w .minutes) small e₁) (λ c₂ e₂. at-end _ c₂ e₂)))
+
+-- ---- the sections past the third
+
 null-is : {A : Type 0} (xs : List A) → null xs ≡ true → xs ≡ []
 null-is [] e = refl
 null-is (x ∷ xs) e = absurd (true≢false (sym e))
@@ -173,27 +188,43 @@ some-long (x ∷ xs) e = omega arith
 field-some : (n b : ℕ) (rest : List ℕ) → field n b rest ≡ [] → ⊥
 field-some n b rest e = let k = ap length e in omega (arith, length-append (digits n) (b ∷ rest))
 
-module _ (n : ℕ) (trains : List Train) (few : n ≤ 12) (some : length trains ≤ 12) (s : List ℕ) (bs : List Booking) (w : BookingsWithin n trains bs) where
-  rising-reads : null bs && true ≡ false → (c : Cursor) → from s c ≡ bookingsText bs [] →
-      Reads (risingAt (newest bookingCount) noBooking (bookingLine n trains) s c) bs s []
+-- a section of lines in rising order, each of which is read as its value, before the later ones; written, it has no fewer than its count's least
+module _ {A : Type 0} (r : Limits) (none : A) (line : A → List ℕ → Cursor → Parsed A) (P : A → A → Type 0) (text : A → List ℕ → List ℕ) (s : List ℕ)
+    (small : r .max < 10000)
+    (one : (before : A) (c : Cursor) (x : A) (rest : List ℕ) → P before x → from s c ≡ text x rest → Reads (line before s c) x s rest)
+    (xs : List A) (few : length xs ≤ r .max) (each : EachAfter (λ before x. x) P none xs)
+    (later : List ℕ) (least : null xs && nothing later ≡ false → r .min ≤ length xs) where
+  rising-reads : null xs && nothing later ≡ false → (c : Cursor) → from s c ≡ countedText text xs later → Reads (risingAt r none line s c) xs s later
   unfolding risingAt
   rising-reads h c e =
-      reads-then _ (before-feed (newest bookingCount) s c (length bs) (eachThen bookingText bs []) (some-long bs h, w .0) (omega arith) e)
-      (λ c₁ e₁. chained-reads (λ before b. b) (bookingLine n trains) (BookingWithin n trains) bookingText s (booking-reads n trains few some s) bs noBooking
-      c₁ [] (w .1) e₁)
+      reads-then _ (before-feed r s c (length xs) (eachThen text xs later) (least h, few) small e)
+      (λ c₁ e₁. chained-reads (λ before x. x) line P text s one xs none c₁ later each e₁)
 
-  bookings-read : (c : Cursor) → from s c ≡ optionalText null bookingsText bs [] → Reads (bookingSection n trains s c) bs s []
-  bookings-read c e =
-      optional-reads 3 [] null refl (risingAt (newest bookingCount) noBooking (bookingLine n trains)) s bookingsText bs (null-is bs)
-      (λ rest. field-some (length bs) 10 (eachThen bookingText bs rest)) [] rising-reads c e
+  rising-section-reads : (c : Cursor) → from s c ≡ optionalText null (countedText text) xs later → Reads (risingSection r none line s c) xs s later
+  unfolding risingSection
+  rising-section-reads c e =
+      optional-reads 3 [] null refl (risingAt r none line) s (countedText text) xs (null-is xs)
+      (λ rest. field-some (length xs) 10 (eachThen text xs rest)) later rising-reads c e
+
+further-reads : (n : ℕ) (z : Section Train) (x : Further) → n ≤ 12 → z .count ≤ 12 → length (usedIn z) ≤ 12 → FurtherWithin n (z .count) (usedIn z) x →
+    (s : List ℕ) (c : Cursor) → from s c ≡ furtherText x → Reads (furtherAt n z s c) x s []
+unfolding furtherAt
+further-reads n z x few some used w s c e =
+    let t = z .count in
+    let dues = optionalText null (countedText listedText) (x .dues) [] in
+    reads-then _ (rising-section-reads bookingCount noBooking (bookingLine n (usedIn z)) (BookingWithin n (usedIn z)) bookingText s (omega arith)
+    (booking-reads n (usedIn z) few used s) (x .bookings) (w .bookings .0) (w .bookings .1) dues (λ h. omega arith) c e)
+    (λ c₁ e₁. reads-then _ (rising-section-reads (newest (listCount t)) noListed (listedLine t time) (ListedWithin t time) listedText s (omega (arith, some))
+    (listed-reads t time some (omega arith) s) (x .dues) (w .dues .0) (w .dues .1) [] (some-long (x .dues)) c₁ e₁)
+    (λ c₂ e₂. at-end _ c₂ e₂))
 
 -- a line of the record, section by section
 module _ (l : Line) (w : Within l) (a : Arrays l) (s : List ℕ) where
-  abbrev bookedPart : List ℕ
-  bookedPart = optionalText unbooked bookedText (l .booked) []
+  abbrev furtherPart : List ℕ
+  furtherPart = optionalText unbooked bookedText (l .booked) (duesText l)
 
   abbrev trainsText : List ℕ
-  trainsText = field (l .traffic .«train_count») 10 (eachThen trainText (trainsOf l) bookedPart)
+  trainsText = field (l .traffic .«train_count») 10 (eachThen trainText (trainsOf l) furtherPart)
 
   abbrev segmentsText : List ℕ
   segmentsText = field (l .track .«station_count» - 1) 10 (eachThen segmentText (segmentsOf l) trainsText)
@@ -215,14 +246,14 @@ module _ (l : Line) (w : Within l) (a : Arrays l) (s : List ℕ) where
       (segmentsOf l) c trainsText (omega arith, omega arith) small many (w .segments) e)
 
   trains-read : (c : Cursor) → from s c ≡ trainsText →
-      Reads (trainSection (l .track .«station_count») s c) (record { count = l .traffic .«train_count»; entries = padded 12 noTrain (map tidyTrain (trainsOf l)) }) s bookedPart
+      Reads (trainSection (l .track .«station_count») s c) (record { count = l .traffic .«train_count»; entries = padded 12 noTrain (map tidyTrain (trainsOf l)) }) s furtherPart
   trains-read c e =
       let n = l .track .«station_count» in
       let t = l .traffic .«train_count» in
       let many = length-take-le t (l .traffic .trains) (omega (arith, w .trains .1, a .trains)) in
       let each = each-both (TrainWithin n) TrainArrays (TrainWritten n) (λ t x y. record { limits = x; arrays = y }) (trainsOf l) (w .each-train)
       (each-take TrainArrays t (l .traffic .trains) (a .each-train)) in
-      section-reads trainCount 12 noTrain (TrainWritten n) trainText tidyTrain (trainLine n) s (train-reads n (w .stations .1) s) t (trainsOf l) c bookedPart
+      section-reads trainCount 12 noTrain (TrainWritten n) trainText tidyTrain (trainLine n) s (train-reads n (w .stations .1) s) t (trainsOf l) c furtherPart
       (w .trains) (omega arith) many each e
 
   -- the trains as they were read
@@ -235,14 +266,23 @@ module _ (l : Line) (w : Within l) (a : Arrays l) (s : List ℕ) where
   many-tidied : length tidied ≡ l .traffic .«train_count»
   many-tidied = length-map (trainsOf l) tidyTrain ∙ many-trains
 
-  booked-read : (c : Cursor) → from s c ≡ bookedPart →
-      Reads (bookingSection (l .track .«station_count») (usedIn (record { count = l .traffic .«train_count»; entries = padded 12 noTrain tidied })) s c) (bookingsOf l) s []
-  booked-read c e =
+  abbrev trainsRead : Section Train
+  trainsRead = record { count = l .traffic .«train_count»; entries = padded 12 noTrain tidied }
+
+  further-read : (c : Cursor) → from s c ≡ furtherPart → Reads (furtherAt (l .track .«station_count») trainsRead s c) (furtherOf l) s []
+  further-read c e =
       let n = l .track .«station_count» in
-      let used : take (l .traffic .«train_count») (padded 12 noTrain tidied) ≡ tidied = rw many-tidied at (take-padded 12 noTrain tidied (omega (arith, many-tidied, w .trains .1))) in
-      let few = length-take-le (l .booked .«booking_count») (l .booked .bookings) (omega (arith, w .bookings .1, a .bookings)) in
-      rw used (bookings-read n tidied (w .stations .1) (omega (arith, many-tidied, w .trains .1)) s (bookingsOf l)
-      (omega (arith, few, w .bookings .1), each-after-map (λ before b. b) (BookingWithin n (trainsOf l)) (BookingWithin n tidied) (within-tidy n (trainsOf l)) (bookingsOf l) noBooking (w .each-booking)) c (e ∙ booked-text (l .booked) [] few))
+      let used : usedIn trainsRead ≡ tidied = rw many-tidied at (take-padded 12 noTrain tidied (omega (arith, many-tidied, w .trains .1))) in
+      let bookings = length-take-le (l .booked .«booking_count») (l .booked .bookings) (omega (arith, w .bookings .1, a .bookings)) in
+      let dues = length-take-le (l .dues .count) (l .dues .listed) (omega (arith, w .dues .1, w .trains .1, a .dues)) in
+      further-reads n trainsRead (furtherOf l) (w .stations .1) (w .trains .1) (rw used (omega (arith, many-tidied, w .trains .1))) (rw used (record {
+        bookings = (
+          omega (arith, bookings, w .bookings .1),
+          each-after-map (λ before b. b) (BookingWithin n (trainsOf l)) (BookingWithin n tidied) (within-tidy n (trainsOf l)) (bookingsOf l) noBooking
+              (w .each-booking),
+        );
+        dues = (omega (arith, dues, w .dues .1), w .each-due);
+      })) s c (e ∙ further-text l bookings dues)
 
   line-reads : (c : Cursor) → from s c ≡ textOf l → Reads (lineAt s c) (tidyLine l) s []
   unfolding lineAt textOf tidyLine
@@ -250,7 +290,7 @@ module _ (l : Line) (w : Within l) (a : Arrays l) (s : List ℕ) where
       reads-then _ (stations-read c e)
       (λ c₁ e₁. reads-then _ (segments-read c₁ e₁)
       (λ c₂ e₂. reads-then _ (trains-read c₂ e₂)
-      (λ c₃ e₃. reads-then _ (booked-read c₃ e₃)
+      (λ c₃ e₃. reads-then _ (further-read c₃ e₃)
       (λ c₄ e₄. rw (le-ltb (c₄ .at) (length s) (at-length s c₄ e₄)) (at-end _ c₄ e₄)))))
 
 -- the text of a line within the limits is read as that line

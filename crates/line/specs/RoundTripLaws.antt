@@ -14,21 +14,19 @@ use Rattle.finite.specs.Each.{Each}
 use Rattle.finite.specs.EachLaws.{each-map, each-take}
 use Rattle.text.specs.Writing.Lend.{Spelling}
 use Rattle.text.specs.Reading.Parsed.{Parsed}
-use Rattle.text.specs.Sections.Chained.{optionalText}
 use Rattle.line.specs.declared.Segment.{Segment}
 use Rattle.line.specs.declared.Train.{Train}
-use Rattle.line.specs.declared.Booking.{Booking}
 use Rattle.line.specs.declared.Line.{Line}
 use Rattle.line.specs.declared.Answer.{Answer}
 use Rattle.line.specs.declared.ReadLine.{ReadLine}
 use Rattle.line.specs.Ranges.{In, stationCount, tracks, trainCount}
-use Rattle.line.specs.Record.{noSegment, noTrain, noBooking, legsOf, runsOf, stopsOf, tracksOf, segmentsOf, trainsOf, bookingsOf, tidyTrain, tidyLine, SameTrain, SameTrains, SameLine}
-use Rattle.line.specs.File.{null, lineFile, answered}
+use Rattle.line.specs.Record.{noSegment, noTrain, noBooking, noListed, Further, legsOf, runsOf, stopsOf, tracksOf, segmentsOf, trainsOf, bookingsOf, duesOf, furtherOf, tidyTrain, tidyLine, SameTrain, SameTrains, SameLine}
+use Rattle.line.specs.File.{lineFile, answered}
 use Rattle.line.specs.Writing.{spelling}
-use Rattle.line.specs.Spell.{field, stationText, segmentText, trainText, bookingsText, textOf}
-use Rattle.line.specs.Within.{SegmentWithin, TrainWithin, BookingsWithin, Within, TrainArrays, Arrays}
+use Rattle.line.specs.Spell.{field, stationText, segmentText, trainText, furtherText, textOf}
+use Rattle.line.specs.Within.{SegmentWithin, TrainWithin, FurtherWithin, Within, TrainArrays, Arrays}
 use Rattle.line.specs.RecordLaws.{train-path}
-use Rattle.line.specs.BookingsLaws.{booked-text}
+use Rattle.line.specs.FurtherLaws.{further-text}
 use Rattle.line.specs.WithinLaws.{fault-none}
 use Rattle.line.specs.LengthLaws.{text-fits}
 use Rattle.line.specs.AcceptedLaws.{TrainRead, LineRead, lineOf, file-spelt}
@@ -37,19 +35,22 @@ use Rattle.line.specs.ReadableLaws.{text-reads}
 -- ---- a line that was read
 
 -- the used entries of a record are those that were laid into it
-module _ (n : ℕ) (ts : List ℕ) (gs : List Segment) (t : ℕ) (trs : List Train) (bs : List Booking) (few : n ≤ 12) (some : t ≤ 12) (a : length ts ≡ n) (b : length gs ≡ n - 1)
-    (c : length trs ≡ t) (d : length bs ≤ 120) where
-  stations-used : tracksOf (lineOf n ts gs t trs bs) ≡ ts
+module _ (n : ℕ) (ts : List ℕ) (gs : List Segment) (t : ℕ) (trs : List Train) (x : Further) (few : n ≤ 12) (some : t ≤ 12) (a : length ts ≡ n) (b : length gs ≡ n - 1)
+    (c : length trs ≡ t) (d : FurtherWithin n t trs x) where
+  stations-used : tracksOf (lineOf n ts gs t trs x) ≡ ts
   stations-used = rw a at (take-padded 12 0 ts (omega (arith, a)))
 
-  segments-used : segmentsOf (lineOf n ts gs t trs bs) ≡ gs
+  segments-used : segmentsOf (lineOf n ts gs t trs x) ≡ gs
   segments-used = rw b at (take-padded 11 noSegment gs (omega (arith, b)))
 
-  trains-used : trainsOf (lineOf n ts gs t trs bs) ≡ trs
+  trains-used : trainsOf (lineOf n ts gs t trs x) ≡ trs
   trains-used = rw c at (take-padded 12 noTrain trs (omega (arith, c)))
 
-  bookings-used : bookingsOf (lineOf n ts gs t trs bs) ≡ bs
-  bookings-used = take-padded 120 noBooking bs d
+  further-used : furtherOf (lineOf n ts gs t trs x) ≡ x
+  further-used =
+      let bookings = take-padded 120 noBooking (x .bookings) (d .bookings .0) in
+      let dues = take-padded 12 noListed (x .dues) (omega (arith, d .dues .0, some)) in
+      λ i. record { bookings = bookings i; dues = dues i }
 
 tidy-trains : (n : ℕ) (trs : List Train) → Each (TrainRead n) trs → map tidyTrain trs ≡ trs
 tidy-trains n [] v = refl
@@ -97,6 +98,9 @@ same-tidy l w a =
       bookings =
           take-padded 120 noBooking (bookingsOf l)
           (omega (arith, length-take-le (l .booked .«booking_count») (l .booked .bookings) (omega (arith, w .bookings .1, a .bookings)), w .bookings .1));
+      dues =
+          take-padded 12 noListed (duesOf l)
+          (omega (arith, length-take-le (l .dues .count) (l .dues .listed) (omega (arith, w .dues .1, w .trains .1, a .dues)), w .dues .1, w .trains .1));
     }
 
 -- ---- what is known of a line that was read
@@ -116,16 +120,15 @@ record Got (r : Parsed Line) (l : Line) : Type 0 where
   got : r ≡ Parsed.got l end
 
 -- the record with these entries, once its used entries are known
-module _ (s : List ℕ) (n : ℕ) (ts : List ℕ) (gs : List Segment) (t : ℕ) (trs : List Train) (bs : List Booking) where
+module _ (s : List ℕ) (n : ℕ) (ts : List ℕ) (gs : List Segment) (t : ℕ) (trs : List Train) (x : Further) where
   abbrev made : Line
-  made = lineOf n ts gs t trs bs
+  made = lineOf n ts gs t trs x
 
-  abbrev textWith : List ℕ → List Segment → List Train → List Booking → List ℕ
-  textWith us hs us′ cs =
-      field n 10 (eachThen stationText us (field (n - 1) 10 (eachThen segmentText hs (field t 10 (eachThen trainText us′ (optionalText null bookingsText cs []))))))
+  abbrev textWith : List ℕ → List Segment → List Train → Further → List ℕ
+  textWith us hs us′ u = field n 10 (eachThen stationText us (field (n - 1) 10 (eachThen segmentText hs (field t 10 (eachThen trainText us′ (furtherText u))))))
 
-  line-of-read : In stationCount n → In trainCount t → Each (In tracks) ts → Each SegmentWithin gs → Each (TrainRead n) trs → BookingsWithin n trs bs →
-      tracksOf made ≡ ts → segmentsOf made ≡ gs → trainsOf made ≡ trs → bookingsOf made ≡ bs → s ≡ textWith ts gs trs bs → ReadFrom s made
+  line-of-read : In stationCount n → In trainCount t → Each (In tracks) ts → Each SegmentWithin gs → Each (TrainRead n) trs → FurtherWithin n t trs x →
+      tracksOf made ≡ ts → segmentsOf made ≡ gs → trainsOf made ≡ trs → furtherOf made ≡ x → s ≡ textWith ts gs trs x → ReadFrom s made
   unfolding textOf tidyLine
   line-of-read i j a b c d p q r v e = record {
     limits = record {
@@ -134,8 +137,10 @@ module _ (s : List ℕ) (n : ℕ) (ts : List ℕ) (gs : List Segment) (t : ℕ) 
       segments = rw q b;
       trains = j;
       each-train = rw r (each-map (TrainRead n) (TrainWithin n) (λ x y. y .limits) trs c);
-      bookings = (omega arith, d .0);
-      each-booking = rw (r, v) (d .1);
+      bookings = (omega arith, d .bookings .0);
+      each-booking = rw (r, ap (λ (u : Further). u .bookings) v) (d .bookings .1);
+      dues = (omega arith, d .dues .0);
+      each-due = rw (ap (λ (u : Further). u .dues) v) (d .dues .1);
     };
     arrays = record {
       tracks = padded-length 12 0 ts;
@@ -144,33 +149,34 @@ module _ (s : List ℕ) (n : ℕ) (ts : List ℕ) (gs : List Segment) (t : ℕ) 
       each-train =
           each-padded TrainArrays 12 noTrain trs (length-replicate {A = ℕ} 11 0, length-replicate {A = ℕ} 11 0)
           (each-map (TrainRead n) TrainArrays (λ x y. y .arrays) trs c);
-      bookings = padded-length 120 noBooking bs;
+      bookings = padded-length 120 noBooking (x .bookings);
+      dues = padded-length 12 noListed (x .dues);
     };
     tidy =
-        ap (λ (x : List ℕ). lineOf n x (segmentsOf made) t (map tidyTrain (trainsOf made)) (bookingsOf made)) p
-        ∙ ap (λ (x : List Segment). lineOf n ts x t (map tidyTrain (trainsOf made)) (bookingsOf made)) q
-        ∙ ap (λ (x : List Train). lineOf n ts gs t (map tidyTrain x) (bookingsOf made)) r
-        ∙ ap (λ (x : List Train). lineOf n ts gs t x (bookingsOf made)) (tidy-trains n trs c)
-        ∙ ap (λ (x : List Booking). lineOf n ts gs t trs x) v;
+        ap (λ (y : List ℕ). lineOf n y (segmentsOf made) t (map tidyTrain (trainsOf made)) (furtherOf made)) p
+        ∙ ap (λ (y : List Segment). lineOf n ts y t (map tidyTrain (trainsOf made)) (furtherOf made)) q
+        ∙ ap (λ (y : List Train). lineOf n ts gs t (map tidyTrain y) (furtherOf made)) r
+        ∙ ap (λ (y : List Train). lineOf n ts gs t y (furtherOf made)) (tidy-trains n trs c)
+        ∙ ap (λ (y : Further). lineOf n ts gs t trs y) v;
     text =
-        ap (λ (x : List ℕ). field n 10 (eachThen stationText (tracksOf made) (field (n - 1) 10 (eachThen segmentText (segmentsOf made)
-        (field t 10 (eachThen trainText (trainsOf made) x)))))) (booked-text (made .booked) [] (ap length v))
-        ∙ ap (λ (x : List ℕ). textWith x (segmentsOf made) (trainsOf made) (bookingsOf made)) p
-        ∙ ap (λ (x : List Segment). textWith ts x (trainsOf made) (bookingsOf made)) q
-        ∙ ap (λ (x : List Train). textWith ts gs x (bookingsOf made)) r
-        ∙ ap (λ (x : List Booking). textWith ts gs trs x) v
+        ap (λ (y : List ℕ). field n 10 (eachThen stationText (tracksOf made) (field (n - 1) 10 (eachThen segmentText (segmentsOf made)
+        (field t 10 (eachThen trainText (trainsOf made) y))))))
+        (further-text made (ap (λ (u : Further). length (u .bookings)) v) (ap (λ (u : Further). length (u .dues)) v))
+        ∙ ap (λ (y : List ℕ). textWith y (segmentsOf made) (trainsOf made) (furtherOf made)) p
+        ∙ ap (λ (y : List Segment). textWith ts y (trainsOf made) (furtherOf made)) q
+        ∙ ap (λ (y : List Train). textWith ts gs y (furtherOf made)) r
+        ∙ ap (λ (y : Further). textWith ts gs trs y) v
         ∙ sym e;
   }
 
 line-read : (s : List ℕ) (l : Line) → LineRead s l → ReadFrom s l
 line-read s l r =
-    let few = r .bookings .0 in
-    let a = stations-used (r .n) (r .ts) (r .gs) (r .t) (r .trs) (r .bs) (r .stations .1) (r .trains .1) (r .many-stations) (r .many-segments) (r .many-trains) few in
-    let b = segments-used (r .n) (r .ts) (r .gs) (r .t) (r .trs) (r .bs) (r .stations .1) (r .trains .1) (r .many-stations) (r .many-segments) (r .many-trains) few in
-    let c = trains-used (r .n) (r .ts) (r .gs) (r .t) (r .trs) (r .bs) (r .stations .1) (r .trains .1) (r .many-stations) (r .many-segments) (r .many-trains) few in
-    let d = bookings-used (r .n) (r .ts) (r .gs) (r .t) (r .trs) (r .bs) (r .stations .1) (r .trains .1) (r .many-stations) (r .many-segments) (r .many-trains) few in
-    rw (r .line) (line-of-read s (r .n) (r .ts) (r .gs) (r .t) (r .trs) (r .bs) (r .stations) (r .trains) (r .each-station) (r .each-segment) (r .each-train)
-    (r .bookings) a b c d (r .text))
+    let a = stations-used (r .n) (r .ts) (r .gs) (r .t) (r .trs) (r .x) (r .stations .1) (r .trains .1) (r .many-stations) (r .many-segments) (r .many-trains) (r .further) in
+    let b = segments-used (r .n) (r .ts) (r .gs) (r .t) (r .trs) (r .x) (r .stations .1) (r .trains .1) (r .many-stations) (r .many-segments) (r .many-trains) (r .further) in
+    let c = trains-used (r .n) (r .ts) (r .gs) (r .t) (r .trs) (r .x) (r .stations .1) (r .trains .1) (r .many-stations) (r .many-segments) (r .many-trains) (r .further) in
+    let d = further-used (r .n) (r .ts) (r .gs) (r .t) (r .trs) (r .x) (r .stations .1) (r .trains .1) (r .many-stations) (r .many-segments) (r .many-trains) (r .further) in
+    rw (r .line) (line-of-read s (r .n) (r .ts) (r .gs) (r .t) (r .trs) (r .x) (r .stations) (r .trains) (r .each-station) (r .each-segment) (r .each-train)
+    (r .further) a b c d (r .text))
 
 -- ---- the answer of `read`
 

@@ -1,10 +1,11 @@
 -- Laws of reading the sections, how each is refused, at its count or in its lines, or left off; and of the file, by its length.
 use Prim.Native.Nat.{ℕ, _≤_, _<_}
 use mathlib.Core.Path.{_≡_, refl, sym, ap, _∙_}
-use mathlib.Core.Bool.{not, _&&_}
+use mathlib.Core.Bool.{Bool, true, false, not, _&&_, and-eq-true-iff}
 use mathlib.Core.List.{List, [], _∷_}
 use native.Mathlib.Omega.{arith}
-use borrow.Author.Tests.{lt-ltb, le-ltb}
+use borrow.Author.Tests.{lt-ltb, le-ltb, eqb-true}
+use lib.Dec.{eqb}
 use lib.ListN.{length}
 use Rattle.text.specs.declared.Cursor.{Cursor}
 use Rattle.text.specs.declared.Ending.{Ending}
@@ -15,9 +16,9 @@ use Rattle.text.specs.Reading.ParsedLaws.{then-got, got-is, ranged-spelt}
 use Rattle.text.specs.Elements.Padded.{padded}
 use Rattle.text.specs.Reading.Told.{toldEnding}
 use Rattle.text.specs.Sections.Chained.{chained, left, optionalAt}
-use Rattle.text.specs.Sections.ChainedLaws.{chained-length}
+use Rattle.text.specs.Sections.ChainedLaws.{chained-done, chained-length}
 use Rattle.line.specs.Ranges.{In}
-use Rattle.line.specs.File.{number, Section, sectionAt, risingAt, null, lineAt, lineFile}
+use Rattle.line.specs.File.{number, Section, sectionAt, risingAt, risingSection, null, lineAt, lineFile}
 
 -- what a part tells with its value turned into another
 told-map : {A B : Type 0} (f : A → B) (e : Ending) (x : A) → toldEnding e (f x) ≡ mapParsed f (toldEnding e x)
@@ -54,46 +55,59 @@ module _ {A : Type 0} (r : Limits) (size : ℕ) (none : A) (line : List ℕ → 
       let count = ranged-spelt 2 3 (r .min) (r .max) 10 s c (n .value) (n .next) (omega arith) (n .first) in
       got-is (λ y end. In r (y .count)) (xs .after) (count .low, count .high)
 
--- ---- a section that may be left off, of lines in rising order, with a count from 1
+-- ---- a section that may be left off, of lines in rising order
+
+-- it has this count, is empty, and nothing follows it
+abbrev pub emptyLast : ℕ → List ℕ → Cursor → Bool
+emptyLast n s next = eqb n 0 && not (left s next)
 
 module _ {A : Type 0} (r : Limits) (none : A) (line : A → List ℕ → Cursor → Parsed A) (s : List ℕ) (c : Cursor) where
-  pub rising-left-off : length s ≤ c .at → optionalAt 3 [] null (risingAt r none line) s c ≡ Parsed.got [] c
-  unfolding optionalAt
+  pub rising-left-off : length s ≤ c .at → risingSection r none line s c ≡ Parsed.got [] c
+  unfolding risingSection optionalAt
   rising-left-off end = rw (le-ltb (c .at) (length s) end) refl
 
   module _ (more : c .at < length s) where
-    pub rising-no-count : {m q : ℕ} → number r 10 s c ≡ Parsed.bad m q → optionalAt 3 [] null (risingAt r none line) s c ≡ Parsed.bad m q
-    unfolding optionalAt risingAt
+    pub rising-no-count : {m q : ℕ} → number r 10 s c ≡ Parsed.bad m q → risingSection r none line s c ≡ Parsed.bad m q
+    unfolding risingSection optionalAt risingAt
     rising-no-count e = rw (lt-ltb (c .at) (length s) more, e) refl
 
-    -- it is what its lines are: with a count from 1 it is never empty
-    rising-read : 1 ≤ r .min → (n : ℕ) (c₁ : Cursor) → number r 10 s c ≡ Parsed.got n c₁ →
-        optionalAt 3 [] null (risingAt r none line) s c ≡ chained (λ before x. x) line n none s c₁
-    unfolding optionalAt risingAt
-    rising-read least n c₁ e = rw (lt-ltb (c .at) (length s) more, e) (go (chained (λ before x. x) line n none s c₁) refl)
-      where
-        go : (p : Parsed (List A)) → chained (λ before x. x) line n none s c₁ ≡ p →
-            thenRead p (λ x next. pick (null x && not (left s next)) (Parsed.bad 3 (c .line)) (Parsed.got x next)) ≡ p
-        go (Parsed.got [] d) h =
-            let many = chained-length (λ before x. x) line n none s c₁ [] d h in
-            let count = ranged-spelt 2 3 (r .min) (r .max) 10 s c n c₁ (omega arith) e in
-            absurd (omega (arith, many, count .low, least))
-        go (Parsed.got (x ∷ xs) d) h = refl
-        go (Parsed.bad m q) h = refl
+    module _ (n : ℕ) (c₁ : Cursor) (count : number r 10 s c ≡ Parsed.got n c₁) where
+      pub rising-empty-last : emptyLast n s c₁ ≡ true → risingSection r none line s c ≡ Parsed.bad 3 (c .line)
+      unfolding risingSection optionalAt risingAt chained
+      rising-empty-last e =
+          let (empty, last) = and-eq-true-iff (eqb n 0) (not (left s c₁)) .0 e in
+          rw (lt-ltb (c .at) (length s) more, count, eqb-true n 0 empty, last) refl
 
-    -- the section of n lines that ended so, with the array xs; `with` makes a record of a count and an array
-    pub rising-lines : {B : Type 0} (with : ℕ → List A → B) (size : ℕ) → 1 ≤ r .min → (n : ℕ) (c₁ : Cursor) (e : Ending) (xs : List A) →
-        number r 10 s c ≡ Parsed.got n c₁ → toldEnding e xs ≡ mapParsed (padded size none) (chained (λ before x. x) line n none s c₁) →
-        toldEnding e (with n xs) ≡ mapParsed (λ ys. with (length ys) (padded size none ys)) (optionalAt 3 [] null (risingAt r none line) s c)
-    rising-lines with size least n c₁ e xs h told =
-        told-map (with n) e xs ∙ ap (λ (p : Parsed (List A)). mapParsed (with n) p) told ∙ both (chained (λ before x. x) line n none s c₁) refl
-        ∙ ap (λ (p : Parsed (List A)). mapParsed (λ ys. with (length ys) (padded size none ys)) p) (sym (rising-read least n c₁ h))
-      where
-        both : (p : Parsed (List A)) → chained (λ before x. x) line n none s c₁ ≡ p →
-            mapParsed (with n) (mapParsed (padded size none) p) ≡ mapParsed (λ ys. with (length ys) (padded size none ys)) p
-        both (Parsed.got ys d) is =
-            ap (λ (k : ℕ). Parsed.got (with k (padded size none ys)) d) (sym (chained-length (λ before x. x) line n none s c₁ ys d is))
-        both (Parsed.bad m q) is = refl
+      -- else it is what its lines are
+      rising-read : emptyLast n s c₁ ≡ false → risingSection r none line s c ≡ chained (λ before x. x) line n none s c₁
+      unfolding risingSection optionalAt risingAt
+      rising-read some = rw (lt-ltb (c .at) (length s) more, count) (go (chained (λ before x. x) line n none s c₁) refl)
+        where
+          go : (p : Parsed (List A)) → chained (λ before x. x) line n none s c₁ ≡ p →
+              thenRead p (λ x next. pick (null x && not (left s next)) (Parsed.bad 3 (c .line)) (Parsed.got x next)) ≡ p
+          go (Parsed.got [] d) h =
+              let none-read : n ≡ 0 = sym (chained-length (λ before x. x) line n none s c₁ [] d h) in
+              let same : _≡_ {A = Parsed (List A)} (Parsed.got [] c₁) (Parsed.got [] d) =
+              sym (chained-done (λ before x. x) line n 0 none s c₁ none-read) ∙ h in
+              let here : c₁ ≡ d = cc in
+              let follows : not (left s d) ≡ false = rw (none-read, here) at some in
+              rw follows refl
+          go (Parsed.got (x ∷ xs) d) h = refl
+          go (Parsed.bad m q) h = refl
+
+      -- the section of n lines that ended so, with the array xs; `with` makes a record of a count and an array
+      pub rising-lines : {B : Type 0} (with : ℕ → List A → B) (size : ℕ) → emptyLast n s c₁ ≡ false → (e : Ending) (xs : List A) →
+          toldEnding e xs ≡ mapParsed (padded size none) (chained (λ before x. x) line n none s c₁) →
+          toldEnding e (with n xs) ≡ mapParsed (λ ys. with (length ys) (padded size none ys)) (risingSection r none line s c)
+      rising-lines with size some e xs told =
+          told-map (with n) e xs ∙ ap (λ (p : Parsed (List A)). mapParsed (with n) p) told ∙ both (chained (λ before x. x) line n none s c₁) refl
+          ∙ ap (λ (p : Parsed (List A)). mapParsed (λ ys. with (length ys) (padded size none ys)) p) (sym (rising-read some))
+        where
+          both : (p : Parsed (List A)) → chained (λ before x. x) line n none s c₁ ≡ p →
+              mapParsed (with n) (mapParsed (padded size none) p) ≡ mapParsed (λ ys. with (length ys) (padded size none ys)) p
+          both (Parsed.got ys d) is =
+              ap (λ (k : ℕ). Parsed.got (with k (padded size none ys)) d) (sym (chained-length (λ before x. x) line n none s c₁ ys d is))
+          both (Parsed.bad m q) is = refl
 
 -- ---- the file
 
