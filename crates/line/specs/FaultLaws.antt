@@ -4,8 +4,8 @@ use mathlib.Core.Path.{_≡_, refl, sym, ap, _∙_}
 use mathlib.Core.List.{List, [], _∷_}
 use mathlib.Core.Bool.{Bool, true, false, not}
 use native.Mathlib.Omega.{arith}
-use borrow.Author.Tests.{eq-eqb, ne-eqb, eqb-false}
-use lib.Dec.{eqb}
+use borrow.Author.Tests.{lt-ltb, le-ltb, eq-eqb, ne-eqb, eqb-false}
+use lib.Dec.{eqb, ltb}
 use lib.ListN.{length, getD, take, drop}
 use lib.Seq.{length-take-le}
 use Rattle.text.specs.declared.Limits.{Limits}
@@ -40,6 +40,10 @@ found-later {r} {a} {b} e h g = g ∙ ap (λ (f : Fault). thenFault f b) (sym h 
 pub fault-by : {r : Fault} {b : Bounded} (l : Limits) (n p : ℕ) → r ≡ valueFault b p → b ≡ boundedOf (l .min) (l .max) n → r ≡ numberFault l n p
 unfolding numberFault
 fault-by l n p e h = e ∙ ap (λ (k : Bounded). valueFault k p) h
+
+-- a value in limits that a call gave
+pub limits-by : {r : Fault} {k : Limits} (l : Limits) (n p : ℕ) → r ≡ numberFault k n p → k ≡ l → r ≡ numberFault l n p
+limits-by l n p e h = e ∙ ap (λ (m : Limits). numberFault m n p) h
 
 -- a check of as many values as a call gave
 pub times-by : {r : Fault} {k n : ℕ} (xs : List ℕ) (l : Limits) (p : ℕ) → r ≡ timesFault (take k xs) l p → k ≡ n → r ≡ timesFault (take n xs) l p
@@ -93,7 +97,7 @@ module _ (o d p : ℕ) where
   pub other-ends : (d ≡ o → ⊥) → Fault.None ≡ pick (eqb d o) (Fault.At 4 p) Fault.None
   other-ends h = simp (ne-eqb d o h)
 
--- ---- whether a line may stand after the one before it, which a call or a test told
+-- ---- whether a booking may stand, which a call told
 
 module _ {m b : Bool} (p : ℕ) (f : Fault) (told : m ≡ b) where
   pub stands-not : not m ≡ true → Fault.At 19 p ≡ pick (not b) (Fault.At 19 p) f
@@ -101,6 +105,15 @@ module _ {m b : Bool} (p : ℕ) (f : Fault) (told : m ≡ b) where
 
   pub stands : {r : Fault} → not m ≡ false → r ≡ f → r ≡ pick (not b) (Fault.At 19 p) f
   stands h e = e ∙ ap (λ (x : Bool). pick x (Fault.At 19 p) f) (sym h ∙ ap not told)
+
+-- ---- whether train b of a list may stand after train a
+
+module _ (a b p : ℕ) (f : Fault) where
+  pub rises-not : b ≤ a → Fault.At 19 p ≡ pick (not (ltb a b)) (Fault.At 19 p) f
+  rises-not h = simp (le-ltb a b h)
+
+  pub rises : {r : Fault} → a < b → r ≡ f → r ≡ pick (not (ltb a b)) (Fault.At 19 p) f
+  rises h e = e ∙ (simp (lt-ltb a b h))
 
 -- ---- what has no fault
 

@@ -578,7 +578,7 @@ fn put_further(out: &mut [u8], start: usize, booked: Booked, dues: TrainList) ->
     requires { ⌜ (booked .«booking_count» ≤ 120) × (dues .count ≤ 12) × (start + length (optionalText unbooked bookedText booked (optionalText unlisted trainListText dues [])) ≤ length (now out)) ⌝ }
     ensures { λ r. ⌜ Put (now (out .entry)) (now (out .exit)) start (optionalText unbooked bookedText booked (optionalText unlisted trainListText dues [])) r ⌝ }
 {
-    let no_dues = left_off(dues.count, true);
+    let no_dues = dues.count == 0;
     let after_bookings = put_booked(out, start, booked, no_dues);
     put_list(out, after_bookings, dues, true)
 }
@@ -619,7 +619,7 @@ fn write_text(line: Line, out: &mut [u8]) -> Written
     lend_text(&text[..count], out)
 }
 
-// Writes the record of a line, in range or not, into the lent bytes: the length of its text, or 3, 4 or 6 and no byte changed.
+// Writes the record of a line, in range or not, into the lent bytes: the length of its text, or 3, 4, 19 or 6 and no byte changed.
 // Every line within the limits has a text, and reading it gives the same line back.
 pub fn write(line: Line, out: &mut [u8]) -> Written
     ensures { λ r. ⌜ Lent (spelling line) (now (out .entry)) (now (out .exit)) r × (Within line → ReadBack line) ⌝ }
