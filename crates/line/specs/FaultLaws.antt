@@ -18,13 +18,14 @@ use Rattle.line.specs.declared.Train.{Train}
 use Rattle.line.specs.declared.Track.{Track}
 use Rattle.line.specs.declared.Traffic.{Traffic}
 use Rattle.line.specs.declared.Booking.{Booking}
+use Rattle.line.specs.declared.Booked.{Booked}
 use Rattle.line.specs.declared.writing.Fault.{Fault}
-use Rattle.line.specs.Ranges.{In, stationCount, trainCount, trainNumber, station, time, weight}
+use Rattle.line.specs.Ranges.{In, stationCount, trainCount, trainNumber, bookingCount, station, time, weight}
 use Rattle.line.specs.Record.{legsOf}
 use Rattle.line.specs.RecordLaws.{path-legs}
 use Rattle.line.specs.Bookings.{standsAfter, bookable}
 use Rattle.line.specs.BookingsLaws.{entry, bookable-used}
-use Rattle.line.specs.Writing.{thenFault, valueFault, numberFault, linesFault, timesFault, pathFault, headFault, bookingFault, bookingFaultWith, risingFault, trackFaultOf, trafficFaultOf}
+use Rattle.line.specs.Writing.{thenFault, valueFault, numberFault, linesFault, timesFault, pathFault, headFault, bookingFault, bookingFaultWith, risingFault, trackFaultOf, trafficFaultOf, bookedFault}
 
 -- ---- one check and then the next
 
@@ -193,8 +194,8 @@ legs-fit n p t e g h l =
     let path = tells-head n p t .holds (sym e ∙ g) .0 in
     rw l (path-legs n (t .origin) (t .destination) h (path .0) (path .1 .0) (path .1 .1))
 
--- the count of a part that was checked and has no fault; that of a track, and that of traffic
-pub counts-fit : {r : Fault} (l : Limits) (n p : ℕ) (later : Fault) → r ≡ thenFault (numberFault l n p) later → r ≡ Fault.None → In l n
+-- the counts of a track, of traffic and of bookings that were checked and have no fault
+counts-fit : {r : Fault} (l : Limits) (n p : ℕ) (later : Fault) → r ≡ thenFault (numberFault l n p) later → r ≡ Fault.None → In l n
 counts-fit l n p later e g =
     tells-then _ _ (tells-number l n p) (record { holds = λ (h : later ≡ Fault.None). h; clean = λ h. h }) .holds (sym e ∙ g) .0
 
@@ -205,3 +206,6 @@ stations-fit k e g = counts-fit stationCount _ _ _ e g
 pub trains-fit : {r : Fault} (n : ℕ) (t : Traffic) → r ≡ trafficFaultOf n t → r ≡ Fault.None → In trainCount (t .«train_count»)
 unfolding trafficFaultOf
 trains-fit n t e g = counts-fit trainCount _ _ _ e g
+
+pub bookings-fit : {r : Fault} (n : ℕ) (t : Traffic) (b : Booked) (p : ℕ) → r ≡ bookedFault n t b p → r ≡ Fault.None → In bookingCount (b .«booking_count»)
+bookings-fit n t b p e g = counts-fit bookingCount _ _ _ e g

@@ -35,7 +35,7 @@ use Rattle.line.specs.Within.{Arrays}
 use Rattle.line.specs.Spell.{field, stationText, letterByte, segmentText, journeyText, trainText, bookingText, listedText, arrayText, bookedText, unbooked, trainListText, unlisted, duesText, textOf}
 use Rattle.line.specs.SpellLaws.{station-then, segment-then, train-then, booking-then, listed-then, each-then, field-some}
 use Rattle.line.specs.Writing.{thenFault, numberFault, linesFault, timesFault, trackFault, segmentFault, pathFault, headFault, trainFault, bookingFault, listedFault, risingFault, countedFault, trackFaultOf, trafficFaultOf, bookingsLine, bookedFaultOf, listFault, duesLine, duesFaultOf, faultOf}
-use Rattle.line.specs.FaultLaws.{tells-number}
+use Rattle.line.specs.FaultLaws.{tells-number, stations-fit, trains-fit, bookings-fit}
 
 -- ---- each line has one line feed, its last byte
 
@@ -264,6 +264,11 @@ only-number r x p = go (boundedOf (r .min) (r .max) x)
     go (Bounded.Within v) = only-none p
     go Bounded.Outside = only-at 3 p
 
+-- a test before what follows it
+only-test : (n p : ℕ) (b : Bool) (f : Fault) → OnlyOn p f → OnlyOn p (pick b (Fault.At n p) f)
+only-test n p true f h = only-at n p
+only-test n p false f h = h
+
 only-times : (xs : List ℕ) (r : Limits) (p : ℕ) → OnlyOn p (timesFault xs r p)
 unfolding timesFault
 only-times [] r p = only-none p
@@ -275,11 +280,7 @@ only-segment p g = only-then p _ _ (only-number gap (g .following) p) (only-numb
 
 only-path : (k p o d : ℕ) → OnlyOn p (pathFault k p o d)
 unfolding pathFault
-only-path k p o d = only-then p _ _ (only-number (station k) o p) (only-then p _ _ (only-number (station k) d p) (go (eqb d o)))
-  where
-    go : (b : Bool) → OnlyOn p (pick b (Fault.At 4 p) Fault.None)
-    go true = only-at 4 p
-    go false = only-none p
+only-path k p o d = only-then p _ _ (only-number (station k) o p) (only-then p _ _ (only-number (station k) d p) (only-test 4 p (eqb d o) _ (only-none p)))
 
 only-train : (k p : ℕ) (t : Train) → OnlyOn p (trainFault k p t)
 unfolding trainFault headFault
@@ -292,19 +293,14 @@ only-booking : (k : ℕ) (trains : List Train) (before : Booking) (p : ℕ) (b :
 unfolding bookingFault
 only-booking k trains before p b =
     only-then p _ _ (only-number (trainNumber (length trains)) (b .train) p)
-    (only-then p _ _ (only-number (station k) (b .station) p) (go (not (bookable trains before (b .train) (b .station)))))
-  where
-    go : (c : Bool) → OnlyOn p (pick c (Fault.At 19 p) (numberFault time (b .minute) p))
-    go true = only-at 19 p
-    go false = only-number time (b .minute) p
+    (only-then p _ _ (only-number (station k) (b .station) p)
+    (only-test 19 p (not (bookable trains before (b .train) (b .station))) _ (only-number time (b .minute) p)))
 
 only-listed : (k : ℕ) (r : Limits) (before : Listed) (p : ℕ) (x : Listed) → OnlyOn p (listedFault k r before p x)
 unfolding listedFault
-only-listed k r before p x = only-then p _ _ (only-number (trainNumber k) (x .train) p) (go (not (ltb (before .train) (x .train))))
-  where
-    go : (c : Bool) → OnlyOn p (pick c (Fault.At 19 p) (numberFault r (x .minutes) p))
-    go true = only-at 19 p
-    go false = only-number r (x .minutes) p
+only-listed k r before p x =
+    only-then p _ _ (only-number (trainNumber k) (x .train) p)
+    (only-test 19 p (not (ltb (before .train) (x .train))) _ (only-number r (x .minutes) p))
 
 -- ---- what is at fault begins on the line that the fault names
 
@@ -313,10 +309,6 @@ pub record Faulty {A : Type 0} (s : List ℕ) (text : A → List ℕ → List �
   pub x : A
   pub fault : check p x ≡ Fault.At m p
   pub begins : Begins s (text x) p
-
-none-first : (a b : Fault) → thenFault a b ≡ Fault.None → a ≡ Fault.None
-none-first Fault.None b e = refl
-none-first (Fault.At n q) b e = e
 
 either : (a b : Fault) (m p : ℕ) → thenFault a b ≡ Fault.At m p → (a ≡ Fault.At m p) ⊎ ((a ≡ Fault.None) × (b ≡ Fault.At m p))
 either Fault.None b m p e = inr (refl, e)
@@ -402,19 +394,6 @@ FaultBegins l m p =
     ⊎ (SectionFaulty (textOf l) bookingText bookingCount (bookingFault (l .track .«station_count») (trainsOf l)) m p
     ⊎ SectionFaulty (textOf l) listedText (listCount (l .traffic .«train_count»)) (listedFault (l .traffic .«train_count») time) m p))
 
--- a part without a fault has its count in its range
-clean-track : (l : Line) → trackFaultOf (l .track) ≡ Fault.None → In stationCount (l .track .«station_count»)
-unfolding trackFaultOf
-clean-track l e = tells-number stationCount (l .track .«station_count») 1 .holds (none-first _ _ e)
-
-clean-traffic : (l : Line) → trafficFaultOf (l .track .«station_count») (l .traffic) ≡ Fault.None → In trainCount (l .traffic .«train_count»)
-unfolding trafficFaultOf
-clean-traffic l e = tells-number trainCount (l .traffic .«train_count») _ .holds (none-first _ _ e)
-
-clean-booked : (l : Line) → bookedFaultOf l ≡ Fault.None → In bookingCount (l .booked .«booking_count»)
-unfolding bookedFaultOf
-clean-booked l e = tells-number bookingCount (l .booked .«booking_count») _ .holds (none-first _ _ e)
-
 module _ (l : Line) (arrays : Arrays l) (m p : ℕ) where
   first-begins : Begins (textOf l) (countText (l .track .«station_count»)) 1
   unfolding textOf
@@ -484,19 +463,19 @@ module _ (l : Line) (arrays : Arrays l) (m p : ℕ) where
           (omega (arith, feeds-dues l arrays few some written most))
 
   pub fault-begins : faultOf l ≡ Fault.At m p → FaultBegins l m p
-  unfolding faultOf
+  unfolding faultOf bookedFaultOf
   fault-begins e =
       ⊎-elim
       (λ h. inl (track-faulty h))
       (λ h.
-      let few = clean-track l (h .0) in
+      let few = stations-fit (l .track) refl (h .0) in
       inr (⊎-elim
       (λ f. inl (traffic-faulty few f))
       (λ f.
-      let some = clean-traffic l (f .0) in
+      let some = trains-fit (l .track .«station_count») (l .traffic) refl (f .0) in
       inr (⊎-elim
       (λ g. inl (booked-faulty few some g))
-      (λ g. inr (dues-faulty few some (clean-booked l (g .0)) (g .1)))
+      (λ g. inr (dues-faulty few some (bookings-fit (l .track .«station_count») (l .traffic) (l .booked) (bookingsLine l) refl (g .0)) (g .1)))
       (either _ _ m p (f .1))))
       (either _ _ m p (h .1))))
       (either _ _ m p e)

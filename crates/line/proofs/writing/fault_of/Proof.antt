@@ -1,9 +1,8 @@
 -- `line::writing::fault_of` meets its contract: each `return` is the first fault of the parts checked so far, and the counts of a part without fault bound
--- what is checked next (`stations-fit`, `trains-fit`, `counts-fit`). Assumes nothing.
+-- what is checked next (`stations-fit`, `trains-fit`, `bookings-fit`). Assumes nothing.
 use native.Mathlib.Omega.{arith}
 use borrow.Author.Needs.{needs}
-use Rattle.line.specs.FaultLaws.{found-first, found-later, counts-fit, stations-fit, trains-fit}
-use Rattle.line.specs.Ranges.{bookingCount}
+use Rattle.line.specs.FaultLaws.{found-first, found-later, stations-fit, trains-fit, bookings-fit}
 use Rattle.line.specs.Writing.{faultOf, bookedFaultOf}
 use Rattle.line.proofs.writing.fault_of.Statement.{statement}
 use Rattle.line.proofs.writing.fault_of.Tie as tie
@@ -93,7 +92,8 @@ list-fault-requires c κs =
     let track = traffic .before .before .before .before in
     let count = stations-fit _ (track .before .before .track-fault .ensures) (track .enum-told .given .1) in
     let trains = trains-fit _ _ (traffic .before .before .traffic-fault .ensures) (traffic .enum-told3 .given .1) in
-    let number = counts-fit bookingCount _ _ _ (bookings .before .before .booked-fault .ensures) (bookings .enum-told5 .given .1) in
+    let l = track .before .before .before .before .args .line in
+    let number = bookings-fit (l .track .«station_count») (l .traffic) (l .booked) _ (bookings .before .before .booked-fault .ensures) (bookings .enum-told5 .given .1) in
     (trains .1, omega arith)
 
 returns-4 : tie.Need-returns-4
