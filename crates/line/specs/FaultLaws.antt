@@ -4,8 +4,8 @@ use mathlib.Core.Path.{_≡_, refl, sym, ap, _∙_}
 use mathlib.Core.List.{List, [], _∷_}
 use mathlib.Core.Bool.{Bool, true, false, not}
 use native.Mathlib.Omega.{arith}
-use borrow.Author.Tests.{eq-eqb, ne-eqb, eqb-false}
-use lib.Dec.{eqb}
+use borrow.Author.Tests.{lt-ltb, le-ltb, eq-eqb, ne-eqb, eqb-false}
+use lib.Dec.{eqb, ltb}
 use lib.ListN.{length, getD, take, drop}
 use lib.Seq.{length-take-le}
 use Rattle.text.specs.declared.Limits.{Limits}
@@ -18,13 +18,14 @@ use Rattle.line.specs.declared.Train.{Train}
 use Rattle.line.specs.declared.Track.{Track}
 use Rattle.line.specs.declared.Traffic.{Traffic}
 use Rattle.line.specs.declared.Booking.{Booking}
+use Rattle.line.specs.declared.Booked.{Booked}
 use Rattle.line.specs.declared.writing.Fault.{Fault}
-use Rattle.line.specs.Ranges.{In, stationCount, trainCount, trainNumber, station, time, weight}
+use Rattle.line.specs.Ranges.{In, stationCount, trainCount, trainNumber, bookingCount, station, time, weight}
 use Rattle.line.specs.Record.{legsOf}
 use Rattle.line.specs.RecordLaws.{path-legs}
 use Rattle.line.specs.Bookings.{standsAfter, bookable}
 use Rattle.line.specs.BookingsLaws.{entry, bookable-used}
-use Rattle.line.specs.Writing.{thenFault, valueFault, numberFault, linesFault, timesFault, pathFault, headFault, bookingFault, bookingFaultWith, risingFault, trackFaultOf, trafficFaultOf}
+use Rattle.line.specs.Writing.{thenFault, valueFault, numberFault, linesFault, timesFault, pathFault, headFault, bookingFault, bookingFaultWith, risingFault, trackFaultOf, trafficFaultOf, bookedFault}
 
 -- ---- one check and then the next
 
@@ -40,6 +41,10 @@ found-later {r} {a} {b} e h g = g ∙ ap (λ (f : Fault). thenFault f b) (sym h 
 pub fault-by : {r : Fault} {b : Bounded} (l : Limits) (n p : ℕ) → r ≡ valueFault b p → b ≡ boundedOf (l .min) (l .max) n → r ≡ numberFault l n p
 unfolding numberFault
 fault-by l n p e h = e ∙ ap (λ (k : Bounded). valueFault k p) h
+
+-- a value in limits that a call gave
+pub limits-by : {r : Fault} {k : Limits} (l : Limits) (n p : ℕ) → r ≡ numberFault k n p → k ≡ l → r ≡ numberFault l n p
+limits-by l n p e h = e ∙ ap (λ (m : Limits). numberFault m n p) h
 
 -- a check of as many values as a call gave
 pub times-by : {r : Fault} {k n : ℕ} (xs : List ℕ) (l : Limits) (p : ℕ) → r ≡ timesFault (take k xs) l p → k ≡ n → r ≡ timesFault (take n xs) l p
@@ -101,6 +106,15 @@ module _ {m b : Bool} (p : ℕ) (f : Fault) (told : m ≡ b) where
 
   pub stands : {r : Fault} → not m ≡ false → r ≡ f → r ≡ pick (not b) (Fault.At 19 p) f
   stands h e = e ∙ ap (λ (x : Bool). pick x (Fault.At 19 p) f) (sym h ∙ ap not told)
+
+-- ---- whether train b of a list may stand after train a
+
+module _ (a b p : ℕ) (f : Fault) where
+  pub rises-not : b ≤ a → Fault.At 19 p ≡ pick (not (ltb a b)) (Fault.At 19 p) f
+  rises-not h = simp (le-ltb a b h)
+
+  pub rises : {r : Fault} → a < b → r ≡ f → r ≡ pick (not (ltb a b)) (Fault.At 19 p) f
+  rises h e = e ∙ (simp (lt-ltb a b h))
 
 -- ---- what has no fault
 
@@ -180,7 +194,7 @@ legs-fit n p t e g h l =
     let path = tells-head n p t .holds (sym e ∙ g) .0 in
     rw l (path-legs n (t .origin) (t .destination) h (path .0) (path .1 .0) (path .1 .1))
 
--- the counts of a track and of traffic that were checked and have no fault
+-- the counts of a track, of traffic and of bookings that were checked and have no fault
 counts-fit : {r : Fault} (l : Limits) (n p : ℕ) (later : Fault) → r ≡ thenFault (numberFault l n p) later → r ≡ Fault.None → In l n
 counts-fit l n p later e g =
     tells-then _ _ (tells-number l n p) (record { holds = λ (h : later ≡ Fault.None). h; clean = λ h. h }) .holds (sym e ∙ g) .0
@@ -192,3 +206,6 @@ stations-fit k e g = counts-fit stationCount _ _ _ e g
 pub trains-fit : {r : Fault} (n : ℕ) (t : Traffic) → r ≡ trafficFaultOf n t → r ≡ Fault.None → In trainCount (t .«train_count»)
 unfolding trafficFaultOf
 trains-fit n t e g = counts-fit trainCount _ _ _ e g
+
+pub bookings-fit : {r : Fault} (n : ℕ) (t : Traffic) (b : Booked) (p : ℕ) → r ≡ bookedFault n t b p → r ≡ Fault.None → In bookingCount (b .«booking_count»)
+bookings-fit n t b p e g = counts-fit bookingCount _ _ _ e g

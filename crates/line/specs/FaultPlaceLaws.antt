@@ -3,13 +3,13 @@
 use Prim.Native.Nat.{ℕ, suc, _+_, _-_, _<_, _≤_}
 use mathlib.Core.Path.{_≡_, refl, sym, ap, _∙_}
 use mathlib.Core.Logic.{_⊎_, inl, inr, ⊎-elim}
-use mathlib.Core.Bool.{Bool, true, false, not, _&&_}
+use mathlib.Core.Bool.{Bool, true, false, not, _&&_, and-false}
 use mathlib.Core.List.{List, [], _∷_, _++_, append-assoc}
 use native.Mathlib.Decide.{decLe}
 use native.Mathlib.Omega.{arith}
 use borrow.Author.Tests.{ne-eqb}
-use lib.Dec.{eqb}
-use lib.ListN.{length, getD, drop}
+use lib.Dec.{eqb, ltb}
+use lib.ListN.{length, getD, take, drop}
 use lib.Seq.{length-take-le}
 use Rattle.text.specs.declared.Bounded.{Bounded}
 use Rattle.text.specs.declared.Limits.{Limits}
@@ -17,23 +17,25 @@ use Rattle.text.specs.Reading.Choice.{pick, onBounded}
 use Rattle.text.specs.Reading.Limits.{boundedOf}
 use Rattle.text.specs.Writing.Digits.{digits, fieldText}
 use Rattle.text.specs.Elements.EachThen.{eachThen}
-use Rattle.text.specs.Sections.Chained.{optionalText}
+use Rattle.text.specs.Sections.Chained.{nothing, optionalText}
+use Rattle.text.specs.Sections.ChainedLaws.{optional-nothing}
 use Rattle.text.specs.Places.Lines.{feeds}
 use Rattle.text.specs.Places.FeedsLaws.{feeds-append, feeds-digits, feeds-each, Begins, each-begins}
 use Rattle.line.specs.declared.Kind.{Kind}
 use Rattle.line.specs.declared.Segment.{Segment}
 use Rattle.line.specs.declared.Train.{Train}
 use Rattle.line.specs.declared.Booking.{Booking}
+use Rattle.line.specs.declared.Listed.{Listed}
 use Rattle.line.specs.declared.Line.{Line}
 use Rattle.line.specs.declared.writing.Fault.{Fault}
-use Rattle.line.specs.Ranges.{In, stationCount, tracks, gap, trainCount, trainNumber, bookingCount, station, time, weight, run, stop}
-use Rattle.line.specs.Record.{noSegment, noTrain, noBooking, tracksOf, segmentsOf, trainsOf, bookingsOf, runsOf, stopsOf}
+use Rattle.line.specs.Ranges.{In, stationCount, tracks, gap, trainCount, trainNumber, bookingCount, listCount, station, time, weight, run, stop}
+use Rattle.line.specs.Record.{noSegment, noTrain, noBooking, noListed, tracksOf, segmentsOf, trainsOf, bookingsOf, runsOf, stopsOf}
 use Rattle.line.specs.Bookings.{bookable}
 use Rattle.line.specs.Within.{Arrays}
-use Rattle.line.specs.Spell.{field, stationText, letterByte, segmentText, journeyText, trainText, bookingText, bookedText, unbooked, textOf}
-use Rattle.line.specs.SpellLaws.{station-then, segment-then, train-then, booking-then, each-then}
-use Rattle.line.specs.Writing.{thenFault, numberFault, linesFault, timesFault, trackFault, segmentFault, pathFault, headFault, trainFault, bookingFault, risingFault, trackFaultOf, trafficFaultOf, bookingsLine, bookedFaultOf, faultOf}
-use Rattle.line.specs.FaultLaws.{tells-number}
+use Rattle.line.specs.Spell.{field, stationText, letterByte, segmentText, journeyText, trainText, bookingText, listedText, arrayText, bookedText, unbooked, trainListText, unlisted, duesText, textOf}
+use Rattle.line.specs.SpellLaws.{station-then, segment-then, train-then, booking-then, listed-then, each-then, field-some}
+use Rattle.line.specs.Writing.{thenFault, numberFault, linesFault, timesFault, trackFault, segmentFault, pathFault, headFault, trainFault, bookingFault, listedFault, risingFault, countedFault, trackFaultOf, trafficFaultOf, bookingsLine, bookedFaultOf, listFault, duesLine, duesFaultOf, faultOf}
+use Rattle.line.specs.FaultLaws.{tells-number, stations-fit, trains-fit, bookings-fit}
 
 -- ---- each line has one line feed, its last byte
 
@@ -74,6 +76,9 @@ booking-feed b =
     ∙ feeds-digits (b .station) (32 ∷ field (b .minute) 10 [])
     ∙ feeds-digits (b .minute) (10 ∷ [])
 
+listed-feed : (x : Listed) → feeds (listedText x []) ≡ 1
+listed-feed x = feeds-digits (x .train) (32 ∷ field (x .minutes) 10 []) ∙ feeds-digits (x .minutes) (10 ∷ [])
+
 -- ---- the text of a line, section after section: what stands before each, and the lines in it
 
 -- a list of numbers, and a field after it
@@ -97,20 +102,31 @@ module _ {A : Type 0} (text : A → List ℕ → List ℕ) (parts : (x : A) (res
 begins-at : {s t : List ℕ} {part : List ℕ → List ℕ} {p q : ℕ} → s ≡ t → q ≡ p → Begins t part q → Begins s part p
 begins-at e same b = record { before = b .before; after = b .after; whole = e ∙ b .whole; line = sym same ∙ b .line }
 
+-- a section of the first k elements of an array, with `front` before it: its count on line p, and its lines from the next on
+module _ {A : Type 0} (text : A → List ℕ → List ℕ) (parts : (x : A) (rest : List ℕ) → text x rest ≡ text x [] ++ rest) (one : (x : A) → feeds (text x []) ≡ 1)
+    (k : ℕ) (xs : List A) (front later : List ℕ) {s : List ℕ} {p : ℕ} (whole : s ≡ front ++ arrayText text k xs later) (line : p ≡ 1 + feeds front) where
+  section-begins : Begins s (field k 10) p
+  section-begins = record { before = front; after = eachThen text (take k xs) later; whole = whole; line = line }
+
+  section-line-begins : (d : A) (i : ℕ) → i < length (take k xs) → Begins s (text (getD (take k xs) i d)) (p + 1 + i)
+  section-line-begins d i h =
+      begins-at (whole ∙ field-after front k (eachThen text (take k xs) later)) (omega (arith, field-feeds front k, line))
+      (each-begins text parts one (take k xs) i d (front ++ fieldText k 10) later h)
+
 module _ (l : Line) (arrays : Arrays l) (few : In stationCount (l .track .«station_count»)) where
   abbrev n : ℕ
   n = l .track .«station_count»
 
-  abbrev bookedPart : List ℕ
-  bookedPart = optionalText unbooked bookedText (l .booked) []
+  abbrev furtherPart : List ℕ
+  furtherPart = optionalText unbooked bookedText (l .booked) (duesText l)
 
-  abbrev trainLines : List ℕ
-  trainLines = eachThen trainText (trainsOf l) bookedPart
+  abbrev trainsPart : List ℕ
+  trainsPart = arrayText trainText (l .traffic .«train_count») (l .traffic .trains) furtherPart
 
   abbrev segmentLines : List ℕ
-  segmentLines = eachThen segmentText (segmentsOf l) (field (l .traffic .«train_count») 10 trainLines)
+  segmentLines = eachThen segmentText (segmentsOf l) trainsPart
 
-  -- what stands before the lines of stations, of segments, before the count of trains, before their lines, and before the bookings and their lines
+  -- what stands before the lines of stations, of segments, before the count of trains, before their lines, and before the bookings, their lines and the dues
   abbrev beforeStations : List ℕ
   beforeStations = [] ++ fieldText n 10
 
@@ -132,6 +148,9 @@ module _ (l : Line) (arrays : Arrays l) (few : In stationCount (l .track .«stat
   abbrev beforeBookings : List ℕ
   beforeBookings = beforeBooked ++ fieldText (l .booked .«booking_count») 10
 
+  abbrev beforeDues : List ℕ
+  beforeDues = beforeBookings ++ eachThen bookingText (bookingsOf l) []
+
   from-stations : textOf l ≡ beforeStations ++ eachThen stationText (tracksOf l) (field (n - 1) 10 segmentLines)
   unfolding textOf
   from-stations = field-after [] n _
@@ -139,7 +158,7 @@ module _ (l : Line) (arrays : Arrays l) (few : In stationCount (l .track .«stat
   from-segments : textOf l ≡ beforeSegments ++ segmentLines
   from-segments = from-stations ∙ lines-after stationText station-then station-feed beforeStations (tracksOf l) _ ∙ field-after beforeJoins (n - 1) _
 
-  from-count : textOf l ≡ beforeCount ++ field (l .traffic .«train_count») 10 trainLines
+  from-count : textOf l ≡ beforeCount ++ trainsPart
   from-count = from-segments ∙ lines-after segmentText segment-then segment-feed beforeSegments (segmentsOf l) _
 
   many-stations : length (tracksOf l) ≡ n
@@ -176,25 +195,24 @@ module _ (l : Line) (arrays : Arrays l) (few : In stationCount (l .track .«stat
 
   -- the count of trains on line n + n + 2
   count-begins : Begins (textOf l) (field (l .traffic .«train_count») 10) (n + n + 2)
-  count-begins = record { before = beforeCount; after = trainLines; whole = from-count; line = omega (arith, feeds-count) }
+  count-begins =
+      section-begins trainText train-then train-feed (l .traffic .«train_count») (l .traffic .trains) beforeCount furtherPart from-count (omega (arith, feeds-count))
 
   -- the trains from line n + n + 3 on
   train-begins : (i : ℕ) → i < length (trainsOf l) → Begins (textOf l) (trainText (getD (trainsOf l) i noTrain)) (n + n + 3 + i)
   train-begins i h =
-      begins-at (from-count ∙ field-after beforeCount (l .traffic .«train_count») trainLines) (omega (arith, field-feeds beforeCount (l .traffic .«train_count»), feeds-count))
-      (each-begins trainText train-then train-feed (trainsOf l) i noTrain beforeTrains bookedPart h)
+      begins-at refl (omega arith)
+      (section-line-begins trainText train-then train-feed (l .traffic .«train_count») (l .traffic .trains) beforeCount furtherPart {p = n + n + 2} from-count
+      (omega (arith, feeds-count)) noTrain i h)
 
-  -- of a line with trains in its limits and at least one booking
-  module _ (some : In trainCount (l .traffic .«train_count»)) (booked : 1 ≤ l .booked .«booking_count») where
-    booked-is : bookedPart ≡ bookedText (l .booked) []
+  -- of a line with trains in their limits, whose section of bookings is written: their count is on the line after the trains
+  module _ (some : In trainCount (l .traffic .«train_count»)) (written : unbooked (l .booked) && nothing (duesText l) ≡ false) where
+    from-booked : textOf l ≡ beforeBooked ++ bookedText (l .booked) (duesText l)
     unfolding optionalText
-    booked-is = ap (λ (e : Bool). pick (e && true) [] (bookedText (l .booked) [])) (ne-eqb (l .booked .«booking_count») 0 (omega arith))
-
-    from-booked : textOf l ≡ beforeBooked ++ bookedText (l .booked) []
     from-booked =
-        from-count ∙ field-after beforeCount (l .traffic .«train_count») trainLines
-        ∙ lines-after trainText train-then train-feed beforeTrains (trainsOf l) bookedPart
-        ∙ ap (λ (x : List ℕ). beforeBooked ++ x) booked-is
+        from-count ∙ field-after beforeCount (l .traffic .«train_count») (eachThen trainText (trainsOf l) furtherPart)
+        ∙ lines-after trainText train-then train-feed beforeTrains (trainsOf l) furtherPart
+        ∙ ap (λ (e : Bool). beforeBooked ++ pick e [] (bookedText (l .booked) (duesText l))) written
 
     feeds-booked : feeds beforeBooked ≡ n + n + 2 + l .traffic .«train_count»
     feeds-booked =
@@ -206,16 +224,21 @@ module _ (l : Line) (arrays : Arrays l) (few : In stationCount (l .track .«stat
           length-take-le (l .traffic .«train_count») (l .traffic .trains) (omega (arith, some .1, arrays .trains)),
         ))
 
-    -- the count of bookings on the line after the trains, and the bookings after that
-    booked-begins : Begins (textOf l) (field (l .booked .«booking_count») 10) (bookingsLine l)
-    booked-begins =
-        record { before = beforeBooked; after = eachThen bookingText (bookingsOf l) []; whole = from-booked; line = omega (arith, feeds-booked) }
+    -- and the dues, of a line with bookings in their limits, after the bookings
+    from-dues : textOf l ≡ beforeDues ++ duesText l
+    from-dues =
+        from-booked ∙ field-after beforeBooked (l .booked .«booking_count») (eachThen bookingText (bookingsOf l) (duesText l))
+        ∙ lines-after bookingText booking-then booking-feed beforeBookings (bookingsOf l) (duesText l)
 
-    booking-begins : (i : ℕ) → i < length (bookingsOf l) → Begins (textOf l) (bookingText (getD (bookingsOf l) i noBooking)) (bookingsLine l + 1 + i)
-    booking-begins i h =
-        begins-at (from-booked ∙ field-after beforeBooked (l .booked .«booking_count») (eachThen bookingText (bookingsOf l) []))
-        (omega (arith, field-feeds beforeBooked (l .booked .«booking_count»), feeds-booked))
-        (each-begins bookingText booking-then booking-feed (bookingsOf l) i noBooking beforeBookings [] h)
+    feeds-dues : In bookingCount (l .booked .«booking_count») → feeds beforeDues ≡ bookingsLine l + l .booked .«booking_count»
+    feeds-dues most =
+        lines-feeds bookingText booking-then booking-feed beforeBookings (bookingsOf l)
+        ∙ (omega (
+          arith,
+          field-feeds beforeBooked (l .booked .«booking_count»),
+          feeds-booked,
+          length-take-le (l .booked .«booking_count») (l .booked .bookings) (omega (arith, most .1, arrays .bookings)),
+        ))
 
 -- ---- the line that a fault names
 
@@ -241,6 +264,11 @@ only-number r x p = go (boundedOf (r .min) (r .max) x)
     go (Bounded.Within v) = only-none p
     go Bounded.Outside = only-at 3 p
 
+-- a test before what follows it
+only-test : (n p : ℕ) (b : Bool) (f : Fault) → OnlyOn p f → OnlyOn p (pick b (Fault.At n p) f)
+only-test n p true f h = only-at n p
+only-test n p false f h = h
+
 only-times : (xs : List ℕ) (r : Limits) (p : ℕ) → OnlyOn p (timesFault xs r p)
 unfolding timesFault
 only-times [] r p = only-none p
@@ -252,11 +280,7 @@ only-segment p g = only-then p _ _ (only-number gap (g .following) p) (only-numb
 
 only-path : (k p o d : ℕ) → OnlyOn p (pathFault k p o d)
 unfolding pathFault
-only-path k p o d = only-then p _ _ (only-number (station k) o p) (only-then p _ _ (only-number (station k) d p) (go (eqb d o)))
-  where
-    go : (b : Bool) → OnlyOn p (pick b (Fault.At 4 p) Fault.None)
-    go true = only-at 4 p
-    go false = only-none p
+only-path k p o d = only-then p _ _ (only-number (station k) o p) (only-then p _ _ (only-number (station k) d p) (only-test 4 p (eqb d o) _ (only-none p)))
 
 only-train : (k p : ℕ) (t : Train) → OnlyOn p (trainFault k p t)
 unfolding trainFault headFault
@@ -269,11 +293,14 @@ only-booking : (k : ℕ) (trains : List Train) (before : Booking) (p : ℕ) (b :
 unfolding bookingFault
 only-booking k trains before p b =
     only-then p _ _ (only-number (trainNumber (length trains)) (b .train) p)
-    (only-then p _ _ (only-number (station k) (b .station) p) (go (not (bookable trains before (b .train) (b .station)))))
-  where
-    go : (c : Bool) → OnlyOn p (pick c (Fault.At 19 p) (numberFault time (b .minute) p))
-    go true = only-at 19 p
-    go false = only-number time (b .minute) p
+    (only-then p _ _ (only-number (station k) (b .station) p)
+    (only-test 19 p (not (bookable trains before (b .train) (b .station))) _ (only-number time (b .minute) p)))
+
+only-listed : (k : ℕ) (r : Limits) (before : Listed) (p : ℕ) (x : Listed) → OnlyOn p (listedFault k r before p x)
+unfolding listedFault
+only-listed k r before p x =
+    only-then p _ _ (only-number (trainNumber k) (x .train) p)
+    (only-test 19 p (not (ltb (before .train) (x .train))) _ (only-number r (x .minutes) p))
 
 -- ---- what is at fault begins on the line that the fault names
 
@@ -282,10 +309,6 @@ pub record Faulty {A : Type 0} (s : List ℕ) (text : A → List ℕ → List �
   pub x : A
   pub fault : check p x ≡ Fault.At m p
   pub begins : Begins s (text x) p
-
-none-first : (a b : Fault) → thenFault a b ≡ Fault.None → a ≡ Fault.None
-none-first Fault.None b e = refl
-none-first (Fault.At n q) b e = e
 
 either : (a b : Fault) (m p : ℕ) → thenFault a b ≡ Fault.At m p → (a ≡ Fault.At m p) ⊎ ((a ≡ Fault.None) × (b ≡ Fault.At m p))
 either Fault.None b m p e = inr (refl, e)
@@ -308,24 +331,6 @@ module _ {A : Type 0} (s : List ℕ) (text : A → List ℕ → List ℕ) (check
       (λ h. lines-faulty xs d (q + 1) m p (λ i g. begins-at refl (omega arith) (b (suc i) (omega arith))) (h .1))
       (either (check q x) _ m p e)
 
--- of lines in a row, each checked after the one before it, that one and the one at fault
-module _ {A : Type 0} (s : List ℕ) (text : A → List ℕ → List ℕ) (check : A → ℕ → A → Fault) (only : (before : A) (p : ℕ) (x : A) → OnlyOn p (check before p x)) where
-  abbrev second : A × A → List ℕ → List ℕ
-  second x rest = text (x .1) rest
-
-  abbrev checked : ℕ → A × A → Fault
-  checked p x = check (x .0) p (x .1)
-
-  rising-faulty : (xs : List A) (before d : A) (q m p : ℕ) → ((i : ℕ) → i < length xs → Begins s (text (getD xs i d)) (q + i)) →
-      risingFault xs check before q ≡ Fault.At m p → Faulty s second checked m p
-  unfolding risingFault
-  rising-faulty [] before d q m p b e = let z : _≡_ {A = ℕ} 0 1 = cc in absurd (omega arith)
-  rising-faulty (x ∷ xs) before d q m p b e =
-      ⊎-elim
-      (λ h. one-faulty s second checked (λ k y. only (y .0) k (y .1)) (before, x) q m p (begins-at refl (omega arith) (b 0 (omega arith))) h)
-      (λ h. rising-faulty xs x d (q + 1) m p (λ i g. begins-at refl (omega arith) (b (suc i) (omega arith))) (h .1))
-      (either (check before q x) _ m p e)
-
 -- a count, which is checked on its line
 abbrev countFault : Limits → ℕ → ℕ → Fault
 countFault r p n = numberFault r n p
@@ -333,13 +338,52 @@ countFault r p n = numberFault r n p
 abbrev countText : ℕ → List ℕ → List ℕ
 countText n rest = field n 10 rest
 
--- a booking, after the one before it, is at fault
-abbrev pub BookingFaulty : Line → ℕ → ℕ → Type 0
-BookingFaulty l m p =
-    Faulty {A = Booking × Booking} (textOf l) (λ x rest. bookingText (x .1) rest) (λ q x. bookingFault (l .track .«station_count») (trainsOf l) (x .0) q (x .1)) m p
+-- a line that is checked after the one before it, with that one
+abbrev lineText : {A : Type 0} → (A → List ℕ → List ℕ) → A × A → List ℕ → List ℕ
+lineText text x rest = text (x .1) rest
+
+abbrev lineFault : {A : Type 0} → (A → ℕ → A → Fault) → ℕ → A × A → Fault
+lineFault check p x = check (x .0) p (x .1)
+
+-- of a section of such lines, the count in the range r is at fault, or one of them
+abbrev pub SectionFaulty : {A : Type 0} → List ℕ → (A → List ℕ → List ℕ) → Limits → (A → ℕ → A → Fault) → ℕ → ℕ → Type 0
+SectionFaulty s text r check m p = Faulty s countText (countFault r) m p ⊎ Faulty s (lineText text) (lineFault check) m p
+
+module _ {A : Type 0} (s : List ℕ) (text : A → List ℕ → List ℕ) (check : A → ℕ → A → Fault) (only : (before : A) (p : ℕ) (x : A) → OnlyOn p (check before p x)) where
+  rising-faulty : (xs : List A) (before d : A) (q m p : ℕ) → ((i : ℕ) → i < length xs → Begins s (text (getD xs i d)) (q + i)) →
+      risingFault xs check before q ≡ Fault.At m p → Faulty s (lineText text) (lineFault check) m p
+  unfolding risingFault
+  rising-faulty [] before d q m p b e = let z : _≡_ {A = ℕ} 0 1 = cc in absurd (omega arith)
+  rising-faulty (x ∷ xs) before d q m p b e =
+      ⊎-elim
+      (λ h. one-faulty s (lineText text) (lineFault check) (λ k y. only (y .0) k (y .1)) (before, x) q m p (begins-at refl (omega arith) (b 0 (omega arith))) h)
+      (λ h. rising-faulty xs x d (q + 1) m p (λ i g. begins-at refl (omega arith) (b (suc i) (omega arith))) (h .1))
+      (either (check before q x) _ m p e)
+
+  -- of a section of the first k elements of an array, with `front` before it
+  module _ (r : Limits) (k : ℕ) (xs : List A) (none : A) (q m p : ℕ) (e : countedFault r k (take k xs) check none q ≡ Fault.At m p) where
+    section-faulty : ((x : A) (rest : List ℕ) → text x rest ≡ text x [] ++ rest) → ((x : A) → feeds (text x []) ≡ 1) → (front later : List ℕ) →
+        s ≡ front ++ arrayText text k xs later → q ≡ 1 + feeds front → SectionFaulty s text r check m p
+    section-faulty parts one front later whole line =
+        ⊎-elim
+        (λ h. inl (one-faulty s countText (countFault r) (λ j x. only-number r x j) k q m p (section-begins text parts one k xs front later whole line) h))
+        (λ h. inr (rising-faulty (take k xs) none none (q + 1) m p (section-line-begins text parts one k xs front later whole line none) (h .1)))
+        (either _ _ m p e)
+
+    -- where the count may be 0, there are some
+    section-some : r .min ≡ 0 → 1 ≤ k
+    unfolding risingFault
+    section-some low = elim (decLe 1 k) [
+      | yes h ↦ h
+      | no h ↦ (
+          let empty : k ≡ 0 = omega arith in
+          let z : Fault.None ≡ Fault.At m p = sym (rw (empty, tells-number r 0 q .clean (omega arith, omega arith)) refl) ∙ e in
+          let y : _≡_ {A = ℕ} 0 1 = cc in
+          absurd (omega arith))
+    ]
 
 -- "the line its field would have": a fault of a record is that of its count of stations, a station, a segment, its count of trains, a train, its count of
--- bookings or a booking, whose text begins on the line that the fault names, in the text of the record
+-- bookings, a booking, its count of dues or a due, whose text begins on the line that the fault names, in the text of the record
 abbrev pub FaultBegins : Line → ℕ → ℕ → Type 0
 FaultBegins l m p =
     (Faulty (textOf l) countText (countFault stationCount) m p
@@ -347,17 +391,8 @@ FaultBegins l m p =
     ⊎ Faulty (textOf l) segmentText segmentFault m p))
     ⊎ ((Faulty (textOf l) countText (countFault trainCount) m p
     ⊎ Faulty (textOf l) trainText (trainFault (l .track .«station_count»)) m p)
-    ⊎ (Faulty (textOf l) countText (countFault bookingCount) m p
-    ⊎ BookingFaulty l m p))
-
--- a part without a fault has its count in its range
-clean-track : (l : Line) → trackFaultOf (l .track) ≡ Fault.None → In stationCount (l .track .«station_count»)
-unfolding trackFaultOf
-clean-track l e = tells-number stationCount (l .track .«station_count») 1 .holds (none-first _ _ e)
-
-clean-traffic : (l : Line) → trafficFaultOf (l .track .«station_count») (l .traffic) ≡ Fault.None → In trainCount (l .traffic .«train_count»)
-unfolding trafficFaultOf
-clean-traffic l e = tells-number trainCount (l .traffic .«train_count») _ .holds (none-first _ _ e)
+    ⊎ (SectionFaulty (textOf l) bookingText bookingCount (bookingFault (l .track .«station_count») (trainsOf l)) m p
+    ⊎ SectionFaulty (textOf l) listedText (listCount (l .traffic .«train_count»)) (listedFault (l .traffic .«train_count») time) m p))
 
 module _ (l : Line) (arrays : Arrays l) (m p : ℕ) where
   first-begins : Begins (textOf l) (countText (l .track .«station_count»)) 1
@@ -391,37 +426,56 @@ module _ (l : Line) (arrays : Arrays l) (m p : ℕ) where
         (either _ _ m p e)
 
     module _ (some : In trainCount (l .traffic .«train_count»)) where
-      -- where there is a fault of bookings, there are some
-      booked-some : bookedFaultOf l ≡ Fault.At m p → 1 ≤ l .booked .«booking_count»
-      unfolding bookedFaultOf risingFault
-      booked-some e = elim (decLe 1 (l .booked .«booking_count»)) [
-        | yes h ↦ h
-        | no h ↦ (
-            let none : l .booked .«booking_count» ≡ 0 = omega arith in
-            let z : Fault.None ≡ Fault.At m p = sym (rw (none, tells-number bookingCount 0 (bookingsLine l) .clean (omega arith, omega arith)) refl) ∙ e in
-            let y : _≡_ {A = ℕ} 0 1 = cc in
-            absurd (omega arith))
-      ]
-
+      -- where bookings are at fault there are some, so their section is written
       booked-faulty : bookedFaultOf l ≡ Fault.At m p →
-          Faulty (textOf l) countText (countFault bookingCount) m p
-          ⊎ BookingFaulty l m p
+          SectionFaulty (textOf l) bookingText bookingCount (bookingFault (l .track .«station_count») (trainsOf l)) m p
       unfolding bookedFaultOf
       booked-faulty e =
-          let booked = booked-some e in
-          ⊎-elim
-          (λ h. inl (one-faulty (textOf l) countText (countFault bookingCount) (λ q x. only-number bookingCount x q) (l .booked .«booking_count») _ m p
-          (booked-begins l arrays few some booked) h))
-          (λ h. inr (rising-faulty (textOf l) bookingText (bookingFault (l .track .«station_count») (trainsOf l)) (only-booking (l .track .«station_count») (trainsOf l)) (bookingsOf l) noBooking noBooking _ m p
-          (booking-begins l arrays few some booked) (h .1)))
-          (either _ _ m p e)
+          let count = l .booked .«booking_count» in
+          let check = bookingFault (l .track .«station_count») (trainsOf l) in
+          let only = only-booking (l .track .«station_count») (trainsOf l) in
+          let booked = section-some (textOf l) bookingText check only bookingCount count (l .booked .bookings) noBooking (bookingsLine l) m p e refl in
+          let written : unbooked (l .booked) && nothing (duesText l) ≡ false =
+          ap (λ (b : Bool). b && nothing (duesText l)) (ne-eqb count 0 (omega arith)) in
+          section-faulty (textOf l) bookingText check only bookingCount count (l .booked .bookings) noBooking (bookingsLine l) m p e
+          booking-then booking-feed (beforeBooked l arrays few) (duesText l)
+          (from-booked l arrays few some written) (omega (arith, feeds-booked l arrays few some written))
+
+      -- where dues are at fault there are some, so both sections are written
+      dues-faulty : In bookingCount (l .booked .«booking_count») → duesFaultOf l ≡ Fault.At m p →
+          SectionFaulty (textOf l) listedText (listCount (l .traffic .«train_count»)) (listedFault (l .traffic .«train_count») time) m p
+      unfolding listFault optionalText
+      dues-faulty most e =
+          let count = l .dues .count in
+          let range = listCount (l .traffic .«train_count») in
+          let check = listedFault (l .traffic .«train_count») time in
+          let only = only-listed (l .traffic .«train_count») time in
+          let due = section-some (textOf l) listedText check only range count (l .dues .listed) noListed (duesLine l) m p e refl in
+          let listed : unlisted (l .dues) ≡ false = ne-eqb count 0 (omega arith) in
+          let dues : duesText l ≡ trainListText (l .dues) [] = ap (λ (b : Bool). pick (b && true) [] (trainListText (l .dues) [])) listed in
+          let written : unbooked (l .booked) && nothing (duesText l) ≡ false =
+          ap (λ (b : Bool). unbooked (l .booked) && b)
+          (optional-nothing unlisted trainListText (l .dues) [] (field-some count 10 _) ∙ ap (λ (b : Bool). b && true) listed)
+          ∙ and-false (unbooked (l .booked)) in
+          section-faulty (textOf l) listedText check only range count (l .dues .listed) noListed (duesLine l) m p e
+          listed-then listed-feed (beforeDues l arrays few) []
+          (from-dues l arrays few some written ∙ ap (λ (x : List ℕ). beforeDues l arrays few ++ x) dues)
+          (omega (arith, feeds-dues l arrays few some written most))
 
   pub fault-begins : faultOf l ≡ Fault.At m p → FaultBegins l m p
-  unfolding faultOf
+  unfolding faultOf bookedFaultOf
   fault-begins e =
       ⊎-elim
       (λ h. inl (track-faulty h))
       (λ h.
-      let few = clean-track l (h .0) in
-      inr (⊎-elim (λ f. inl (traffic-faulty few f)) (λ f. inr (booked-faulty few (clean-traffic l (f .0)) (f .1))) (either _ _ m p (h .1))))
+      let few = stations-fit (l .track) refl (h .0) in
+      inr (⊎-elim
+      (λ f. inl (traffic-faulty few f))
+      (λ f.
+      let some = trains-fit (l .track .«station_count») (l .traffic) refl (f .0) in
+      inr (⊎-elim
+      (λ g. inl (booked-faulty few some g))
+      (λ g. inr (dues-faulty few some (bookings-fit (l .track .«station_count») (l .traffic) (l .booked) (bookingsLine l) refl (g .0)) (g .1)))
+      (either _ _ m p (f .1))))
+      (either _ _ m p (h .1))))
       (either _ _ m p e)

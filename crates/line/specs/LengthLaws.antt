@@ -3,24 +3,29 @@
 use Prim.Native.Nat.{ℕ, zero, suc, _+_, _-_, _*_, _≤_, _<_}
 use mathlib.Core.List.{List, [], _∷_}
 use native.Mathlib.Omega.{arith}
-use native.Mathlib.Nat.{suc-mul}
+use native.Mathlib.Nat.{suc-mul, mul-le-mul}
 use lib.ListN.{length, getD, take, drop, length-append, length-take}
+use Rattle.text.specs.declared.Cursor.{Cursor}
+use Rattle.text.specs.declared.Limits.{Limits}
+use Rattle.text.specs.Reading.Parsed.{Parsed}
 use Rattle.text.specs.Writing.Digits.{digits}
 use Rattle.text.specs.Writing.DigitsLaws.{digits-length}
 use Rattle.text.specs.Elements.EachThen.{eachThen}
-use Rattle.text.specs.Sections.Chained.{optionalText}
+use Rattle.text.specs.Sections.Chained.{EachAfter, optionalText}
 use Rattle.text.specs.Sections.ChainedLaws.{chain-length, optional-length}
 use Rattle.finite.specs.Each.{Each}
 use Rattle.line.specs.declared.Segment.{Segment}
 use Rattle.line.specs.declared.Train.{Train}
 use Rattle.line.specs.declared.Booking.{Booking}
+use Rattle.line.specs.declared.Listed.{Listed}
+use Rattle.line.specs.declared.TrainList.{TrainList}
 use Rattle.line.specs.declared.Line.{Line}
-use Rattle.line.specs.Ranges.{In, tracks, run, stop}
-use Rattle.line.specs.Record.{noBooking, trainsOf, bookingsOf, runsOf, stopsOf, legsOf}
-use Rattle.line.specs.File.{bookingLine}
-use Rattle.line.specs.Spell.{field, stationText, segmentText, journeyText, trainText, bookingText, bookedText, unbooked, textOf}
+use Rattle.line.specs.Ranges.{In, tracks, listCount, time, run, stop}
+use Rattle.line.specs.Record.{noBooking, noListed, trainsOf, bookingsOf, listedIn, runsOf, stopsOf, legsOf}
+use Rattle.line.specs.File.{bookingLine, listedLine}
+use Rattle.line.specs.Spell.{field, stationText, segmentText, journeyText, trainText, bookingText, listedText, bookedText, unbooked, trainListText, unlisted, duesText, textOf}
 use Rattle.line.specs.RecordLaws.{train-path}
-use Rattle.line.specs.Within.{SegmentWithin, TrainWithin, BookingWithin, Within}
+use Rattle.line.specs.Within.{SegmentWithin, TrainWithin, BookingWithin, ListedWithin, Within}
 
 -- ---- each part, where at most m bytes follow it
 
@@ -96,31 +101,65 @@ booking-length n few trains some before b rest w =
     field-length (b .minute) 10 _ rest (omega (arith, w .minute)) (omega arith))) in
     omega arith
 
--- the section of bookings has at most 1,324 bytes
-booked-length : (l : Line) → Within l → length (optionalText unbooked bookedText (l .booked) []) ≤ 1324
-booked-length l w =
-    let n = l .track .«station_count» in
-    let few : length (bookingsOf l) ≤ 120 = omega (arith, length-take (l .booked .«booking_count») (l .booked .bookings), w .bookings .1) in
-    let some : length (trainsOf l) ≤ 12 = omega (arith, length-take (l .traffic .«train_count») (l .traffic .trains), w .trains .1) in
-    let each : length (eachThen bookingText (bookingsOf l) []) ≤ length (bookingsOf l) * 11 + 0 =
-    chain-length (λ before b. b) (bookingLine n (trainsOf l)) (BookingWithin n (trainsOf l)) bookingText [] 11
-    (λ before b rest v. booking-length n (w .stations .1) (trainsOf l) some before b rest v) (bookingsOf l) noBooking [] (w .each-booking) in
-    let size : length (bookedText (l .booked) []) ≤ 1320 + 4 =
-    field-middle (l .booked .«booking_count») 10 1320 _ (omega (arith, w .bookings .1)) (omega (arith, each, few)) in
-    optional-length unbooked bookedText (l .booked) [] 1324 (omega arith)
+listed-length : (t : ℕ) → t ≤ 12 → (r : Limits) → r .max < 10000 → (before x : Listed) (rest : List ℕ) → ListedWithin t r before x →
+    length (listedText x rest) ≤ 8 + length rest
+listed-length t few r short before x rest w =
+    let size : length (listedText x rest) ≤ length rest + 5 + 3 =
+    field-short (x .train) 32 _ _ (omega (arith, w .train, few)) (
+    field-length (x .minutes) 10 _ rest (omega (arith, w .minutes, short)) (omega arith)) in
+    omega arith
 
--- the text of a line within the limits has at most 2,693 bytes
-pub text-length : (l : Line) → Within l → length (textOf l) ≤ 2693
+-- ---- the sections past the third
+
+-- a part of at most k bytes for each of the first n elements, where n is at most `most`
+rising-length : {A : Type 0} (line : A → List ℕ → Cursor → Parsed A) (P : A → A → Type 0) (text : A → List ℕ → List ℕ) (k : ℕ) →
+    ((before x : A) (rest : List ℕ) → P before x → length (text x rest) ≤ k + length rest) → (n most : ℕ) (xs : List A) (none : A) (rest : List ℕ) → n ≤ most →
+    EachAfter (λ before x. x) P none (take n xs) → length (eachThen text (take n xs) rest) ≤ most * k + length rest
+rising-length line P text k short n most xs none rest few each =
+    let many : length (take n xs) * k ≤ most * k = mul-le-mul {n₂ = most} {m₂ = k} (omega (arith, length-take n xs)) (omega arith) in
+    omega (arith, many, chain-length (λ before x. x) line P text [] k short (take n xs) none rest each)
+
+-- a list of trains takes at most 99 bytes
+list-length : (t : ℕ) → t ≤ 12 → (r : Limits) → r .max < 10000 → (x : TrainList) (later : List ℕ) → In (listCount t) (x .count) →
+    EachAfter (λ before y. y) (ListedWithin t r) noListed (listedIn x) → length (optionalText unlisted trainListText x later) ≤ 99 + length later
+list-length t few r short x later count each =
+    let lines : length (eachThen listedText (listedIn x) later) ≤ 12 * 8 + length later =
+    rising-length (listedLine t r) (ListedWithin t r) listedText 8 (listed-length t few r short) (x .count) 12 (x .listed) noListed later (omega (arith, count .1, few)) each in
+    let size : length (trainListText x later) ≤ 96 + length later + 3 = field-short (x .count) 10 _ _ (omega (arith, count .1, few)) (omega (arith, lines)) in
+    optional-length unlisted trainListText x later 99 (omega arith)
+
+-- the bookings at most 1,324
+booked-length : (l : Line) → Within l → (later : List ℕ) → length (optionalText unbooked bookedText (l .booked) later) ≤ 1324 + length later
+booked-length l w later =
+    let n = l .track .«station_count» in
+    let some : length (trainsOf l) ≤ 12 = omega (arith, length-take (l .traffic .«train_count») (l .traffic .trains), w .trains .1) in
+    let lines : length (eachThen bookingText (bookingsOf l) later) ≤ 120 * 11 + length later =
+    rising-length (bookingLine n (trainsOf l)) (BookingWithin n (trainsOf l)) bookingText 11 (booking-length n (w .stations .1) (trainsOf l) some)
+    (l .booked .«booking_count») 120 (l .booked .bookings) noBooking later (w .bookings .1) (w .each-booking) in
+    let size : length (bookedText (l .booked) later) ≤ 1320 + length later + 4 =
+    field-middle (l .booked .«booking_count») 10 _ _ (omega (arith, w .bookings .1)) (omega (arith, lines)) in
+    optional-length unbooked bookedText (l .booked) later 1324 (omega arith)
+
+further-length : (l : Line) → Within l → length (optionalText unbooked bookedText (l .booked) (duesText l)) ≤ 1423
+further-length l w =
+    omega (
+      arith,
+      booked-length l w (duesText l),
+      list-length (l .traffic .«train_count») (w .trains .1) time (omega arith) (l .dues) [] (w .dues) (w .each-due),
+    )
+
+-- the text of a line within the limits has at most 2,792 bytes
+pub text-length : (l : Line) → Within l → length (textOf l) ≤ 2792
 unfolding textOf
 text-length l w =
     let n = l .track .«station_count» in
-    let size : length (textOf l) ≤ 1324 + l .traffic .«train_count» * 103 + 3 + (n - 1) * 8 + 3 + n * 3 + 3 =
+    let size : length (textOf l) ≤ 1423 + l .traffic .«train_count» * 103 + 3 + (n - 1) * 8 + 3 + n * 3 + 3 =
     field-short n 10 _ _ (omega (arith, w .stations)) (
     each-length (In tracks) stationText 3 station-length n (l .track .tracks) (w .tracks) _ _ (
     field-short (n - 1) 10 _ _ (omega (arith, w .stations)) (
     each-length SegmentWithin segmentText 8 segment-length (n - 1) (l .track .segments) (w .segments) _ _ (
     field-short (l .traffic .«train_count») 10 _ _ (omega (arith, w .trains)) (
-    each-length (TrainWithin n) trainText 103 (train-length n (w .stations .1)) (l .traffic .«train_count») (l .traffic .trains) (w .each-train) 1324 _ (booked-length l w)
+    each-length (TrainWithin n) trainText 103 (train-length n (w .stations .1)) (l .traffic .«train_count») (l .traffic .trains) (w .each-train) 1423 _ (further-length l w)
     ))))) in
     omega (arith, w .stations, w .trains)
 

@@ -1,24 +1,28 @@
 -- The texts of a line in parts: each part is its own text and then what follows it, so that parts written one after the other are the whole.
 use Prim.Native.Nat.{ℕ, suc, _+_, _-_, _≤_, _<_}
 use mathlib.Core.Path.{_≡_, refl, sym, ap, _∙_}
+use mathlib.Core.Bool.{Bool, true, false, _&&_, and-true}
 use mathlib.Core.List.{List, [], _∷_, _++_, append-assoc, append-nil}
 use native.Mathlib.Omega.{arith}
-use borrow.Author.Tests.{eq-eqb, ne-eqb}
 use lib.ListN.{length, getD, take, drop, length-append}
 use lib.Seq.{drop-drop, getD-take, getD-drop, length-take-le}
+use Rattle.text.specs.Reading.Choice.{pick}
 use Rattle.text.specs.Writing.Digits.{digits, fieldText}
 use Rattle.text.specs.Elements.EachThen.{eachThen}
 use Rattle.text.specs.Elements.LeftLaws.{left-cons, left-none}
-use Rattle.text.specs.Sections.Chained.{optionalText}
+use Rattle.text.specs.Sections.Chained.{nothing, optionalText}
+use Rattle.text.specs.Sections.ChainedLaws.{optional-parts, optional-nothing}
 use Rattle.text.specs.Writing.Splice.{Put}
 use Rattle.text.specs.Writing.SpliceLaws.{Putting, putting-step, putting-room, putting-end}
 use Rattle.line.specs.declared.Segment.{Segment}
 use Rattle.line.specs.declared.Train.{Train}
 use Rattle.line.specs.declared.Booking.{Booking}
 use Rattle.line.specs.declared.Booked.{Booked}
+use Rattle.line.specs.declared.Listed.{Listed}
+use Rattle.line.specs.declared.TrainList.{TrainList}
 use Rattle.line.specs.declared.Line.{Line}
 use Rattle.line.specs.Record.{tracksOf, segmentsOf, trainsOf, stopsOf, runsOf}
-use Rattle.line.specs.Spell.{stationText, letterByte, segmentText, journeyText, headText, trainText, bookingText, bookedText, unbooked, textOf}
+use Rattle.line.specs.Spell.{field, stationText, letterByte, segmentText, journeyText, headText, trainText, bookingText, listedText, arrayText, bookedText, unbooked, trainListText, unlisted, duesText, textOf}
 
 -- ---- each part, and then what follows it
 
@@ -42,6 +46,9 @@ train-then t rest =
 
 pub booking-then : (b : Booking) (rest : List ℕ) → bookingText b rest ≡ bookingText b [] ++ rest
 booking-then b rest = simp append-assoc
+
+pub listed-then : (x : Listed) (rest : List ℕ) → listedText x rest ≡ listedText x [] ++ rest
+listed-then x rest = simp append-assoc
 
 module _ {A : Type 0} (text : A → List ℕ → List ℕ) (parts : (x : A) (rest : List ℕ) → text x rest ≡ text x [] ++ rest) where
   pub each-then : (xs : List A) (rest : List ℕ) → eachThen text xs rest ≡ eachThen text xs [] ++ rest
@@ -152,22 +159,53 @@ module _ (b : Booking) where
   pub booking-size : length (bookingText b []) ≡ length (fieldText (b .train) 32) + (length (fieldText (b .station) 32) + length (fieldText (b .minute) 10))
   booking-size = ap length booking-parts ∙ (rw (length-append (fieldText (b .train) 32), length-append (fieldText (b .station) 32)) refl)
 
-module _ (b : Booked) where
-  -- nothing is written where there are no bookings
-  pub unbooked-put : (entry : List ℕ) (start : ℕ) → b .«booking_count» ≡ 0 → Put entry entry start (optionalText unbooked bookedText b []) start
+module _ (x : Listed) where
+  pub listed-parts : listedText x [] ≡ fieldText (x .train) 32 ++ fieldText (x .minutes) 10
+  listed-parts = simp append-assoc
+
+  pub listed-size : length (listedText x []) ≡ length (fieldText (x .train) 32) + length (fieldText (x .minutes) 10)
+  listed-size = ap length listed-parts ∙ length-append (fieldText (x .train) 32) (fieldText (x .minutes) 10)
+
+-- ---- a section of the first n elements of an array, which is left off or written
+
+pub field-some : (n b : ℕ) (rest : List ℕ) → field n b rest ≡ [] → ⊥
+field-some n b rest e = omega (arith, ap length e, length-append (digits n) (b ∷ rest))
+
+module _ {A : Type 0} (text : A → List ℕ → List ℕ) (n : ℕ) (xs : List A) where
+  pub section-then : ((x : A) (rest : List ℕ) → text x rest ≡ text x [] ++ rest) → (rest : List ℕ) → arrayText text n xs rest ≡ arrayText text n xs [] ++ rest
+  section-then parts rest = ap (λ (l : List ℕ). digits n ++ (10 ∷ l)) (each-then text parts (take n xs) rest) ∙ (simp append-assoc)
+
+  abbrev lines-part : List ℕ
+  lines-part = eachThen text (take n xs) []
+
+  module _ {off : Bool} where
+    pub section-off : (entry : List ℕ) (start : ℕ) → off ≡ true → Put entry entry start (pick off [] (arrayText text n xs [])) start
+    section-off entry start e = rw e (record { bytes = refl; next = omega arith })
+
+    pub section-parts : off ≡ false → pick off [] (arrayText text n xs []) ≡ fieldText n 10 ++ lines-part
+    section-parts e = rw e (simp append-assoc)
+
+    pub section-size : off ≡ false → length (pick off [] (arrayText text n xs [])) ≡ length (fieldText n 10) + length lines-part
+    section-size e = ap length (section-parts e) ∙ length-append (fieldText n 10) lines-part
+
+-- the sections past the third
+module _ (b : Booked) (dues : TrainList) where
+  abbrev booked-part : List ℕ
+  booked-part = pick (unbooked b && unlisted dues) [] (bookedText b [])
+
+  abbrev dues-part : List ℕ
+  dues-part = pick (unlisted dues && true) [] (trainListText dues [])
+
+  pub further-parts : optionalText unbooked bookedText b (optionalText unlisted trainListText dues []) ≡ booked-part ++ dues-part
   unfolding optionalText
-  unbooked-put entry start none = rw (eq-eqb (b .«booking_count») 0 none) (record { bytes = refl; next = omega arith })
+  further-parts =
+      let later = optionalText unlisted trainListText dues [] in
+      let none : nothing later ≡ unlisted dues = optional-nothing unlisted trainListText dues [] (field-some (dues .count) 10 _) ∙ and-true (unlisted dues) in
+      optional-parts unbooked bookedText b later (section-then bookingText (b .«booking_count») (b .bookings) booking-then later)
+      ∙ ap (λ (e : Bool). pick (unbooked b && e) [] (bookedText b []) ++ later) none
 
-  abbrev bookings-part : List ℕ
-  bookings-part = eachThen bookingText (take (b .«booking_count») (b .bookings)) []
-
-  module _ (some : b .«booking_count» ≡ 0 → ⊥) where
-    pub booked-parts : optionalText unbooked bookedText b [] ≡ fieldText (b .«booking_count») 10 ++ bookings-part
-    unfolding optionalText
-    booked-parts = rw (ne-eqb (b .«booking_count») 0 some) (simp append-assoc)
-
-    pub booked-size : length (optionalText unbooked bookedText b []) ≡ length (fieldText (b .«booking_count») 10) + length bookings-part
-    booked-size = ap length booked-parts ∙ length-append (fieldText (b .«booking_count») 10) bookings-part
+  pub further-size : length (optionalText unbooked bookedText b (optionalText unlisted trainListText dues [])) ≡ length booked-part + length dues-part
+  further-size = ap length further-parts ∙ length-append booked-part dues-part
 
 module _ (l : Line) where
   abbrev stations-part : List ℕ
@@ -179,25 +217,25 @@ module _ (l : Line) where
   abbrev trains-part : List ℕ
   trains-part = eachThen trainText (trainsOf l) []
 
-  abbrev booked-part : List ℕ
-  booked-part = optionalText unbooked bookedText (l .booked) []
+  abbrev further-part : List ℕ
+  further-part = optionalText unbooked bookedText (l .booked) (duesText l)
 
   pub line-parts : textOf l ≡ fieldText (l .track .«station_count») 10
-      ++ (stations-part ++ (fieldText (l .track .«station_count» - 1) 10 ++ (segments-part ++ (fieldText (l .traffic .«train_count») 10 ++ (trains-part ++ booked-part)))))
+      ++ (stations-part ++ (fieldText (l .track .«station_count» - 1) 10 ++ (segments-part ++ (fieldText (l .traffic .«train_count») 10 ++ (trains-part ++ further-part)))))
   unfolding textOf
   line-parts =
-      let trains = digits (l .traffic .«train_count») ++ (10 ∷ eachThen trainText (trainsOf l) booked-part) in
+      let trains = digits (l .traffic .«train_count») ++ (10 ∷ eachThen trainText (trainsOf l) further-part) in
       ap (λ (x : List ℕ). digits (l .track .«station_count») ++ (10 ∷ x)) (
       each-then stationText station-then (tracksOf l) (digits (l .track .«station_count» - 1) ++ (10 ∷ eachThen segmentText (segmentsOf l) trains))
       ∙ ap (λ (x : List ℕ). stations-part ++ (digits (l .track .«station_count» - 1) ++ (10 ∷ x))) (
       each-then segmentText segment-then (segmentsOf l) trains
-      ∙ ap (λ (x : List ℕ). segments-part ++ (digits (l .traffic .«train_count») ++ (10 ∷ x))) (each-then trainText train-then (trainsOf l) booked-part)
+      ∙ ap (λ (x : List ℕ). segments-part ++ (digits (l .traffic .«train_count») ++ (10 ∷ x))) (each-then trainText train-then (trainsOf l) further-part)
       ))
       ∙ (simp append-assoc)
 
   pub line-size : length (textOf l) ≡ length (fieldText (l .track .«station_count») 10)
       + (length stations-part + (length (fieldText (l .track .«station_count» - 1) 10)
-      + (length segments-part + (length (fieldText (l .traffic .«train_count») 10) + (length trains-part + length booked-part)))))
+      + (length segments-part + (length (fieldText (l .traffic .«train_count») 10) + (length trains-part + length further-part)))))
   line-size =
       ap length line-parts
       ∙ (rw (

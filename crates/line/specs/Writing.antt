@@ -15,12 +15,13 @@ use Rattle.line.specs.declared.Train.{Train}
 use Rattle.line.specs.declared.Track.{Track}
 use Rattle.line.specs.declared.Traffic.{Traffic}
 use Rattle.line.specs.declared.Booking.{Booking}
+use Rattle.line.specs.declared.Booked.{Booked}
 use Rattle.line.specs.declared.Listed.{Listed}
 use Rattle.line.specs.declared.TrainList.{TrainList}
 use Rattle.line.specs.declared.Line.{Line}
 use Rattle.line.specs.declared.writing.Fault.{Fault}
 use Rattle.line.specs.Ranges.{stationCount, tracks, gap, trainCount, trainNumber, bookingCount, listCount, station, time, weight, run, stop}
-use Rattle.line.specs.Record.{noBooking, noListed, trainsOf, bookingsOf, listedIn, runsOf, stopsOf}
+use Rattle.line.specs.Record.{noBooking, noListed, listedIn, runsOf, stopsOf}
 use Rattle.line.specs.Bookings.{standsAfter, bookable}
 use Rattle.line.specs.Spell.{textOf}
 
@@ -100,6 +101,10 @@ unfoldable pub risingFault : {A : Type 0} → List A → (A → ℕ → A → Fa
 risingFault [] f before p = Fault.None
 risingFault (x ∷ xs) f before p = thenFault (f before p x) (risingFault xs f x (p + 1))
 
+-- of a section of such elements: their count n, which is in the range r, on line p, and then they themselves, the first after `none`
+abbrev pub countedFault : {A : Type 0} → Limits → ℕ → List A → (A → ℕ → A → Fault) → A → ℕ → Fault
+countedFault r n xs f none p = thenFault (numberFault r n p) (risingFault xs f none (p + 1))
+
 -- ---- part by part
 
 unfoldable pub trackFaultOf : Track → Fault
@@ -118,16 +123,17 @@ trafficFaultOf n t =
 abbrev pub bookingsLine : Line → ℕ
 bookingsLine l = l .track .«station_count» + l .track .«station_count» + 3 + l .traffic .«train_count»
 
+-- of these bookings of a line with n stations and this traffic, their count on line p
+abbrev pub bookedFault : ℕ → Traffic → Booked → ℕ → Fault
+bookedFault n t b p =
+    countedFault bookingCount (b .«booking_count») (take (b .«booking_count») (b .bookings)) (bookingFault n (take (t .«train_count») (t .trains))) noBooking p
+
 unfoldable pub bookedFaultOf : Line → Fault
-bookedFaultOf l =
-    thenFault (numberFault bookingCount (l .booked .«booking_count») (bookingsLine l))
-    (risingFault (bookingsOf l) (bookingFault (l .track .«station_count») (trainsOf l)) noBooking (bookingsLine l + 1))
+bookedFaultOf l = bookedFault (l .track .«station_count») (l .traffic) (l .booked) (bookingsLine l)
 
 -- of a list of trains of a line with t of them, its count on line p
 unfoldable pub listFault : ℕ → Limits → TrainList → ℕ → Fault
-listFault t r x p =
-    thenFault (numberFault (listCount t) (x .count) p)
-    (risingFault (listedIn x) (listedFault t r) noListed (p + 1))
+listFault t r x p = countedFault (listCount t) (x .count) (listedIn x) (listedFault t r) noListed p
 
 -- the line of the count of dues
 abbrev pub duesLine : Line → ℕ

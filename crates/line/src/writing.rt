@@ -1,7 +1,9 @@
 // Writing the line file: the first bad field of the record refuses it; else its text goes into the lent bytes, if it fits.
 ghost use mathlib.Core.Path.{_≡_};
+ghost use mathlib.Core.Bool.{_&&_};
 ghost use mathlib.Core.List.{[]};
 ghost use Prim.Native.Nat.{_+_, _-_, _≤_, _<_};
+ghost use lib.Dec.{eqb};
 ghost use lib.ListN.{length, take};
 ghost use Rattle.text.specs.Elements.EachThen.{eachThen};
 ghost use Rattle.finite.specs.Each.{Each};
@@ -11,14 +13,16 @@ ghost use Rattle.line.specs.Within.{Within};
 ghost use Rattle.line.specs.Ranges.{In, trainNumber};
 ghost use Rattle.line.specs.Record.{legsOf, HasPath};
 ghost use Rattle.line.specs.RoundTripLaws.{ReadBack};
-ghost use Rattle.line.specs.Spell.{stationText, letterByte, segmentText, journeyText, headText, trainText, bookingText, bookedText, unbooked, textOf};
+ghost use Rattle.line.specs.Spell.{stationText, letterByte, segmentText, journeyText, headText, trainText, bookingText, listedText, bookedText, unbooked, trainListText, unlisted, textOf};
+ghost use Rattle.text.specs.Reading.Choice.{pick};
 ghost use Rattle.text.specs.Sections.Chained.{optionalText};
-ghost use Rattle.line.specs.Record.{noBooking};
-ghost use Rattle.line.specs.Writing.{valueFault, numberFault, linesFault, timesFault, trackFault, segmentFault, pathFault, headFault, trainFault, bookingFault, bookingFaultWith, risingFault, trackFaultOf, trafficFaultOf, faultOf, spelling};
+ghost use Rattle.line.specs.Record.{noBooking, noListed};
+ghost use Rattle.line.specs.Writing.{valueFault, numberFault, linesFault, timesFault, trackFault, segmentFault, pathFault, headFault, trainFault, bookingFault, bookingFaultWith, listedFault, risingFault, trackFaultOf, trafficFaultOf, bookedFault, listFault, faultOf, spelling};
 use crate::Booked;
 use crate::Booking;
 use crate::Kind;
 use crate::Line;
+use crate::Listed;
 use crate::MAX_BYTES;
 use crate::Segment;
 use crate::Station;
@@ -26,9 +30,11 @@ use crate::Time;
 use crate::Track;
 use crate::Traffic;
 use crate::Train;
+use crate::TrainList;
 use crate::legs_between;
 use crate::reading::may_stand;
 use crate::reading::no_booking;
+use crate::reading::no_listed;
 use text::Bounded;
 use text::LINE_FEED;
 use text::Limits;
@@ -260,6 +266,45 @@ fn booking_faults(
     Fault::None
 }
 
+// Train (3, then 19) and minutes of a line of a list of trains, after the one before it.
+fn listed_fault(x: Listed, before: Listed, trains: u16, limits: Limits, line: usize) -> Fault
+    ensures { λ r. ⌜ r ≡ listedFault trains limits before line x ⌝ }
+{
+    let train = value_fault(Train::value(x.train as u32, trains), line);
+    let Fault::None = train else {
+        return train;
+    };
+    if x.train <= before.train {
+        return Fault::At(19, line);
+    }
+    number_fault(x.minutes, limits, line)
+}
+
+// The lines of a list of trains, each after the one before it.
+fn listed_faults(
+    listed: [Listed; 12],
+    count: usize,
+    trains: u16,
+    limits: Limits,
+    first: usize,
+) -> Fault
+    requires { ⌜ (count ≤ 12) × (first ≤ 1000) ⌝ }
+    ensures { λ r. ⌜ r ≡ risingFault (take count listed) (listedFault trains limits) noListed first ⌝ }
+{
+    let mut before = no_listed();
+    let mut i: usize = 0;
+    while i < count {
+        let x = listed[i];
+        let fault = listed_fault(x, before, trains, limits, first + i);
+        let Fault::None = fault else {
+            return fault;
+        };
+        before = x;
+        i = i + 1;
+    }
+    Fault::None
+}
+
 fn track_fault(track: Track) -> Fault
     ensures { λ r. ⌜ r ≡ trackFaultOf track ⌝ }
 {
@@ -291,6 +336,33 @@ fn traffic_fault(traffic: Traffic, stations: u16) -> Fault
     train_faults(trains, traffic.train_count as usize, stations, n + n + 3)
 }
 
+// The bookings, their count on this line.
+fn booked_fault(booked: Booked, stations: u16, traffic: Traffic, line: usize) -> Fault
+    requires { ⌜ (traffic .«train_count» ≤ 12) × (line ≤ 39) ⌝ }
+    ensures { λ r. ⌜ r ≡ bookedFault stations traffic booked line ⌝ }
+{
+    let number = number_fault(booked.booking_count, Booking::COUNT, line);
+    let Fault::None = number else {
+        return number;
+    };
+    let bookings = booked.bookings;
+    let count = booked.booking_count as usize;
+    booking_faults(bookings, count, stations, traffic, line + 1)
+}
+
+// A list of trains, its count on this line.
+fn list_fault(list: TrainList, trains: u16, limits: Limits, line: usize) -> Fault
+    requires { ⌜ (trains ≤ 12) × (line < 1000) ⌝ }
+    ensures { λ r. ⌜ r ≡ listFault trains limits list line ⌝ }
+{
+    let number = number_fault(list.count, TrainList::counts(trains), line);
+    let Fault::None = number else {
+        return number;
+    };
+    let listed = list.listed;
+    listed_faults(listed, list.count as usize, trains, limits, line + 1)
+}
+
 // The first bad field of a record, in the order of the file's bytes.
 pub fn fault_of(line: Line) -> Fault
     ensures { λ r. ⌜ r ≡ faultOf line ⌝ }
@@ -308,19 +380,14 @@ pub fn fault_of(line: Line) -> Fault
     };
     let booked = line.booked;
     let n = stations as usize;
-    let first = n + n + 3 + traffic.train_count as usize;
-    let number = number_fault(booked.booking_count, Booking::COUNT, first);
-    let Fault::None = number else {
-        return number;
+    let bookings_line = n + n + 3 + traffic.train_count as usize;
+    let of_bookings = booked_fault(booked, stations, traffic, bookings_line);
+    let Fault::None = of_bookings else {
+        return of_bookings;
     };
-    let bookings = booked.bookings;
-    booking_faults(
-        bookings,
-        booked.booking_count as usize,
-        stations,
-        traffic,
-        first + 1,
-    )
+    let dues = line.dues;
+    let dues_line = bookings_line + 1 + booked.booking_count as usize;
+    list_fault(dues, traffic.train_count, Time::LIMITS, dues_line)
 }
 
 fn put_stations(out: &mut [u8], start: usize, tracks: [u16; 12], count: usize) -> usize
@@ -451,17 +518,69 @@ fn put_bookings(out: &mut [u8], start: usize, bookings: [Booking; 120], count: u
     at
 }
 
-// The section of bookings, which is left off where there are none.
-fn put_booked(out: &mut [u8], start: usize, booked: Booked) -> usize
-    requires { ⌜ (booked .«booking_count» ≤ 120) × (start + length (optionalText unbooked bookedText booked []) ≤ length (now out)) ⌝ }
-    ensures { λ r. ⌜ Put (now (out .entry)) (now (out .exit)) start (optionalText unbooked bookedText booked []) r ⌝ }
+// Whether a section with this count is left off: it is empty, and none that follows is written.
+fn left_off(count: u16, last: bool) -> bool
+    ensures { λ r. ⌜ r ≡ eqb count 0 && last ⌝ }
 {
-    if booked.booking_count == 0 {
+    count == 0 && last
+}
+
+// The section of bookings; `last` says that nothing follows it.
+fn put_booked(out: &mut [u8], start: usize, booked: Booked, last: bool) -> usize
+    requires { ⌜ (booked .«booking_count» ≤ 120) × (start + length (pick (unbooked booked && last) [] (bookedText booked [])) ≤ length (now out)) ⌝ }
+    ensures { λ r. ⌜ Put (now (out .entry)) (now (out .exit)) start (pick (unbooked booked && last) [] (bookedText booked [])) r ⌝ }
+{
+    if left_off(booked.booking_count, last) {
         return start;
     }
     let bookings = booked.bookings;
     let after_count = put_field(out, start, booked.booking_count as u32, LINE_FEED);
     put_bookings(out, after_count, bookings, booked.booking_count as usize)
+}
+
+fn put_listed(out: &mut [u8], start: usize, x: Listed) -> usize
+    requires { ⌜ start + length (listedText x []) ≤ length (now out) ⌝ }
+    ensures { λ r. ⌜ Put (now (out .entry)) (now (out .exit)) start (listedText x []) r ⌝ }
+{
+    let after_train = put_field(out, start, x.train as u32, SPACE);
+    put_field(out, after_train, x.minutes as u32, LINE_FEED)
+}
+
+fn put_list_lines(out: &mut [u8], start: usize, listed: [Listed; 12], count: usize) -> usize
+    requires { ⌜ (count ≤ 12) × (start + length (eachThen listedText (take count listed) []) ≤ length (now out)) ⌝ }
+    ensures { λ r. ⌜ Put (now (out .entry)) (now (out .exit)) start (eachThen listedText (take count listed) []) r ⌝ }
+{
+    let mut at = start;
+    let mut i: usize = 0;
+    while i < count {
+        let x = listed[i];
+        at = put_listed(out, at, x);
+        i = i + 1;
+    }
+    at
+}
+
+// The section of a list of trains; `last` says that nothing follows it.
+fn put_list(out: &mut [u8], start: usize, list: TrainList, last: bool) -> usize
+    requires { ⌜ (list .count ≤ 12) × (start + length (pick (unlisted list && last) [] (trainListText list [])) ≤ length (now out)) ⌝ }
+    ensures { λ r. ⌜ Put (now (out .entry)) (now (out .exit)) start (pick (unlisted list && last) [] (trainListText list [])) r ⌝ }
+{
+    if left_off(list.count, last) {
+        return start;
+    }
+    let listed = list.listed;
+    let after_count = put_field(out, start, list.count as u32, LINE_FEED);
+    put_list_lines(out, after_count, listed, list.count as usize)
+}
+
+// The sections past the third, of which those that are empty at the end are left off.
+fn put_further(out: &mut [u8], start: usize, booked: Booked, dues: TrainList) -> usize
+    requires { ⌜ (booked .«booking_count» ≤ 120) × (dues .count ≤ 12) × (start + length (optionalText unbooked bookedText booked (optionalText unlisted trainListText dues [])) ≤ length (now out)) ⌝ }
+    ensures { λ r. ⌜ Put (now (out .entry)) (now (out .exit)) start (optionalText unbooked bookedText booked (optionalText unlisted trainListText dues [])) r ⌝ }
+{
+    let no_dues = dues.count == 0;
+    let after_bookings = put_booked(out, start, booked, no_dues);
+    put_list(out, after_bookings, dues, true)
 }
 
 // The whole text of a line within the limits, from the first byte on.
@@ -486,7 +605,8 @@ fn put_line(out: &mut [u8], line: Line) -> usize
     );
     let after_trains = put_trains(out, after_number, trains, line.traffic.train_count as usize);
     let booked = line.booked;
-    put_booked(out, after_trains, booked)
+    let dues = line.dues;
+    put_further(out, after_trains, booked, dues)
 }
 
 // Writes the text of a line within the limits into the lent bytes: its length, or 6 and no byte changed.
@@ -499,7 +619,7 @@ fn write_text(line: Line, out: &mut [u8]) -> Written
     lend_text(&text[..count], out)
 }
 
-// Writes the record of a line, in range or not, into the lent bytes: the length of its text, or 3, 4 or 6 and no byte changed.
+// Writes the record of a line, in range or not, into the lent bytes: the length of its text, or 3, 4, 19 or 6 and no byte changed.
 // Every line within the limits has a text, and reading it gives the same line back.
 pub fn write(line: Line, out: &mut [u8]) -> Written
     ensures { λ r. ⌜ Lent (spelling line) (now (out .entry)) (now (out .exit)) r × (Within line → ReadBack line) ⌝ }

@@ -4,7 +4,7 @@ use Prim.Native.Nat.{ℕ, zero, suc, _+_, _*_, _≤_}
 use mathlib.Core.Path.{_≡_, refl, sym, ap, _∙_}
 use mathlib.Core.Logic.{_⊎_, inl, inr}
 use mathlib.Core.Bool.{Bool, true, false, not, _&&_, and-eq-true-iff, true≢false}
-use mathlib.Core.List.{List, [], _∷_}
+use mathlib.Core.List.{List, [], _∷_, _++_}
 use native.Mathlib.Omega.{arith}
 use borrow.Author.Tests.{le-ltb, ltb-true, ltb-false}
 use lib.ListN.{length, drop-of-length-le}
@@ -120,6 +120,10 @@ nothing-left s c = go (left s c) refl
     go true e = ap nothing (from-cons s c (ltb-true (c .at) (length s) e))
     go false e = ap nothing (drop-of-length-le s (ltb-false (c .at) (length s) e))
 
+nothing-is : (l : List ℕ) → nothing l ≡ true → l ≡ []
+nothing-is [] n = refl
+nothing-is (y ∷ l) n = absurd (true≢false (sym n))
+
 -- of a section with such laws of its own
 module _ {A : Type 0} (range : ℕ) (none : A) (empty : A → Bool) (none-empty : empty none ≡ true) (section : List ℕ → Cursor → Parsed A) (s : List ℕ) where
   -- what was read, and why
@@ -178,10 +182,6 @@ module _ {A : Type 0} (range : ℕ) (none : A) (empty : A → Bool) (none-empty 
       written h q true here = reads-then _ (one h c q) (λ next l. accepted h next l)
       written h q false here = absurd (some later (sym q ∙ drop-of-length-le s (ltb-false (c .at) (length s) here)))
 
-      nothing-is : (l : List ℕ) → nothing l ≡ true → l ≡ []
-      nothing-is [] n = refl
-      nothing-is (y ∷ l) n = absurd (true≢false (sym n))
-
       go : (b : Bool) → empty x && nothing later ≡ b → from s c ≡ pick b [] (text x later) → Read (left s c)
       go false h q = written h q (left s c) refl
       go true h q =
@@ -213,3 +213,26 @@ optional-length empty text x later w h = go (empty x && nothing later)
     go : (b : Bool) → length (pick b [] (text x later)) ≤ w + length later
     go true = omega arith
     go false = h
+
+module _ {A : Type 0} (empty : A → Bool) (text : A → List ℕ → List ℕ) (x : A) (later : List ℕ) where
+  -- its text by itself, where it is not left off, and then the later ones
+  pub optional-parts : text x later ≡ text x [] ++ later → optionalText empty text x later ≡ pick (empty x && nothing later) [] (text x []) ++ later
+  unfolding optionalText
+  optional-parts parts = go (empty x && nothing later) refl
+    where
+      go : (b : Bool) → empty x && nothing later ≡ b → pick b [] (text x later) ≡ pick b [] (text x []) ++ later
+      go true h = sym (nothing-is later (and-eq-true-iff (empty x) (nothing later) .0 h .1))
+      go false h = parts
+
+  -- nothing is written exactly where it and the later ones are empty
+  pub optional-nothing : (text x later ≡ [] → ⊥) → nothing (optionalText empty text x later) ≡ empty x && nothing later
+  unfolding optionalText
+  optional-nothing some = go (empty x && nothing later)
+    where
+      written : (l : List ℕ) → (l ≡ [] → ⊥) → nothing l ≡ false
+      written [] h = absurd (h refl)
+      written (y ∷ l) h = refl
+
+      go : (b : Bool) → nothing (pick b [] (text x later)) ≡ b
+      go true = refl
+      go false = written (text x later) some

@@ -1,9 +1,8 @@
 -- `line::writing::fault_of` meets its contract: each `return` is the first fault of the parts checked so far, and the counts of a part without fault bound
--- what is checked next (`stations-fit`, `trains-fit`). Assumes nothing.
-use mathlib.Core.Path.{_∙_, sym}
+-- what is checked next (`stations-fit`, `trains-fit`, `bookings-fit`). Assumes nothing.
 use native.Mathlib.Omega.{arith}
 use borrow.Author.Needs.{needs}
-use Rattle.line.specs.FaultLaws.{found-first, found-later, tells-number, stations-fit, trains-fit}
+use Rattle.line.specs.FaultLaws.{found-first, found-later, stations-fit, trains-fit, bookings-fit}
 use Rattle.line.specs.Writing.{faultOf, bookedFaultOf}
 use Rattle.line.proofs.writing.fault_of.Statement.{statement}
 use Rattle.line.proofs.writing.fault_of.Tie as tie
@@ -42,20 +41,25 @@ returns-2 c =
 cast-n : tie.Need-cast-n
 cast-n c = search needs
 
-add-first : tie.Need-add-first
-add-first c = search needs
+add-bookings-line : tie.Need-add-bookings-line
+add-bookings-line c = search needs
 
-add-first-2 : tie.Need-add-first-2
-add-first-2 c = search needs
+add-bookings-line-2 : tie.Need-add-bookings-line-2
+add-bookings-line-2 c = search needs
 
-cast-first : tie.Need-cast-first
-cast-first c = search needs
+cast-bookings-line : tie.Need-cast-bookings-line
+cast-bookings-line c = search needs
 
-add-first-3 : tie.Need-add-first-3
-add-first-3 c = search needs
+add-bookings-line-3 : tie.Need-add-bookings-line-3
+add-bookings-line-3 c = search needs
 
-number-fault-requires : tie.Need-number-fault-requires
-number-fault-requires c κs = search needs
+booked-fault-requires : tie.Need-booked-fault-requires
+booked-fault-requires c κs =
+    let traffic = c .before .before in
+    let track = traffic .before .before .before .before in
+    let count = stations-fit _ (track .before .before .track-fault .ensures) (track .enum-told .given .1) in
+    let trains = trains-fit _ _ (traffic .before .before .traffic-fault .ensures) (traffic .enum-told3 .given .1) in
+    (trains .1, omega arith)
 
 enum-told-5 : tie.Need-enum-told-5
 enum-told-5 c = search needs
@@ -70,23 +74,27 @@ returns-3 c =
     let track = traffic .before .before .before .before in
     found-later (track .before .before .track-fault .ensures) (track .enum-told .given .1)
     (found-later (traffic .before .before .traffic-fault .ensures) (traffic .enum-told3 .given .1)
-    (found-first _ (c .before .before .number-fault .ensures) (c .enum-told6 .given .1)))
+    (found-first _ (c .before .before .booked-fault .ensures) (c .enum-told6 .given .1)))
 
-cast-booking-faults : tie.Need-cast-booking-faults
-cast-booking-faults c = search needs
+add-dues-line : tie.Need-add-dues-line
+add-dues-line c = search needs
 
-add-booking-faults : tie.Need-add-booking-faults
-add-booking-faults c = search needs
+cast-dues-line : tie.Need-cast-dues-line
+cast-dues-line c = search needs
 
-booking-faults-requires : tie.Need-booking-faults-requires
-booking-faults-requires c κs =
+add-dues-line-2 : tie.Need-add-dues-line-2
+add-dues-line-2 c = search needs
+
+list-fault-requires : tie.Need-list-fault-requires
+list-fault-requires c κs =
     let bookings = c .before .before in
     let traffic = bookings .before .before .before .before .before in
     let track = traffic .before .before .before .before in
     let count = stations-fit _ (track .before .before .track-fault .ensures) (track .enum-told .given .1) in
     let trains = trains-fit _ _ (traffic .before .before .traffic-fault .ensures) (traffic .enum-told3 .given .1) in
-    let number = tells-number _ _ _ .holds (sym (bookings .before .before .number-fault .ensures) ∙ bookings .enum-told5 .given .1) in
-    (number .1, trains .1, omega arith)
+    let l = track .before .before .before .before .args .line in
+    let number = bookings-fit (l .track .«station_count») (l .traffic) (l .booked) _ (bookings .before .before .booked-fault .ensures) (bookings .enum-told5 .given .1) in
+    (trains .1, omega arith)
 
 returns-4 : tie.Need-returns-4
 unfolding faultOf bookedFaultOf
@@ -96,7 +104,7 @@ returns-4 c =
     let track = traffic .before .before .before .before in
     found-later (track .before .before .track-fault .ensures) (track .enum-told .given .1)
     (found-later (traffic .before .before .traffic-fault .ensures) (traffic .enum-told3 .given .1)
-    (found-later (bookings .before .before .number-fault .ensures) (bookings .enum-told5 .given .1) (c .booking-faults .ensures)))
+    (found-later (bookings .before .before .booked-fault .ensures) (bookings .enum-told5 .given .1) (c .list-fault .ensures)))
 
 pub fault-of-spec : {M : Type 1} → statement M
 fault-of-spec =
@@ -111,15 +119,16 @@ fault-of-spec =
     enum-told-4
     returns-2
     cast-n
-    add-first
-    add-first-2
-    cast-first
-    add-first-3
-    number-fault-requires
+    add-bookings-line
+    add-bookings-line-2
+    cast-bookings-line
+    add-bookings-line-3
+    booked-fault-requires
     enum-told-5
     enum-told-6
     returns-3
-    cast-booking-faults
-    add-booking-faults
-    booking-faults-requires
+    add-dues-line
+    cast-dues-line
+    add-dues-line-2
+    list-fault-requires
     returns-4)

@@ -131,9 +131,9 @@ put-trains-requires c κs =
       ),
     )
 
-put-booked-requires : tie.Need-put-booked-requires
-put-booked-requires c κs =
-    let p6 = c .before .before .before .before in
+put-further-requires : tie.Need-put-further-requires
+put-further-requires c κs =
+    let p6 = c .before .before .before .before .before in
     let p5 = p6 .before .before .before .before .before in
     let p4 = p5 .before .before .before .before .before in
     let p3 = p4 .before .before .before .before in
@@ -141,6 +141,7 @@ put-booked-requires c κs =
     let p1 = p2 .before .before .before .before in
     let a = p1 .before .before .before .before .before .before in (
       omega (arith, a .pre .0 .bookings),
+      omega (arith, a .pre .0 .trains, a .pre .0 .dues),
       omega (
         arith,
         line-size (a .args .line),
@@ -163,7 +164,7 @@ put-booked-requires c κs =
 same-length : tie.Need-same-length
 same-length c =
     let p7 = c .before .before in
-    let p6 = p7 .before .before .before .before .before in
+    let p6 = p7 .before .before .before .before .before .before in
     let p5 = p6 .before .before .before .before .before in
     let p4 = p5 .before .before .before .before .before in
     let p3 = p4 .before .before .before .before in
@@ -177,13 +178,13 @@ same-length c =
       p4 .put-segments .kept .0,
       p5 .put-field3 .kept .0,
       p6 .put-trains .kept .0,
-      p7 .put-booked .kept .0,
+      p7 .put-further .kept .0,
     )
 
 returns : tie.Need-returns
 returns c =
     let p7 = c .before .before in
-    let p6 = p7 .before .before .before .before .before in
+    let p6 = p7 .before .before .before .before .before .before in
     let p5 = p6 .before .before .before .before .before in
     let p4 = p5 .before .before .before .before .before in
     let p3 = p4 .before .before .before .before in
@@ -192,7 +193,7 @@ returns c =
     let a = p1 .before .before .before .before .before .before in
     rw (line-parts (a .args .line)) (put-then (p1 .put-field .ensures)
     (put-then (p2 .put-stations .ensures) (put-then (p3 .put-field2 .ensures)
-    (put-then (p4 .put-segments .ensures) (put-then (p5 .put-field3 .ensures) (put-then (p6 .put-trains .ensures) (p7 .put-booked .ensures)))))))
+    (put-then (p4 .put-segments .ensures) (put-then (p5 .put-field3 .ensures) (put-then (p6 .put-trains .ensures) (p7 .put-further .ensures)))))))
 
 pub put-line-spec : {M : Type 1} → statement M
 put-line-spec =
@@ -211,6 +212,6 @@ put-line-spec =
     put-field-requires-3
     cast-put-trains
     put-trains-requires
-    put-booked-requires
+    put-further-requires
     same-length
     returns)

@@ -34,12 +34,14 @@ sized : (c : tie.Start) → Arrays (c .args .line)
 sized c =
     let track = c .good .0 .1 .1 .0 .1 .1 .1 in
     let trains = c .good .0 .1 .1 .1 .0 .1 .1 .1 .0 in
+    let further = c .good .0 .1 .1 .1 .1 in
     record {
       tracks = sym (length-map (c .args .line .track .tracks) _) ∙ track .0 .1 .0 .1;
       segments = sym (length-map (c .args .line .track .segments) _) ∙ track .1 .0 .1 .0 .1;
       trains = sym (length-map (c .args .line .traffic .trains) _) ∙ trains .1 .0 .1;
       each-train = trains-sized (c .args .line .traffic .trains) (trains .0) (trains .1 .1);
-      bookings = sym (length-map (c .args .line .booked .bookings) _) ∙ c .good .0 .1 .1 .1 .1 .0 .1 .1 .1 .0 .1 .0 .1;
+      bookings = sym (length-map (c .args .line .booked .bookings) _) ∙ further .0 .1 .1 .1 .0 .1 .0 .1;
+      dues = sym (length-map (c .args .line .dues .listed) _) ∙ further .1 .0 .1 .1 .1 .0 .1 .0 .1;
     }
 
 fault-of-requires : tie.Need-fault-of-requires
