@@ -37,8 +37,11 @@ module _ {A B : Type 0} (f : A → B) (p : Parsed A) where
   pub told-got : {b : B} {x : A} {c : Cursor} → b ≡ f x → p ≡ Parsed.got x c → Parsed.got b c ≡ mapParsed f p
   told-got {c = c} made is = ap (λ (y : B). Parsed.got y c) made ∙ sym (ap (λ (y : Parsed A). mapParsed f y) is)
 
+  pub bad-told : {n q : ℕ} → p ≡ Parsed.bad n q → Parsed.bad n q ≡ mapParsed f p
+  bad-told is = sym (ap (λ (y : Parsed A). mapParsed f y) is)
+
   pub told-bad : {e : Ending} (b : B) {n q : ℕ} → e ≡ Ending.Refused n q → p ≡ Parsed.bad n q → toldEnding e b ≡ mapParsed f p
-  told-bad b refused is = ap (λ (k : Ending). toldEnding k b) refused ∙ sym (ap (λ (y : Parsed A). mapParsed f y) is)
+  told-bad b refused is = ap (λ (k : Ending). toldEnding k b) refused ∙ bad-told is
 
   -- and back: the value that was turned into this one
   pub record MadeOf (b : B) (next : Cursor) : Type 0 where

@@ -85,12 +85,10 @@ module _ {M : Type 1} (𝓤 : URA M) (H : Heap 𝓤) (A : Atoms 𝓤) (mem : Mem
   CompleteFrom = tripleOf 𝓤 H A completes.signature (completes.spec 𝓤 H A mem run)
 
 module _ {M : Type 1} (𝓤 : URA M) (H : Heap 𝓤) (A : Atoms 𝓤) (W : Given 𝓤 H A) (mem : Memory → SProp 𝓤) (run : Routine → Fun 𝓤) where
-  module _ (κ : Lft) (q : Share) (d : Reader) (p : TrackPart) where
+  -- the part's machine value is any value of it: spelt out, it would be compared again at every step
+  module _ (κ : Lft) (q : Share) (d : Reader) (p : TrackPart) (part : Val) where
     abbrev mach : Val
     mach = T′.lowered d
-
-    abbrev part : Val
-    part = LL.val P.the-type P′.the-laws p
 
     -- the machine value of src
     abbrev v : Val
@@ -192,7 +190,7 @@ module _ {M : Type 1} (𝓤 : URA M) (H : Heap 𝓤) (A : Atoms 𝓤) (W : Given
       walked 𝓤 H A reads.ended stayed (reads.clauses 𝓤 H A mem run) (WpFn 𝓤 H C Λ code.function)
       (λ κs. (LL.vals (D κs) (L κs), (LL.vals P.the-type P′.the-laws, tt))) (λ κs. (LL.tells (D κs) (L κs), (LL.tells P.the-type P′.the-laws, tt)))
       (λ κs qs bounds a g are. needs 𝓤 _ _
-      (walk (κs .0) (qs .0) (a .0) (a .1 .0) C Λ fm known (LL.lawful (D κs) (L κs) 𝓤 H A W .typed (a .0) _ (are .0) .0) (are .1 .0)))
+      (walk (κs .0) (qs .0) (a .0) (a .1 .0) (LL.val P.the-type P′.the-laws (a .1 .0)) C Λ fm known (LL.lawful (D κs) (L κs) 𝓤 H A W .typed (a .0) _ (are .0) .0) (are .1 .0)))
 
   complete-meets : (𝓣 : Tables 𝓤 H) → Triple 𝓤 (𝓣 .C #complete-from) (CompleteFrom 𝓤 H A mem run)
       → Meets 𝓤 H A reads.signature (WpFn 𝓤 H (𝓣 .C) (𝓣 .Λ) code.function) (reads.spec 𝓤 H A mem run)

@@ -126,7 +126,7 @@ returns-3 c =
     after-track _ _ _ _ (y .before .before .before .track-end .given .1) (c .answer-for3 .ensures ∙ ap answered (ended-told _ refused))
     (no-further _ _ _ trains
     (refused-of _ _ (part .result .ending) (part .result .sections)
-    (further-told _ _ _ _ _ _ (w .before .before .before .traffic-with .ensures) (part .ensures)) refused))
+    (further-told _ _ _ _ (part .result .ending) (part .result .sections) (w .before .before .before .traffic-with .ensures) (part .ensures)) refused))
 
 answer-for-requires-4 : tie.Need-answer-for-requires-4
 answer-for-requires-4 c κs = search needs
@@ -139,7 +139,7 @@ returns-4 c =
     let y = v .before .before in
     let trains = sym (y .train-section .ensures) ∙ ended-told _ (v .trains-end .given .1) in
     let traffic = w .before .before .before .traffic-with .ensures in
-    let further = made-of _ _ (part .result .ending) (part .result .sections) (further-told _ _ _ _ _ _ traffic (part .ensures)) (w .further-end .given .1) in
+    let further = made-of _ _ (part .result .ending) (part .result .sections) (further-told _ _ _ _ (part .result .ending) (part .result .sections) traffic (part .ensures)) (w .further-end .given .1) in
     after-track _ _ _ _ (y .before .before .before .track-end .given .1) (c .answer-for4 .ensures)
     (bytes-after _ _ _ trains (further .read) (c .before .if1 .taken))
 
@@ -157,7 +157,7 @@ returns-5 c =
     let y = v .before .before in
     let trains = sym (y .train-section .ensures) ∙ ended-told _ (v .trains-end .given .1) in
     let traffic = w .before .before .before .traffic-with .ensures in
-    let further = made-of _ _ (part .result .ending) (part .result .sections) (further-told _ _ _ _ _ _ traffic (part .ensures)) (w .further-end .given .1) in
+    let further = made-of _ _ (part .result .ending) (part .result .sections) (further-told _ _ _ _ (part .result .ending) (part .result .sections) traffic (part .ensures)) (w .further-end .given .1) in
     after-track _ _ _ _ (y .before .before .before .track-end .given .1)
     (c .answer-for5 .ensures ∙ accepted (c .before .line-with .ensures ∙ line-is _ traffic (further .made)))
     (track-completed _ _ _ trains (further .read) (c .before .before .before .before .if1 .left))

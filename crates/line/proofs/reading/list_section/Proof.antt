@@ -9,7 +9,7 @@ use Rattle.text.specs.Reading.Told.{endingOf}
 use Rattle.text.specs.Reading.ToldLaws.{ranged-told}
 use Rattle.line.specs.Record.{noListed}
 use Rattle.line.specs.File.{listedLine}
-use Rattle.line.specs.SectionLaws.{told-got, told-bad, rising-left-off, rising-no-count, rising-empty-last, rising-lines}
+use Rattle.line.specs.SectionLaws.{told-got, bad-told, told-bad, rising-left-off, rising-no-count, rising-empty-last, rising-lines}
 use borrow.Author.Needs.{needs}
 use Rattle.line.proofs.reading.list_section.Statement.{statement}
 use Rattle.line.proofs.reading.list_section.Tie as tie
@@ -50,7 +50,7 @@ returns-3 c =
     let f = c .before .before .before in
     let a = f .before .before .before .before .before .before .before .args in
     let count = ranged-told 2 3 (a .counts) 10 (now (a .s)) _ refl refl (f .before .before .ranged .ensures) (f .field .given .1) in
-    told-bad _ _ _ refl
+    bad-told _ _
     (rising-empty-last _ _ _ (now (a .s)) (a .start) (f .before .before .before .if1 .left) _ _ count (sym (c .before .empty-last .ensures) ∙ c .if2 .taken))
 
 cast-list-lines : tie.Need-cast-list-lines
