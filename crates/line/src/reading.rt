@@ -754,13 +754,7 @@ fn no_listed_part(ending: Ending) -> ListedPart
 }
 
 // A line of a list of trains, after the one before it: the train, and its minutes within the limits.
-fn listed_line(
-    s: &[u8],
-    cursor: Cursor,
-    before: Listed,
-    trains: u16,
-    limits: Limits,
-) -> ListedPart
+fn listed_line(s: &[u8], cursor: Cursor, before: Listed, trains: u16, limits: Limits) -> ListedPart
     requires { ⌜ Counted cursor ⌝ }
     ensures { λ r. ⌜ toldEnding (r .ending) (r .listed) ≡ listedLine trains limits before (now (s .entry)) cursor ⌝ }
 {
@@ -808,13 +802,7 @@ fn list_lines(s: &[u8], start: Cursor, count: usize, trains: u16, limits: Limits
 }
 
 // The section of a list of trains, which may be left off: its count, in these limits, and a line each.
-fn list_section(
-    s: &[u8],
-    start: Cursor,
-    counts: Limits,
-    trains: u16,
-    limits: Limits,
-) -> ListSection
+fn list_section(s: &[u8], start: Cursor, counts: Limits, trains: u16, limits: Limits) -> ListSection
     requires { ⌜ (counts .max ≤ 12) × Counted start ⌝ }
     ensures { λ r. ⌜ toldEnding (r .ending) (r .list) ≡ mapParsed listWith (risingSection counts noListed (listedLine trains limits) (now (s .entry)) start) ⌝ }
 {

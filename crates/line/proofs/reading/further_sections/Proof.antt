@@ -86,8 +86,7 @@ list-section-requires c κs =
     let start = x .before .before .before .before .before .before in
     let a = start .args in
     let most : c .newest-counts .result .max ≡ a .traffic .«train_count» =
-    ap (λ (r : Limits). r .max) (c .newest-counts .ensures ∙ ap newest (c .before .counts .ensures)) in
-    (
+    ap (λ (r : Limits). r .max) (c .newest-counts .ensures ∙ ap newest (c .before .counts .ensures)) in (
       omega (arith, most, start .pre .0),
       after-counted (a .stations) (a .traffic) (now (a .s)) (a .start) (part .result .ending) (part .result .booked) (part .ensures)
           (x .before .bookings-end .given .1) (start .pre .1),
