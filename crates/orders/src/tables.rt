@@ -9,7 +9,7 @@ ghost use Rattle.rules.specs.Statement.Paths.{legs, legOn, Uses, Routed};
 ghost use Rattle.rules.specs.Check.Floors.{Floors};
 ghost use Rattle.orders.specs.LineTables.Tables.{tableSize, sharedIn, followingIn, opposingIn, runIn, stopIn, nextIn, limitIn, weightIn, freeIn, restIn, lastIn, nextLeg, lastLeg, restOf, stopAfter, limitOf, noLegValue, shares, segmentValue, legEntry, tableEntry, tablesOf};
 ghost use Rattle.orders.specs.Graph.LegsLaws.{Leg};
-ghost use Rattle.orders.specs.LineTables.FillLaws.{Begun};
+ghost use Rattle.finite.specs.FillLaws.{Begun};
 use line::Kind;
 use line::Line;
 use line::Segment;

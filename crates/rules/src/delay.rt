@@ -1,17 +1,19 @@
-// Free arrival and weighted delay.
+// Free arrival, due minutes and weighted delay.
 ghost use mathlib.Core.Path.{_≡_};
-ghost use Prim.Native.Nat.{_+_, _*_, _<_};
-ghost use lib.ListN.{length};
+ghost use Prim.Native.Nat.{_+_, _*_, _≤_, _<_};
+ghost use lib.ListN.{length, take};
 ghost use Rattle.line.specs.Runnable.{Runnable};
 ghost use Rattle.rules.specs.Statement.Paths.{legs};
-ghost use Rattle.rules.specs.Statement.Delay.{freeAfter, freeArrival, weightedDelay};
+ghost use Rattle.rules.specs.Statement.Delay.{freeAfter, freeArrival, listedFor, weightedDelay};
 ghost use Rattle.rules.specs.Check.Floors.{Floors};
+ghost use Rattle.rules.specs.Check.Dues.{Dues};
 use crate::bookings::floor_at;
 use crate::bookings::floors_of;
 use crate::bookings::later;
 use crate::passages::wide;
 use crate::rules::arrival_of;
 use line::Line;
+use line::Listed;
 use line::legs_between;
 
 // When train i, alone on the line, arrives after its leg k.
@@ -45,9 +47,45 @@ pub fn free_arrival(line: Line, floors: &[u16], i: usize) -> u16
     free_after(line, floors, i, last)
 }
 
-// The sum of weight times delay, by the floors of the line.
-fn delay_by(line: Line, floors: &[u16], m: &[u16]) -> u32
-    requires { ⌜ Runnable line × Floors line (now floors) × (length (now m) ≡ 352) ⌝ }
+// The minutes that a list of trains has for train i, or those given where it is not in the list. The array comes by itself: one that was taken out of a
+// line for each train would be copied each time.
+fn listed_for(listed: [Listed; 12], count: usize, i: usize, given: u16) -> u16
+    requires { ⌜ (count ≤ 12) × (i < 12) ⌝ }
+    ensures { λ r. ⌜ r ≡ listedFor (take count listed) i given ⌝ }
+{
+    let mut j: usize = 0;
+    while j < count {
+        let entry = listed[j];
+        if entry.train as usize == i + 1 {
+            return entry.minutes;
+        }
+        j = j + 1;
+    }
+    given
+}
+
+// The due minutes of a line's trains: that of train i at entry i.
+pub fn dues_of(line: Line, floors: &[u16]) -> [u16; 12]
+    requires { ⌜ Runnable line × Floors line (now floors) ⌝ }
+    ensures { λ r. ⌜ Dues line r ⌝ }
+{
+    let list = line.dues;
+    let listed = list.listed;
+    let count = list.count as usize;
+    let n = line.traffic.train_count as usize;
+    let mut dues = [0u16; 12];
+    let mut i: usize = 0;
+    while i < n {
+        let free = free_arrival(line, floors, i);
+        dues[i] = listed_for(listed, count, i, free);
+        i = i + 1;
+    }
+    dues
+}
+
+// The sum of weight times delay, by the due minutes of the line.
+fn delay_by(line: Line, dues: &[u16], m: &[u16]) -> u32
+    requires { ⌜ Runnable line × Dues line (now dues) × (length (now m) ≡ 352) ⌝ }
     ensures { λ r. ⌜ r ≡ weightedDelay line (now (m .entry)) ⌝ }
 {
     let traffic = line.traffic;
@@ -59,9 +97,9 @@ fn delay_by(line: Line, floors: &[u16], m: &[u16]) -> u32
         let train = trains[i];
         let last = legs_between(train.origin, train.destination) - 1;
         let arrival = wide(arrival_of(train, m, i, last));
-        let free = wide(free_after(line, floors, i, last));
-        if free < arrival {
-            total = total + wide(train.weight) * (arrival - free);
+        let due = wide(dues[i]);
+        if due < arrival {
+            total = total + wide(train.weight) * (arrival - due);
         }
         i = i + 1;
     }
@@ -74,5 +112,6 @@ pub fn weighted_delay(line: Line, m: &[u16]) -> u32
     ensures { λ r. ⌜ r ≡ weightedDelay line (now (m .entry)) ⌝ }
 {
     let floors = floors_of(line);
-    delay_by(line, &floors, m)
+    let dues = dues_of(line, &floors);
+    delay_by(line, &dues, m)
 }

@@ -28,7 +28,7 @@ use Rattle.orders.specs.Plan.Marks.{free}
 use Rattle.orders.specs.Plan.MarksLaws.{zeros, free-marked}
 use Rattle.orders.specs.Plan.Plans.{Keeps}
 use Rattle.orders.specs.LineTables.Tables.{onLeg}
-use Rattle.orders.specs.LineTables.FillLaws.{Begun, begun-all}
+use Rattle.finite.specs.FillLaws.{Begun, begun-all}
 use Rattle.orders.specs.Graph.LegsLaws.{Leg, leg-test}
 use Rattle.orders.specs.LineTables.TableLegsLaws.{on-leg, on-leg-off}
 use Rattle.orders.specs.LeastMinutes.FirstPlan.{legMinute, freeEntry, freeMinutes, FreeInTime, IsFirstPlan}

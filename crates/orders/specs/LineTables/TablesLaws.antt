@@ -18,7 +18,7 @@ use Rattle.rules.specs.StatementLaws.PathsLaws.{run-most, stop-most}
 use Rattle.rules.specs.Statement.Delay.{freeAfter, freeArrival}
 use Rattle.orders.specs.Graph.LegsLaws.{Leg, leg-test}
 use Rattle.orders.specs.LineTables.Tables.{tableSize, nextLeg, lastLeg, restOf, stopAfter, restAfter, limitOf, atLast, legValue, noLegValue, shares, segmentValue, legEntry, segmentEntry, tableEntry, tablesOf}
-use Rattle.orders.specs.LineTables.FillLaws.{Begun, begun-all}
+use Rattle.finite.specs.FillLaws.{Begun, begun-all}
 
 -- ---- a path
 

@@ -14,16 +14,16 @@ abbrev pub floorIn : List ℕ → ℕ → ℕ → ℕ
 floorIn t i k = getD t (16 * k + i) 0
 
 -- each entry has what f says of its train and leg
-pub record Listed (f : ℕ → ℕ → ℕ) (t : List ℕ) : Type 0 where
+pub record HasFloors (f : ℕ → ℕ → ℕ) (t : List ℕ) : Type 0 where
   pub size : length t ≡ 176
   pub entries : (i k : ℕ) → i < 12 → k < 11 → floorIn t i k ≡ f i k
 
 abbrev pub Floors : Line → List ℕ → Type 0
-Floors l t = Listed (floorOf l) t
+Floors l t = HasFloors (floorOf l) t
 
 -- by the first n bookings
 abbrev pub FloorsBy : List Train → List Booking → ℕ → List ℕ → Type 0
-FloorsBy trains bookings n t = Listed (floorBy trains bookings n) t
+FloorsBy trains bookings n t = HasFloors (floorBy trains bookings n) t
 
 -- the arrival after leg j of train i, from that after its first leg on, by runs, stops and floors in lists: as the code works it out
 unfoldable pub arrivedAfter : ℕ → List ℕ → List ℕ → List ℕ → ℕ → ℕ → ℕ

@@ -24,7 +24,7 @@ use Rattle.rules.specs.Statement.Minutes.{departure, arrival, lastArriva
 use Rattle.rules.specs.StatementLaws.PathsLaws.{routed-runnable, legs-few, train-or-past, run-most, stop-most, decides-middle}
 use Rattle.rules.specs.Statement.Bookings.{floorOf}
 use Rattle.rules.specs.StatementLaws.BookingsLaws.{floors-kept, kept-floors, booked-leg, floor-most}
-use Rattle.rules.specs.Statement.Delay.{freeAfter, freeArrival, delay, weightedDelay}
+use Rattle.rules.specs.Statement.Delay.{freeAfter, delay, weightedDelay}
 use Rattle.rules.specs.Statement.Rules.{InDays, NotEarly, Runs, Stops, KeepsBookings, NotLate, stands, Stands, standing, Room}
 use Rattle.rules.specs.Check.Tests.{departureOf, arrivalOf, startsRight, runsRight, stopsRight, bookedRight, endsRight, keepsBy, keepsRule}
 
@@ -58,24 +58,6 @@ module _ (l : Line) (m : List ℕ) where
   -- the term of train i
   abbrev pub cost : ℕ → ℕ
   cost i = train l i .weight * delay l m i
-
-  pub cost-start : 0 ≡ sum cost 0
-  unfolding sum
-  cost-start = refl
-
-  -- a is its last arrival and f its free arrival
-  module _ (i : ℕ) {a f k : ℕ} (legs-is : k ≡ legs l i) (last : a ≡ arrival l m i (k - 1)) (free : f ≡ freeArrival l i) where
-    pub cost-late : {w : ℕ} → w ≡ train l i .weight → w * (a - f) ≡ cost i
-    cost-late e = rw (e, last, free, legs-is) refl
-
-    pub cost-none : a ≤ f → 0 ≡ cost i
-    cost-none h =
-        let none : a - f ≡ 0 = omega arith in
-        sym (ap (λ (d : ℕ). train l i .weight * d) none ∙ mul-zero _) ∙ cost-late refl
-
-  pub cost-end : {s n : ℕ} → s ≡ sum cost n → n ≡ l .traffic .«train_count» → s ≡ weightedDelay l m
-  unfolding weightedDelay
-  cost-end e h = e ∙ ap (sum cost) h
 
   -- a train costs at most 99 times 2,879
   pub cost-most : Runnable l → EachTrain l (InDays l m) → weightedDelay l m ≤ l .traffic .«train_count» * 285021

@@ -1,10 +1,14 @@
--- Weighted delay, and when one timetable is to be preferred to another; the best timetable (demand 3).
+-- When a train is due and how late it is, weighted delay, and when one timetable is to be preferred to another; the best timetable (demand 3).
 use Prim.Native.Nat.{ℕ, zero, suc, _+_, _*_, _-_, _≤_, _<_, max}
 use mathlib.Core.Path.{_≡_}
 use mathlib.Core.Logic.{_⊎_}
-use mathlib.Core.List.{List}
+use mathlib.Core.Bool.{cond}
+use mathlib.Core.List.{List, [], _∷_}
+use lib.Dec.{eqb}
 use Rattle.finite.specs.Below.{EachBelow, sum}
 use Rattle.line.specs.declared.Line.{Line}
+use Rattle.line.specs.declared.Listed.{Listed}
+use Rattle.line.specs.Record.{duesOf}
 use Rattle.rules.specs.Statement.Paths.{train, runOf, stopOf, legs, EachTrain, EachLeg}
 use Rattle.rules.specs.Statement.Bookings.{floorOf}
 use Rattle.rules.specs.Statement.Minutes.{departure, arrival, lastArrival}
@@ -27,10 +31,19 @@ freeAfter l i (suc k) = max (freeAfter l i k + stopOf l i k) (floorOf l i (suc k
 abbrev pub freeArrival : Line → ℕ → ℕ
 freeArrival l i = freeAfter l i (legs l i - 1)
 
--- "A train's delay is its last arrival less its free arrival"; of minutes that keep rules 10 to 12 and 18 the difference is never cut off
--- at 0 (`delay-true` in `StatementLaws/DelayLaws`)
+-- the minutes that a list of trains has for train i, or those given where it is not in the list
+unfoldable pub listedFor : List Listed → ℕ → ℕ → ℕ
+listedFor [] i given = given
+listedFor (x ∷ xs) i given = cond (eqb (x .train) (i + 1)) (x .minutes) (listedFor xs i given)
+
+-- document 02, K2: the section of dues "gives train and due minute"; "a train not listed is due at its free arrival" (`due-listed` and `due-free` in
+-- `StatementLaws/DueLaws`)
+unfoldable pub due : Line → ℕ → ℕ
+due l i = listedFor (duesOf l) i (freeArrival l i)
+
+-- document 02, K2: "A train's delay becomes its last arrival less due, and 0 when it is early": the difference is cut off at 0
 abbrev pub delay : Line → List ℕ → ℕ → ℕ
-delay l m i = lastArrival l m i - freeArrival l i
+delay l m i = lastArrival l m i - due l i
 
 -- "weighted delay is the sum of weight times delay"
 unfoldable pub weightedDelay : Line → List ℕ → ℕ

@@ -20,7 +20,7 @@ use Rattle.rules.specs.Statement.Rules.{TrainRules}
 use Rattle.rules.specs.Statement.Delay.{EarliestArrival, freeAfter, freeArrival}
 use Rattle.rules.specs.StatementLaws.PathsLaws.{routed, legs-few, segment-below, leg-back}
 use Rattle.rules.specs.StatementLaws.BookingsLaws.{kept-floors, booked-leg, floor-first}
-use Rattle.rules.specs.StatementLaws.DelayLaws.{delay-true}
+use Rattle.rules.specs.StatementLaws.DelayLaws.{free-least}
 use Rattle.rules.specs.Check.RulesLaws.{free-start, free-next}
 
 module _ (l : Line) (i : ℕ) where
@@ -87,5 +87,5 @@ module _ (l : Line) (w : Runnable l) (size : length (l .traffic .trains) ≡ 12)
         minutes = aloneMinutes l i;
         kept = free-kept l i w some (aloneMinutes l i) alone-leg;
         arrives = alone-leg (legs l i - 1) (omega (arith, some)) .1;
-        earliest = λ m h. delay-true l m i h w n;
+        earliest = λ m h. free-least l m i h w n;
       }

@@ -14,7 +14,7 @@ use Rattle.rules.specs.declared.orders.Lane.{Lane}
 use Rattle.rules.specs.Statement.Paths.{train, segmentCount, segment, legs, Uses}
 use Rattle.rules.specs.Statement.Minutes.{departsOn, arrivesOn, lastArrival}
 use Rattle.rules.specs.Statement.Rules.{Before, stands, standing, Lawful}
-use Rattle.rules.specs.Statement.Delay.{freeArrival, weightedDelay, Same}
+use Rattle.rules.specs.Statement.Delay.{due, weightedDelay, Same}
 use Rattle.rules.specs.Statement.OrderLists.{lanesOf}
 use Rattle.rules.specs.Lists.Orders.{listsOn, orderList, orderLists}
 use Rattle.rules.specs.Lists.LanesLaws.{test-lane}
@@ -61,7 +61,7 @@ module _ (l : Line) (m m′ : List ℕ) (s : Same l m m′) where
 
     pub delay-same : weightedDelay l m ≡ weightedDelay l m′
     unfolding weightedDelay
-    delay-same = sum-same _ _ (l .traffic .«train_count») (λ i n. ap (λ (x : ℕ). train l i .weight * (x - freeArrival l i)) (last-same i n))
+    delay-same = sum-same _ _ (l .traffic .«train_count») (λ i n. ap (λ (x : ℕ). train l i .weight * (x - due l i)) (last-same i n))
 
     list-same : (p : ℕ) → p < 11 → (lane : Lane) → orderList l m p lane ≡ orderList l m′ p lane
     unfolding orderList

@@ -4,7 +4,7 @@ use Prim.Native.Nat.{_-_, _%_, _≤_}
 use mathlib.Core.Path.{_∙_}
 use mathlib.Core.Logic.{⊎-elim}
 use native.Mathlib.Omega.{arith}
-use Rattle.orders.specs.LineTables.FillLaws.{Begun, begun-none, begun-more}
+use Rattle.finite.specs.FillLaws.{Begun, begun-none, begun-more}
 use Rattle.orders.specs.Graph.LegsLaws.{leg-is, leg-not}
 use Rattle.orders.specs.LeastMinutes.FirstPlan.{freeEntry}
 use Rattle.orders.specs.LeastMinutes.FirstPlanLaws.{minute-none, minutes-made}

@@ -5,7 +5,7 @@ use mathlib.Core.Logic.{⊎-elim}
 use native.Mathlib.Omega.{arith}
 use borrow.Author.Needs.{needs}
 use Rattle.orders.specs.LineTables.Tables.{tableSize, tableEntry}
-use Rattle.orders.specs.LineTables.FillLaws.{Begun, begun-none, begun-more}
+use Rattle.finite.specs.FillLaws.{Begun, begun-none, begun-more}
 use Rattle.orders.specs.LineTables.TablesLaws.{segment-is, no-segment-is, segments-first}
 use Rattle.orders.proofs.tables.segment_tables.Statement.{statement}
 use Rattle.orders.proofs.tables.segment_tables.Tie as tie

@@ -6,7 +6,7 @@ use mathlib.Core.Logic.{⊎-elim}
 use native.Mathlib.Omega.{arith}
 use borrow.Author.Needs.{needs}
 use Rattle.orders.specs.LineTables.Tables.{tableSize, tableEntry}
-use Rattle.orders.specs.LineTables.FillLaws.{Begun, begun-more}
+use Rattle.finite.specs.FillLaws.{Begun, begun-more}
 use Rattle.orders.specs.Graph.LegsLaws.{leg-is, leg-not}
 use Rattle.orders.specs.LineTables.TablesLaws.{no-leg-is, legs-later, tables-made}
 use Rattle.orders.proofs.tables.tables_of.Statement.{statement}

@@ -1,7 +1,7 @@
 -- `rules::delay::delay_by` meets its contract. The invariant: the total is the sum of the terms of the trains before i; each is at most 99 times 65,535,
 -- so it fits. Assumes nothing.
-use Prim.Native.Nat.{ℕ, _-_, _*_, _≤_}
-use mathlib.Core.Path.{_≡_, sym, _∙_, ap}
+use Prim.Native.Nat.{_-_, _*_, _≤_}
+use mathlib.Core.Path.{_≡_, sym, _∙_}
 use mathlib.Core.Logic.{⊎-elim}
 use native.Mathlib.Nat.{mul-le-mul}
 use native.Mathlib.Omega.{arith}
@@ -12,16 +12,17 @@ use Rattle.finite.specs.Below.{sum}
 use Rattle.line.specs.Runnable.{TrainRunnable}
 use Rattle.rules.specs.Statement.Paths.{train, Routed}
 use Rattle.rules.specs.StatementLaws.PathsLaws.{train-runnable, routed-runnable, legs-few}
-use Rattle.rules.specs.Statement.Delay.{freeAfter}
-use Rattle.rules.specs.Check.RulesLaws.{sum-next, cost, cost-start, cost-late, cost-none, cost-end}
+use Rattle.rules.specs.Check.Dues.{costBy}
+use Rattle.rules.specs.Check.RulesLaws.{sum-next}
+use Rattle.rules.specs.Check.DuesLaws.{cost-start, cost-late, cost-none, cost-end}
 use Rattle.rules.proofs.delay.delay_by.Statement.{statement}
 use Rattle.rules.proofs.delay.delay_by.Tie as tie
 
 abbrev Inv-loop : tie.InvT-loop
-Inv-loop line floors m trains n total₀ i₀ total i = (i ≤ n) × (total ≡ sum (cost line m) i) × (total ≤ 6487965 * i)
+Inv-loop dues m trains n total₀ i₀ total i = (i ≤ n) × (total ≡ sum (costBy trains dues m) i) × (total ≤ 6487965 * i)
 
 abbrev μ-loop : tie.MeasureT-loop
-μ-loop line floors m trains n total₀ i₀ total i = n - i
+μ-loop dues m trains n total₀ i₀ total i = n - i
 
 -- the train of this turn, which can be run
 runnable : (c : tie.After-train Inv-loop μ-loop) →
@@ -46,7 +47,7 @@ cast-n c = search needs
 loop-holds : tie.Need-loop-holds Inv-loop μ-loop
 loop-holds c =
     let a = c .before .before .before .before .before in
-    (omega arith, cost-start (a .args .line) (now (a .args .m)), omega arith)
+    (omega arith, cost-start (a .args .line .traffic .trains) (now (a .args .dues)) (now (a .args .m)), omega arith)
 
 mul-train : tie.Need-mul-train Inv-loop μ-loop
 mul-train c = search needs
@@ -72,10 +73,13 @@ arrival-of-requires c κs =
 wide-requires : tie.Need-wide-requires Inv-loop μ-loop
 wide-requires c κs = search needs
 
-free-after-requires : tie.Need-free-after-requires Inv-loop μ-loop
-free-after-requires c κs =
-    let a = c .before .before .before .before .before .before .before .before .before .before .before in
-    (a .pre .0, a .pre .1, c .before .before .before .before .loop-test .taken, omega (arith, c .before .before .legs-between .ensures, legs-few _ (path (c .before .before .before))))
+mul-wide : tie.Need-mul-wide Inv-loop μ-loop
+mul-wide c = search needs
+
+shared-slice-read-wide : tie.Need-shared-slice-read-wide Inv-loop μ-loop
+shared-slice-read-wide c =
+    let a = c .before .before .before .before .before .before .before .before .before .before .before .before in
+    omega (arith, a .pre .1 .size, a .pre .0 .trains .1, c .before .before .before .before .before .loop-test .taken)
 
 wide-requires-2 : tie.Need-wide-requires-2 Inv-loop μ-loop
 wide-requires-2 c κs = search needs
@@ -107,24 +111,25 @@ loop-again c =
     let here = c .before .before .before .before .before .before .before .loop-test .taken in
     let last = c .before .before .before .wide .ensures .0 ∙ c .before .before .before .before .arrival-of .ensures in
     let legs = c .before .before .before .before .before .legs-between .ensures in
-    let free = c .before .wide2 .ensures .0 ∙ c .before .before .free-after .ensures ∙ ap (λ (k : ℕ). freeAfter (a .args .line) (i .i) (k - 1)) legs in
+    let due = c .before .wide2 .ensures .0 in
+    let trains = a .args .line .traffic .trains in
     ⊎-elim
     (λ w.
-    let late = cost-late (a .args .line) (now (a .args .m)) (i .i) legs last free (w .1 .ensures .0) in (
+    let late = cost-late trains (now (a .args .dues)) (now (a .args .m)) (i .i) legs last due (w .1 .ensures .0) in (
       omega (arith, here),
-      w .2 ∙ sum-next (cost (a .args .line) (now (a .args .m))) (i .i) (i .inv .1) late,
+      w .2 ∙ sum-next (costBy trains (now (a .args .dues)) (now (a .args .m))) (i .i) (i .inv .1) late,
       omega (arith, w .2, i .inv .2, most (record { before = record { before = c .before; if1 = w .0 }; wide3 = w .1 })),
     ))
     (λ w.
-    let none = cost-none (a .args .line) (now (a .args .m)) (i .i) legs last free (w .0 .left) in
-    let next = sum-next (cost (a .args .line) (now (a .args .m))) (i .i) (i .inv .1) none in
+    let none = cost-none trains (now (a .args .dues)) (now (a .args .m)) (i .i) legs last due (w .0 .left) in
+    let next = sum-next (costBy trains (now (a .args .dues)) (now (a .args .m))) (i .i) (i .inv .1) none in
     (omega (arith, here), omega (arith, w .1, next), omega (arith, w .1, i .inv .2)))
     (c .if1 .came)
 
 returns : tie.Need-returns Inv-loop μ-loop
 returns c =
     let a = c .before .before .before .before .before .before .before in
-    cost-end (a .args .line) (now (a .args .m)) (c .before .loop .inv .1) (omega arith)
+    cost-end (a .args .line) (now (a .args .dues)) (now (a .args .m)) (a .pre .1) (c .before .loop .inv .1) (omega arith)
 
 pub delay-by-spec : {M : Type 1} → statement M
 delay-by-spec =
@@ -140,7 +145,8 @@ delay-by-spec =
     sub-last
     arrival-of-requires
     wide-requires
-    free-after-requires
+    mul-wide
+    shared-slice-read-wide
     wide-requires-2
     wide-requires-3
     sub-total
