@@ -6,8 +6,8 @@ ghost use lib.ListN.{length};
 ghost use Rattle.line.specs.Record.{legsOf};
 ghost use Rattle.line.specs.Runnable.{Runnable};
 ghost use Rattle.rules.specs.Statement.Paths.{legs, legOn, Uses, Routed};
-ghost use Rattle.rules.specs.Check.Floors.{Floors};
-ghost use Rattle.orders.specs.LineTables.Tables.{tableSize, sharedIn, followingIn, opposingIn, runIn, stopIn, nextIn, limitIn, weightIn, freeIn, restIn, lastIn, nextLeg, lastLeg, restOf, stopAfter, limitOf, noLegValue, shares, segmentValue, legEntry, tableEntry, tablesOf};
+ghost use Rattle.rules.specs.Check.Dues.{Dues};
+ghost use Rattle.orders.specs.LineTables.Tables.{tableSize, sharedIn, followingIn, opposingIn, runIn, stopIn, nextIn, limitIn, weightIn, dueIn, restIn, lastIn, nextLeg, lastLeg, restOf, stopAfter, limitOf, noLegValue, shares, segmentValue, legEntry, tableEntry, tablesOf};
 ghost use Rattle.orders.specs.Graph.LegsLaws.{Leg};
 ghost use Rattle.finite.specs.FillLaws.{Begun};
 use line::Kind;
@@ -16,7 +16,7 @@ use line::Segment;
 use line::Train;
 use line::legs_between;
 use rules::bookings::floors_of;
-use rules::delay::free_after;
+use rules::delay::dues_of;
 use rules::directions::directions_of;
 use rules::rules::segment_between;
 
@@ -66,9 +66,9 @@ pub fn weight_at(t: &Tables, e: usize) -> u16
     t[752 + e]
 }
 
-pub fn free_at(t: &Tables, e: usize) -> u16
+pub fn due_at(t: &Tables, e: usize) -> u16
     requires { ⌜ (length (now t) ≡ tableSize) × (e < 176) ⌝ }
-    ensures { λ r. ⌜ r ≡ freeIn (now (t .entry)) e ⌝ }
+    ensures { λ r. ⌜ r ≡ dueIn (now (t .entry)) e ⌝ }
 {
     t[928 + e]
 }
@@ -198,8 +198,8 @@ fn limit_of(line: Line, i: usize, k: usize) -> u16
 }
 
 // Entry e of table n of legs, where it is a leg of a train.
-fn leg_entry(n: usize, line: Line, floors: &[u16], e: usize) -> u16
-    requires { ⌜ Runnable line × Floors line (now floors) × (n < 8) × (e < 176) × Leg line e ⌝ }
+fn leg_entry(n: usize, line: Line, dues: &[u16], e: usize) -> u16
+    requires { ⌜ Runnable line × Dues line (now dues) × (n < 8) × (e < 176) × Leg line e ⌝ }
     ensures { λ r. ⌜ r ≡ legEntry line n e ⌝ }
 {
     let i = e % 16;
@@ -232,7 +232,7 @@ fn leg_entry(n: usize, line: Line, floors: &[u16], e: usize) -> u16
     if n == 4 {
         return train.weight;
     }
-    free_after(line, floors, i, k)
+    dues[i]
 }
 
 // Entry e of table n of legs, where it is no train's leg.
@@ -302,6 +302,7 @@ pub fn tables_of(line: Line) -> Tables
 {
     let ds = directions_of(line);
     let floors = floors_of(line);
+    let dues = dues_of(line, &floors);
     let mut table = segment_tables(line);
     let mut x: usize = 48;
     while x < TABLE_SIZE {
@@ -309,7 +310,7 @@ pub fn tables_of(line: Line) -> Tables
         let e = (x - 48) % 176;
         let mut entry = no_leg_entry(n, e);
         if ds[e] != 0 {
-            entry = leg_entry(n, line, &floors, e);
+            entry = leg_entry(n, line, &dues, e);
         }
         table[x] = entry;
         x = x + 1;

@@ -7,7 +7,7 @@ ghost use lib.ListN.{length};
 ghost use Rattle.orders.specs.LineTables.Tables.{tableSize, weightIn};
 ghost use Rattle.orders.specs.Raise.LegTimes.{Departs, Arrives, SourceRises, moreCost};
 use crate::tables::Tables;
-use crate::tables::free_at;
+use crate::tables::due_at;
 use crate::tables::weight_at;
 
 // The departure of a leg that departs at d: it is to depart at v and to arrive at w, or later.
@@ -81,12 +81,12 @@ pub fn more_cost(t: &Tables, e: usize, from: u16, to: u16) -> u32
     if weight == 0 {
         return 0;
     }
-    let free = free_at(t, e);
-    if to <= free {
+    let due = due_at(t, e);
+    if to <= due {
         return 0;
     }
-    if from < free {
-        return wide(weight) * wide(to - free);
+    if from < due {
+        return wide(weight) * wide(to - due);
     }
     wide(weight) * wide(to - from)
 }

@@ -16,10 +16,10 @@ use Rattle.line.specs.Within.{TrainArrays, Arrays}
 use Rattle.line.specs.Runnable.{heldStop, Runnable}
 use Rattle.rules.specs.Statement.Paths.{pastTrain, train, segmentCount, segment, legs, runOf, stopOf, segmentOf, Routed}
 use Rattle.rules.specs.Statement.Minutes.{departs}
-use Rattle.rules.specs.Statement.Delay.{freeArrival}
+use Rattle.rules.specs.Statement.Delay.{due}
 use Rattle.rules.specs.StatementLaws.PathsLaws.{segment-within, train-runnable, routed, legs-few, uses-leg, leg-uses, leg-back}
 use Rattle.orders.specs.Graph.LegsLaws.{Leg, leg-test, train-leg}
-use Rattle.orders.specs.LineTables.Tables.{legTable, tableSize, runIn, stopIn, nextIn, limitIn, weightIn, freeIn, restIn, lastIn, sharedIn, followingIn, opposingIn, isLast, restAfter, limitOf, legValue, noLegValue, shares, segmentValue, onLeg, legEntry, segmentEntry, tablesOf}
+use Rattle.orders.specs.LineTables.Tables.{legTable, tableSize, runIn, stopIn, nextIn, limitIn, weightIn, dueIn, restIn, lastIn, sharedIn, followingIn, opposingIn, isLast, restAfter, limitOf, legValue, noLegValue, shares, segmentValue, onLeg, legEntry, segmentEntry, tablesOf}
 use Rattle.orders.specs.LineTables.TablesLaws.{no-segment-is, segments-first, legs-later}
 
 -- ---- one list of tables
@@ -137,8 +137,8 @@ module _ (l : Line) (w : Runnable l) (r : Arrays l) where
       pub weight-last : weightIn (tablesOf l) e ≡ train l i .weight
       weight-last = leg-value 4 i k (omega arith) b h ∙ rw last refl
 
-      pub free-last : freeIn (tablesOf l) e ≡ freeArrival l i
-      free-last = leg-value 5 i k (omega arith) b h ∙ rw last refl
+      pub due-last : dueIn (tablesOf l) e ≡ due l i
+      due-last = leg-value 5 i k (omega arith) b h ∙ rw last refl
 
   -- no weight where no train has its last leg
   pub weight-else : (e : ℕ) → e < 176 → ((i k : ℕ) → i < l .traffic .«train_count» → k + 1 ≡ legs l i → e ≡ departs (segmentOf (train l i) k) i → ⊥) →

@@ -13,7 +13,7 @@ use Rattle.line.specs.declared.Line.{Line}
 use Rattle.line.specs.Record.{legsOf}
 use Rattle.rules.specs.Statement.Paths.{train, segmentCount, segment, runOf, stopOf, legs, segmentOf, legOn}
 use Rattle.rules.specs.Conflict.Directions.{usesBetween}
-use Rattle.rules.specs.Statement.Delay.{freeArrival}
+use Rattle.rules.specs.Statement.Delay.{due}
 
 -- ---- by entry
 
@@ -48,12 +48,12 @@ nextIn t e = getD t (legTable 2 + e) 0
 abbrev pub limitIn : List ℕ → ℕ → ℕ
 limitIn t e = getD t (legTable 3 + e) 0
 
--- at a train's last leg its weight and its free arrival, else 0
+-- at a train's last leg its weight and its due minute, else 0
 abbrev pub weightIn : List ℕ → ℕ → ℕ
 weightIn t e = getD t (legTable 4 + e) 0
 
-abbrev pub freeIn : List ℕ → ℕ → ℕ
-freeIn t e = getD t (legTable 5 + e) 0
+abbrev pub dueIn : List ℕ → ℕ → ℕ
+dueIn t e = getD t (legTable 5 + e) 0
 
 -- the runs and stops of the train after the leg (0 at its last), the train's last leg
 abbrev pub restIn : List ℕ → ℕ → ℕ
@@ -64,7 +64,7 @@ lastIn t e = getD t (legTable 7 + e) 0
 
 -- what the minutes cost by these tables
 unfoldable pub costIn : List ℕ → List ℕ → ℕ
-costIn t m = sum (λ e. weightIn t e * (getD m (176 + e) 0 - freeIn t e)) 176
+costIn t m = sum (λ e. weightIn t e * (getD m (176 + e) 0 - dueIn t e)) 176
 
 -- ---- of a leg
 
@@ -104,7 +104,7 @@ legValue (suc zero) l e i k = stopAfter l i k
 legValue (suc (suc zero)) l e i k = nextLeg e (train l i) k
 legValue (suc (suc (suc zero))) l e i k = limitOf l i k
 legValue (suc (suc (suc (suc zero)))) l e i k = atLast l (λ j. train l j .weight) i k
-legValue (suc (suc (suc (suc (suc zero))))) l e i k = atLast l (freeArrival l) i k
+legValue (suc (suc (suc (suc (suc zero))))) l e i k = atLast l (due l) i k
 legValue (suc (suc (suc (suc (suc (suc zero)))))) l e i k = restAfter l i k
 legValue (suc (suc (suc (suc (suc (suc (suc n))))))) l e i k = lastLeg e (train l i)
 

@@ -15,7 +15,7 @@ use Rattle.line.specs.Record.{legsOf}
 use Rattle.line.specs.Runnable.{Runnable}
 use Rattle.rules.specs.Statement.Paths.{train, segmentCount, segment, runOf, stopOf, legs, segmentOf, legOn, Uses, Routed}
 use Rattle.rules.specs.StatementLaws.PathsLaws.{run-most, stop-most}
-use Rattle.rules.specs.Statement.Delay.{freeAfter, freeArrival}
+use Rattle.rules.specs.Statement.Delay.{due}
 use Rattle.orders.specs.Graph.LegsLaws.{Leg, leg-test}
 use Rattle.orders.specs.LineTables.Tables.{tableSize, nextLeg, lastLeg, restOf, stopAfter, restAfter, limitOf, atLast, legValue, noLegValue, shares, segmentValue, legEntry, segmentEntry, tableEntry, tablesOf}
 use Rattle.finite.specs.FillLaws.{Begun, begun-all}
@@ -115,17 +115,15 @@ module _ (l : Line) (e n k : ℕ) (leg : Leg l e) (here : k ≡ legOn (train l (
   unfolding legEntry
   entry-of j q h = h ∙ rw (is-true (leg-test l e) leg, q, here) refl
 
-  -- only at the last leg are a weight and a free arrival
+  -- only at the last leg are a weight and a due minute
   pub entry-middle : 4 ≤ n → n < 6 → k + 1 < legs l (e % 16) → 0 ≡ legEntry l n e
   entry-middle low high b = elim (decLt n 5) [
     | yes h ↦ entry-of 4 (omega arith) (not-last l (e % 16) k (λ j. train l j .weight) b)
-    | no h ↦ entry-of 5 (omega arith) (not-last l (e % 16) k (freeArrival l) b)
+    | no h ↦ entry-of 5 (omega arith) (not-last l (e % 16) k (due l) b)
   ]
 
-  pub entry-free : n ≡ 5 → k + 1 ≡ legs l (e % 16) → freeAfter l (e % 16) k ≡ legEntry l n e
-  entry-free q b =
-      let last : k ≡ legs l (e % 16) - 1 = omega arith in
-      ap (freeAfter l (e % 16)) last ∙ entry-of 5 q (at-last l (e % 16) k (freeArrival l) b)
+  pub entry-due : n ≡ 5 → k + 1 ≡ legs l (e % 16) → due l (e % 16) ≡ legEntry l n e
+  entry-due q b = entry-of 5 q (at-last l (e % 16) k (due l) b)
 
 -- ---- and where none is
 

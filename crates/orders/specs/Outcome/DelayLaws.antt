@@ -16,13 +16,13 @@ use Rattle.rules.specs.Statement.Minutes.{departs}
 use Rattle.rules.specs.Statement.Delay.{delay, weightedDelay}
 use Rattle.rules.specs.Check.RulesLaws.{cost, cost-sum}
 use Rattle.rules.specs.StatementLaws.PathsLaws.{routed, legs-few, segment-below}
-use Rattle.orders.specs.LineTables.Tables.{weightIn, freeIn, costIn, tablesOf}
-use Rattle.orders.specs.LineTables.TableLegsLaws.{weight-last, free-last, weight-else}
+use Rattle.orders.specs.LineTables.Tables.{weightIn, dueIn, costIn, tablesOf}
+use Rattle.orders.specs.LineTables.TableLegsLaws.{weight-last, due-last, weight-else}
 
 module _ (l : Line) (w : Runnable l) (r : Arrays l) (m : List ℕ) where
   -- the cost of leg e
   abbrev legCost : ℕ → ℕ
-  legCost e = weightIn (tablesOf l) e * (getD m (176 + e) 0 - freeIn (tablesOf l) e)
+  legCost e = weightIn (tablesOf l) e * (getD m (176 + e) 0 - dueIn (tablesOf l) e)
 
   -- that of train i, over its 11 possible legs
   abbrev trainCost : ℕ → ℕ
@@ -45,7 +45,7 @@ module _ (l : Line) (w : Runnable l) (r : Arrays l) (m : List ℕ) where
       let inside : k < legs l i = omega arith in
       sum-only (λ p. legCost (departs p i)) 11 (segmentOf (train l i) k) (segment-below (train l i) path k inside)
       (λ p low other. no-cost _ (weight-else l w r _ (omega (arith, w .trains .1)) (λ j x b end q. other (same-end j x b end p q)))) ∙
-      rw (weight-last l w r i k n inside last, free-last l w r i k n inside last) refl
+      rw (weight-last l w r i k n inside last, due-last l w r i k n inside last) refl
     where
       -- train i has one last leg
       same-end : (j x : ℕ) → j < l .traffic .«train_count» → x + 1 ≡ legs l j → (p : ℕ) → departs p i ≡ departs (segmentOf (train l j) x) j →

@@ -9,7 +9,7 @@ use Rattle.finite.specs.Below.{EachBelow}
 use Rattle.finite.specs.BelowLaws.{sum-grows, sum-most}
 use Rattle.finite.specs.SumsLaws.{sum-one}
 use Rattle.orders.specs.LeastMinutes.NoLater.{_⊑_, WithinDays}
-use Rattle.orders.specs.LineTables.Tables.{weightIn, freeIn, costIn}
+use Rattle.orders.specs.LineTables.Tables.{weightIn, dueIn, costIn}
 use Rattle.orders.specs.Raise.LegTimes.{moreCost}
 
 pub cost-grows : (t m y : List ℕ) → m ⊑ y → costIn t m ≤ costIn t y
@@ -29,5 +29,5 @@ pub cost-one : (t m n : List ℕ) (e a b : ℕ) → e < 176 → getD m (176 + e)
 unfolding costIn
 cost-one t m n e a b l p q h o =
     sum-one _ _ e (moreCost t e a b) 176 l
-    (rw (p, q) (term (weightIn t e) (a - freeIn t e) (b - freeIn t e) (omega arith)))
-    (λ i _ d. ap (λ (x : ℕ). weightIn t i * (x - freeIn t i)) (o (176 + i) (λ z. d (omega arith)) (omega arith)))
+    (rw (p, q) (term (weightIn t e) (a - dueIn t e) (b - dueIn t e) (omega arith)))
+    (λ i _ d. ap (λ (x : ℕ). weightIn t i * (x - dueIn t i)) (o (176 + i) (λ z. d (omega arith)) (omega arith)))

@@ -6,7 +6,7 @@ use mathlib.Core.Bool.{Bool, true, false, cond}
 use mathlib.Core.List.{List}
 use lib.ListN.{length, getD}
 use Rattle.orders.specs.LeastMinutes.NoLater.{WithinDays}
-use Rattle.orders.specs.LineTables.Tables.{tableSize, weightIn, freeIn, followingIn, opposingIn}
+use Rattle.orders.specs.LineTables.Tables.{tableSize, weightIn, dueIn, followingIn, opposingIn}
 use Rattle.orders.specs.Graph.LegGraph.{doubled, gapIn}
 
 -- r is the least departure, no earlier than d and v, from which the run arrives at w or later
@@ -30,7 +30,7 @@ pub record SourceRises (src e d departure a arrival : ℕ) (r : Bool) : Type 0 w
 
 -- what it costs more that leg e arrives at b and not at a
 abbrev pub moreCost : List ℕ → ℕ → ℕ → ℕ → ℕ
-moreCost t e a b = weightIn t e * ((b - freeIn t e) - (a - freeIn t e))
+moreCost t e a b = weightIn t e * ((b - dueIn t e) - (a - dueIn t e))
 
 -- ---- train j behind the train of leg e
 

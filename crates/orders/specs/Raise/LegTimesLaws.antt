@@ -9,7 +9,7 @@ use native.Mathlib.Omega.{arith}
 use lib.Dec.{eqb}
 use lib.ListN.{length, getD, List·getD-eq-default}
 use Rattle.finite.specs.DecideLaws.{decides-eq, is-true, is-false}
-use Rattle.orders.specs.LineTables.Tables.{runIn, weightIn, freeIn, sharedIn, followingIn, opposingIn}
+use Rattle.orders.specs.LineTables.Tables.{runIn, weightIn, dueIn, sharedIn, followingIn, opposingIn}
 use Rattle.orders.specs.Graph.LegGraph.{wayIn, beside, stationOf, comesOn}
 use Rattle.orders.specs.Raise.LegTimes.{Departs, Arrives, moreCost, GoesBehind, sourceOf}
 
@@ -52,13 +52,13 @@ module _ (t ds : List ℕ) (e j : ℕ) where
 
 module _ (t : List ℕ) (e a b : ℕ) where
   pub more-none : (w : ℕ) → w ≡ weightIn t e → w ≡ 0 → 0 ≡ moreCost t e a b
-  more-none w p q = sym (ap (λ (n : ℕ). n * ((b - freeIn t e) - (a - freeIn t e))) (sym p ∙ q) ∙ zero-mul _)
+  more-none w p q = sym (ap (λ (n : ℕ). n * ((b - dueIn t e) - (a - dueIn t e))) (sym p ∙ q) ∙ zero-mul _)
 
-  pub more-early : b ≤ freeIn t e → 0 ≡ moreCost t e a b
-  more-early p = sym (ap (λ (n : ℕ). weightIn t e * n) (let z : (b - freeIn t e) - (a - freeIn t e) ≡ 0 = omega arith in z) ∙ mul-zero (weightIn t e))
+  pub more-early : b ≤ dueIn t e → 0 ≡ moreCost t e a b
+  more-early p = sym (ap (λ (n : ℕ). weightIn t e * n) (let z : (b - dueIn t e) - (a - dueIn t e) ≡ 0 = omega arith in z) ∙ mul-zero (weightIn t e))
 
   -- by factors that the program multiplies
-  pub more-is : (w d x y : ℕ) → x ≡ w → w ≡ weightIn t e → y ≡ d → d ≡ (b - freeIn t e) - (a - freeIn t e) → x * y ≡ moreCost t e a b
+  pub more-is : (w d x y : ℕ) → x ≡ w → w ≡ weightIn t e → y ≡ d → d ≡ (b - dueIn t e) - (a - dueIn t e) → x * y ≡ moreCost t e a b
   more-is w d x y p q r s = ap (λ (n : ℕ). n * y) (p ∙ q) ∙ ap (λ (n : ℕ). weightIn t e * n) (r ∙ s)
 
   pub more-most : weightIn t e ≤ 99 → b ≤ 2879 → moreCost t e a b ≤ 285021

@@ -6,7 +6,7 @@ use borrow.Author.Needs.{needs}
 use Rattle.rules.specs.Statement.Paths.{train}
 use Rattle.rules.specs.StatementLaws.PathsLaws.{legs-most}
 use Rattle.orders.specs.Graph.LegsLaws.{leg-path}
-use Rattle.orders.specs.LineTables.TablesLaws.{rest-after, at-last, entry-of, entry-middle, entry-free}
+use Rattle.orders.specs.LineTables.TablesLaws.{rest-after, at-last, entry-of, entry-middle, entry-due}
 use Rattle.orders.proofs.tables.leg_entry.Statement.{statement}
 use Rattle.orders.proofs.tables.leg_entry.Tie as tie
 
@@ -105,15 +105,20 @@ returns-8 c =
     (omega (arith, c .before .if7 .left, c .before .before .before .before .legs-between .ensures, c .before .before .before .before .before .before .before .before .before .leg-on .ensures .1)) in
     entry-of (a .args .line) (a .args .e) _ _ (a .pre .4) (c .before .before .before .before .before .before .before .before .before .leg-on .ensures .0) 4 (c .if8 .taken) last
 
-free-after-requires : tie.Need-free-after-requires
-free-after-requires c κs = search needs
+mul-result-2 : tie.Need-mul-result-2
+mul-result-2 c = search needs
+
+shared-slice-read-result : tie.Need-shared-slice-read-result
+shared-slice-read-result c =
+    let a = c .before .before .before .before .before .before .before .before .before .before .before .before .before .before in
+    omega (arith, a .pre .1 .size, a .pre .4 .0, a .pre .0 .trains .1)
 
 returns-9 : tie.Need-returns-9
 returns-9 c =
     let a = c .before .before .before .before .before .before .before .before .before .before .before .before .before .before in
     let four : 4 ≤ a .args .n = omega (arith, c .before .before .before .before .before .before .if4 .left, c .before .before .before .before .before .before .before .if3 .left, c .before .before .before .before .before .before .before .before .if2 .left, c .before .before .before .before .before .before .before .before .before .if1 .left) in
     let six : a .args .n < 6 = omega (arith, a .pre .2, c .before .before .before .before .if5 .left, c .before .before .before .if6 .left) in
-    c .free-after .ensures ∙ entry-free (a .args .line) (a .args .e) _ _ (a .pre .4) (c .before .before .before .before .before .before .before .before .before .before .leg-on .ensures .0) (omega (arith, four, six, c .before .if8 .left))
+    a .pre .1 .entries _ (a .pre .4 .0) ∙ entry-due (a .args .line) (a .args .e) _ _ (a .pre .4) (c .before .before .before .before .before .before .before .before .before .before .leg-on .ensures .0) (omega (arith, four, six, c .before .if8 .left))
     (omega (arith, c .before .before .if7 .left, c .before .before .before .before .before .legs-between .ensures, c .before .before .before .before .before .before .before .before .before .before .leg-on .ensures .1))
 
 pub leg-entry-spec : {M : Type 1} → statement M
@@ -141,5 +146,6 @@ leg-entry-spec =
     returns-6
     returns-7
     returns-8
-    free-after-requires
+    mul-result-2
+    shared-slice-read-result
     returns-9)

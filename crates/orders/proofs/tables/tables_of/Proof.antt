@@ -13,16 +13,22 @@ use Rattle.orders.proofs.tables.tables_of.Statement.{statement}
 use Rattle.orders.proofs.tables.tables_of.Tie as tie
 
 abbrev Inv-loop : tie.InvT-loop
-Inv-loop line ds floors table₀ x₀ table x = (48 ≤ x) × (x ≤ tableSize) × Begun (tableEntry line) tableSize x table
+Inv-loop line ds dues table₀ x₀ table x = (48 ≤ x) × (x ≤ tableSize) × Begun (tableEntry line) tableSize x table
 
 abbrev μ-loop : tie.MeasureT-loop
-μ-loop line ds floors table₀ x₀ table x = tableSize - x
+μ-loop line ds dues table₀ x₀ table x = tableSize - x
 
 directions-of-requires : tie.Need-directions-of-requires Inv-loop μ-loop
 directions-of-requires c κs = c .pre .trains .1
 
 floors-of-requires : tie.Need-floors-of-requires Inv-loop μ-loop
 floors-of-requires c κs = search needs
+
+slice-aggregate-dues-of : tie.Need-slice-aggregate-dues-of Inv-loop μ-loop
+slice-aggregate-dues-of c = search needs
+
+dues-of-requires : tie.Need-dues-of-requires Inv-loop μ-loop
+dues-of-requires c κs = (c .before .before .before .pre, c .before .floors-of .ensures)
 
 segment-tables-requires : tie.Need-segment-tables-requires Inv-loop μ-loop
 segment-tables-requires c κs = search needs
@@ -50,11 +56,11 @@ slice-aggregate-leg-entry c = search needs
 
 leg-entry-requires : tie.Need-leg-entry-requires Inv-loop μ-loop
 leg-entry-requires c κs =
-    let a = c .before .before .before .before .before .before .before .before in
+    let a = c .before .before .before .before .before .before .before .before .before .before in
     let w = c .before .before .before .before in
     let x = w .loop .x in
-    let leg = leg-is (a .args .line) ((x - 48) % 176) _ (a .pre .trains .1) (omega arith) (w .before .before .before .directions-of .ensures) (c .before .if1 .taken) in
-    (a .pre, w .before .before .floors-of .ensures, omega (arith, c .before .before .before .loop-test .taken), omega arith, leg)
+    let leg = leg-is (a .args .line) ((x - 48) % 176) _ (a .pre .trains .1) (omega arith) (w .before .before .before .before .before .directions-of .ensures) (c .before .if1 .taken) in
+    (a .pre, w .before .before .dues-of .ensures, omega (arith, c .before .before .before .loop-test .taken), omega arith, leg)
 
 mul-table : tie.Need-mul-table Inv-loop μ-loop
 mul-table c = search needs
@@ -70,7 +76,7 @@ loop-less c = search needs
 
 loop-again : tie.Need-loop-again Inv-loop μ-loop
 loop-again c =
-    let a = c .before .before .before .before .before .before .before in
+    let a = c .before .before .before .before .before .before .before .before .before in
     let l = a .args .line in
     let w = c .before .before .before .loop in
     let n = (w .x - 48) / 176 in
@@ -79,7 +85,7 @@ loop-again c =
     let entry = ⊎-elim
     (λ h. h .3 ∙ h .2 .ensures ∙ here)
     (λ h. h .1 ∙ c .before .no-leg-entry .ensures ∙
-    no-leg-is l n e (leg-not l e _ (a .pre .trains .1) (omega arith) (c .before .before .before .before .before .before .directions-of .ensures) (h .0 .left)) ∙ here)
+    no-leg-is l n e (leg-not l e _ (a .pre .trains .1) (omega arith) (c .before .before .before .before .before .before .before .before .directions-of .ensures) (h .0 .left)) ∙ here)
     (c .if1 .came) in (
       omega (arith, w .inv .0),
       omega (arith, c .before .before .loop-test .taken),
@@ -97,6 +103,8 @@ tables-of-spec =
     μ-loop
     directions-of-requires
     floors-of-requires
+    slice-aggregate-dues-of
+    dues-of-requires
     segment-tables-requires
     loop-holds
     sub-n

@@ -1,4 +1,4 @@
--- `orders::times::more_cost` meets its contract: only the minutes past the free arrival count.
+-- `orders::times::more_cost` meets its contract: only the minutes past the due minute count.
 use native.Mathlib.Omega.{arith}
 use borrow.Author.Needs.{needs}
 use Rattle.orders.specs.Raise.LegTimesLaws.{more-none, more-early, more-is, more-most}
@@ -13,13 +13,13 @@ returns c =
     let a = c .before .before in
     (more-none (a .args .t .now) (a .args .e) (a .args .from) (a .args .to) _ (c .before .weight-at .ensures) (c .if1 .taken), omega arith)
 
-free-at-requires : tie.Need-free-at-requires
-free-at-requires c κs = search needs
+due-at-requires : tie.Need-due-at-requires
+due-at-requires c κs = search needs
 
 returns-2 : tie.Need-returns-2
 returns-2 c =
     let a = c .before .before .before .before in
-    (more-early (a .args .t .now) (a .args .e) (a .args .from) (a .args .to) (omega (arith, c .if2 .taken, c .before .free-at .ensures)), omega arith)
+    (more-early (a .args .t .now) (a .args .e) (a .args .from) (a .args .to) (omega (arith, c .if2 .taken, c .before .due-at .ensures)), omega arith)
 
 wide-requires : tie.Need-wide-requires
 wide-requires c κs = search needs
@@ -38,7 +38,7 @@ mul-result c =
       more-most (a .args .t .now) (a .args .e) (a .args .from) (a .args .to) (a .pre .2) (a .pre .4),
       more-is (a .args .t .now) (a .args .e)
           (a .args .from) (a .args .to) _ _ _ _ (c .before .wide .ensures) (c .before .before .before .before .before .before .weight-at .ensures)
-          (c .wide2 .ensures) (omega (arith, c .before .before .before .before .free-at .ensures)),
+          (c .wide2 .ensures) (omega (arith, c .before .before .before .before .due-at .ensures)),
     )
 
 returns-3 : tie.Need-returns-3
@@ -46,7 +46,7 @@ returns-3 c =
     let a = c .before .before .before .before .before .before .before in
     let is = more-is (a .args .t .now) (a .args .e) (a .args .from) (a .args .to) _ _ _ _ (c .before .wide .ensures)
     (c .before .before .before .before .before .before .weight-at .ensures) (c .wide2 .ensures)
-    (omega (arith, c .before .before .before .before .free-at .ensures)) in
+    (omega (arith, c .before .before .before .before .due-at .ensures)) in
     (is, omega (arith, more-most (a .args .t .now) (a .args .e) (a .args .from) (a .args .to) (a .pre .2) (a .pre .4)))
 
 wide-requires-3 : tie.Need-wide-requires-3
@@ -66,7 +66,7 @@ mul-result-2 c =
       more-most (a .args .t .now) (a .args .e) (a .args .from) (a .args .to) (a .pre .2) (a .pre .4),
       more-is (a .args .t .now) (a .args .e)
           (a .args .from) (a .args .to) _ _ _ _ (c .before .wide3 .ensures) (c .before .before .before .before .before .before .weight-at .ensures)
-          (c .wide4 .ensures) (omega (arith, c .before .before .before .before .free-at .ensures)),
+          (c .wide4 .ensures) (omega (arith, c .before .before .before .before .due-at .ensures)),
     )
 
 returns-4 : tie.Need-returns-4
@@ -74,7 +74,7 @@ returns-4 c =
     let a = c .before .before .before .before .before .before .before in
     let is = more-is (a .args .t .now) (a .args .e) (a .args .from) (a .args .to) _ _ _ _ (c .before .wide3 .ensures)
     (c .before .before .before .before .before .before .weight-at .ensures) (c .wide4 .ensures)
-    (omega (arith, c .before .before .before .before .free-at .ensures)) in
+    (omega (arith, c .before .before .before .before .due-at .ensures)) in
     (is, omega (arith, more-most (a .args .t .now) (a .args .e) (a .args .from) (a .args .to) (a .pre .2) (a .pre .4)))
 
 pub more-cost-spec : {M : Type 1} → statement M
@@ -83,7 +83,7 @@ more-cost-spec =
     (tie.spec
     weight-at-requires
     returns
-    free-at-requires
+    due-at-requires
     returns-2
     wide-requires
     sub-wide

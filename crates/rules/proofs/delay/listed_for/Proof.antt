@@ -48,9 +48,10 @@ loop-less c = search needs
 loop-again : tie.Need-loop-again Inv-loop μ-loop
 loop-again c =
     let w = c .before .before .before .before in
-    let a = w .before in
-    (omega (arith, c .before .before .before .loop-test .taken),
-    found-later (a .args .t1) _ (a .args .i) _ _ (room a) (c .before .before .before .loop-test .taken) (c .if1 .left) ∙ w .loop .inv .1)
+    let a = w .before in (
+      omega (arith, c .before .before .before .loop-test .taken),
+      found-later (a .args .t1) _ (a .args .i) _ _ (room a) (c .before .before .before .loop-test .taken) (c .if1 .left) ∙ w .loop .inv .1,
+    )
 
 returns-2 : tie.Need-returns-2 Inv-loop μ-loop
 returns-2 c =
