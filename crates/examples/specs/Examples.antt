@@ -13,7 +13,7 @@ use Rattle.line.specs.declared.Segment.{Segment}
 use Rattle.line.specs.declared.Train.{Train}
 use Rattle.line.specs.declared.Line.{Line}
 use Rattle.line.specs.declared.writing.Fault.{Fault}
-use Rattle.line.specs.Record.{noSegment, noTrain, noBooking}
+use Rattle.line.specs.Record.{noSegment, noTrain, noBooking, noListed}
 use Rattle.line.specs.Within.{TrainArrays, Arrays}
 use Rattle.line.specs.Writing.{numberFault, linesFault, timesFault, segmentFault, pathFault, headFault, trainFault, bookingFault, risingFault, trackFaultOf, trafficFaultOf, bookedFaultOf, faultOf}
 use Rattle.line.specs.WithinLaws.{within-of}
@@ -21,7 +21,7 @@ use Rattle.rules.specs.declared.rules.Breach.{Breach}
 use Rattle.rules.specs.Statement.Paths.{segmentBetween}
 use Rattle.rules.specs.Statement.Rules.{Lawful, middle}
 use Rattle.rules.specs.Statement.Bookings.{floorOf}
-use Rattle.rules.specs.Statement.Delay.{freeAfter, weightedDelay}
+use Rattle.rules.specs.Statement.Delay.{freeAfter, listedFor, due, weightedDelay}
 use Rattle.rules.specs.Check.Tests.{startsRight, runsRight, stopsRight, bookedRight, endsRight, keepsBy}
 use Rattle.rules.specs.Conflict.Directions.{usesBetween, directionBetween, directionEntry, directionsOf}
 use Rattle.rules.specs.Conflict.Conflicts.{firstConflict, keepsAfter, neitherFirst, clash, partnerOf, pairOn, segmentConflict}
@@ -55,6 +55,7 @@ line-arrays ts gs rs h =
       trains = padded-length 12 noTrain rs;
       each-train = each-padded TrainArrays 12 noTrain rs (refl, refl) h;
       bookings = padded-length 120 noBooking [];
+      dues = padded-length 12 noListed [];
     }
 
 arrays-a : (n x y : ℕ) → Arrays (fileA n x y)
@@ -73,7 +74,7 @@ unfoldable answerOf : Line → BestSoFar
 unfolding
     first all count sum most gather table padded boundedOf
     numberFault linesFault timesFault segmentFault pathFault headFault trainFault bookingFault risingFault trackFaultOf trafficFaultOf bookedFaultOf faultOf
-    segmentBetween middle floorOf freeAfter weightedDelay bookedRight endsRight keepsBy usesBetween directionBetween directionEntry directionsOf
+    segmentBetween middle floorOf freeAfter listedFor due weightedDelay bookedRight endsRight keepsBy usesBetween directionBetween directionEntry directionsOf
     firstConflict keepsAfter neitherFirst clash partnerOf pairOn segmentConflict
     standsIn standingAt earliestCrowd inCrowd crowdMask crowdOn stationConflict conflictOf
     withinDays same next settle pull pullAll bit withBit change free also marked trainArcs chosenArcs arcs rounds least

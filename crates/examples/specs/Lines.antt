@@ -25,7 +25,7 @@ abbrev pub givenTrain : ℕ → ℕ → ℕ → ℕ → ℕ → List ℕ → Lis
 givenTrain o d e l w rs ss =
     record { origin = o; destination = d; earliest = e; latest = l; weight = w; runs = padded 11 0 rs; stops = padded 11 0 ss }
 
--- tracks, segments, trains; no bookings
+-- tracks, segments, trains; no bookings and no dues
 abbrev pub givenLine : List ℕ → List Segment → List Train → Line
 givenLine ts gs rs = lineWith (length ts) (padded 12 0 ts) (padded 11 noSegment gs) (length rs) (padded 12 noTrain rs) []
 

@@ -33,7 +33,7 @@ const LONG: u32 = 30000;
 // After so many it looks ahead at every plan.
 const VERY_LONG: u32 = 1000000;
 
-// How far below the best so far, in thousandths of its delay, a plan must be to look ahead from it.
+// How far below the best so far a plan must be to look ahead from it, in thousandths of what that costs more than the plan without choices.
 fn least_room(steps: u32) -> u32
     ensures { λ r. ⌜ r < 1000 ⌝ }
 {
@@ -67,7 +67,10 @@ fn worth_looking(hint: Hint, score: u32, cost: u32, tally: Tally) -> bool {
     if delay < cost {
         return false;
     }
-    (delay - cost) * 1000 >= least_room(tally.steps) * delay
+    if cost < hint.first {
+        return false;
+    }
+    (delay - cost) * 1000 >= least_room(tally.steps) * (delay - hint.first)
 }
 
 // The scores of the places, each that of its highest scored conflict; 0 where a place has none. The marks are as before.
@@ -183,6 +186,7 @@ fn unscored(plain: Selected) -> Selected
             long: hint.long,
             ahead: true,
             row: hint.row,
+            first: hint.first,
         },
     }
 }

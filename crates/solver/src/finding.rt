@@ -138,7 +138,7 @@ fn search_around(
         key,
         layout,
         c,
-        first_hint(false, 0),
+        first_hint(false, 0, cost),
         NEAR_LIMIT,
         b,
     )
@@ -208,7 +208,7 @@ fn search_anew(
             return b;
         }
         k = k + 1;
-        let hint = first_hint(false, drawn(k) + 1);
+        let hint = first_hint(false, drawn(k) + 1, cost);
         b = search_within(m, best, t, ds, key, layout, cost, hint, ANEW_LIMIT, b);
     }
     b
@@ -237,7 +237,7 @@ fn search_whole(
     ensures { λ r. ⌜ Searches (now (m .entry)) (now (best .entry)) (now (t .entry)) (now (ds .entry)) (now (key .entry)) layout cost 4294967295 tally
         (now (best .exit)) r ⌝ }
 {
-    let short = first_hint(false, 0);
+    let short = first_hint(false, 0, cost);
     let first = search_within(m, best, t, ds, key, layout, cost, short, FIRST_LIMIT, tally);
     if first.steps < FIRST_LIMIT {
         return first;
@@ -265,7 +265,7 @@ fn search_whole(
         SECOND_NEAR,
         second,
     );
-    let long = first_hint(true, 0);
+    let long = first_hint(true, 0, cost);
     let third = search_within(m, best, t, ds, key, layout, cost, long, THIRD_LIMIT, nearer);
     if third.steps < THIRD_LIMIT {
         return third;

@@ -28,13 +28,14 @@ const EVERYWHERE: u32 = 4294967295;
 
 // Hints of which nothing is promised. What a scan may leave out: it begins at place `start`, and at places without a bit in `look` there was no conflict at
 // the former minutes. How a search goes: it may look ahead (`long`), it has done so for the conflict to settle (`ahead`), and its scores and prices are
-// varied by a row of drawn numbers, unless that is 0.
+// varied by a row of drawn numbers, unless that is 0; the plan without choices costs `first`.
 pub struct Hint {
     pub start: usize,
     pub look: u32,
     pub long: bool,
     pub ahead: bool,
     pub row: usize,
+    pub first: u32,
 }
 
 // A conflict and its score.
@@ -51,13 +52,14 @@ pub struct Selected {
 }
 
 // The hint of a search that begins.
-pub fn first_hint(long: bool, row: usize) -> Hint {
+pub fn first_hint(long: bool, row: usize, first: u32) -> Hint {
     Hint {
         start: 0,
         look: EVERYWHERE,
         long,
         ahead: false,
         row,
+        first,
     }
 }
 
@@ -69,6 +71,7 @@ fn hint_from(hint: Hint, start: usize, look: u32) -> Hint {
         long: hint.long,
         ahead: false,
         row: hint.row,
+        first: hint.first,
     }
 }
 
@@ -466,6 +469,7 @@ pub fn select_conflict(
         long: hint.long,
         ahead: false,
         row: next_row(hint.row),
+        first: hint.first,
     };
     let b = highest_scored(m, marks, t, ds, layout, cost, cut, next);
     let conflict = b.conflict;
@@ -477,6 +481,6 @@ pub fn select_conflict(
     Selected {
         conflict: lowest,
         score: 0,
-        hint: first_hint(hint.long, hint.row),
+        hint: first_hint(hint.long, hint.row, hint.first),
     }
 }
