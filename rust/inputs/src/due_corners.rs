@@ -7,6 +7,7 @@ use independent::{Due, Limits, Line, Train};
 use crate::corners::{has_a_tie, PLANS};
 use crate::parts::put_dues;
 use crate::tally::Tally;
+use crate::LineWalk;
 
 /// Something that the dues of a line do.
 #[derive(Clone, Copy, Debug, PartialEq, Eq)]
@@ -176,6 +177,14 @@ impl DueCorners {
         self.ties += usize::from(known.tie);
         self.tally
             .count(DueCorner::ALL.map(|corner| corner.is_of(&known)));
+    }
+
+    /// Counts the lines of walks as they are used.
+    pub fn counting<'a>(
+        &'a mut self,
+        walks: impl Iterator<Item = LineWalk> + 'a,
+    ) -> impl Iterator<Item = LineWalk> + 'a {
+        walks.inspect(|walk| self.count(&walk.line, walk.walked.best.as_ref()))
     }
 
     /// Prints the counts, and holds that each corner was seen at least so often.

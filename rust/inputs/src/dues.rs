@@ -56,21 +56,34 @@ impl DueAt {
 /// as it is; any other has a due.
 pub fn with_dues(random: &mut Random, line: &Line, times: &[DueAt]) -> Line {
     let one_in = random.one_of(&[1, 1, 1, 2, 3]);
-    let mut dues = Vec::new();
-    while dues.is_empty() && line.train_count > 0 {
-        for i in 0..line.used_trains().len() {
-            if random.below(one_in) == 0 {
-                let time = random.one_of(times);
-                dues.push(Due {
-                    train: i as u16 + 1,
-                    minute: time.minute(random, free_arrival(line, i) as u16),
-                });
-            }
+    loop {
+        let with_dues = drawn(random, line, times, one_in);
+        if with_dues.due_count > 0 || line.train_count == 0 {
+            return with_dues;
         }
     }
-    let mut with_dues = *line;
-    put_dues(&mut with_dues, &dues);
-    with_dues
+}
+
+/// The line with every train due at one of `times`.
+pub fn with_all_due(random: &mut Random, line: &Line, times: &[DueAt]) -> Line {
+    drawn(random, line, times, 1)
+}
+
+/// The line with dues of one in so many of its trains.
+fn drawn(random: &mut Random, line: &Line, times: &[DueAt], one_in: usize) -> Line {
+    let mut dues = Vec::new();
+    for i in 0..line.used_trains().len() {
+        if random.below(one_in) == 0 {
+            let time = random.one_of(times);
+            dues.push(Due {
+                train: i as u16 + 1,
+                minute: time.minute(random, free_arrival(line, i) as u16),
+            });
+        }
+    }
+    let mut drawn = *line;
+    put_dues(&mut drawn, &dues);
+    drawn
 }
 
 /// The line with dues so that the planners have more to choose from than without: mostly after the free

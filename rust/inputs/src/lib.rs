@@ -40,7 +40,7 @@ pub use due_corners::{DueCorner, DueCorners};
 pub use due_faults::{with_due_fault, DueFault};
 pub use due_planned::{due_planned, due_small_planned, fully_due_planned};
 pub use dues::{due_full_size, due_saturday, due_small_line};
-pub use dues::{with_dues, with_some_dues, DueAt};
+pub use dues::{with_all_due, with_dues, with_some_dues, DueAt};
 pub use fields::Fields;
 pub use misbooked::{misbooked, Misbooking};
 pub use planned::{full_size_planned, planned, small_line, small_planned, Pair, Planned, Traffic};
@@ -51,7 +51,7 @@ pub use shown::shown;
 pub use timetable_damage::{damaged, Damage};
 pub use walks::{booked_short_walks, booked_small_walks};
 pub use walks::{dense_line, dense_walk, short_walk, short_walks, small_walks, walk_line};
-pub use walks::{due_short_walks, due_small_walks};
+pub use walks::{due_dense_walk, due_short_walks, due_small_walks};
 pub use walks::{LineWalk, Shape};
 
 use independent::{Kind, Limits, Line, Segment, Train, STATIONS, TRAINS};

@@ -7,8 +7,8 @@ use independent::{exhaustive, Kind, Limits, Line, Segment, Train};
 use crate::corners::has_a_tie;
 use crate::edges::at_the_edges;
 use crate::parts::{of_size, unbooked_arrival, used_parts, used_runs_and_stops};
-use crate::{shown, small_line, with_bookings, with_one_booking, with_some_dues};
-use crate::{Booked, Fields, Random};
+use crate::{shown, small_line, with_all_due, with_bookings, with_one_booking, with_some_dues};
+use crate::{Booked, DueAt, Fields, Random};
 
 /// What the trains of a line have to do with each other.
 #[derive(Clone, Copy, Debug, PartialEq, Eq)]
@@ -339,14 +339,37 @@ fn with_altered(
 }
 
 /// A line of [`dense_line`] whose walk takes up from `least` to `most` plans.
-pub fn dense_walk(
+pub fn dense_walk(random: &mut Random, size: (u16, u16), least: u64, most: u64) -> LineWalk {
+    dense_walk_of(random, size, unbooked, least, most)
+}
+
+/// The same with every train due around its free arrival.
+pub fn due_dense_walk(random: &mut Random, size: (u16, u16), least: u64, most: u64) -> LineWalk {
+    let times = [
+        DueAt::Before(20),
+        DueAt::Free,
+        DueAt::After(20),
+        DueAt::After(60),
+    ];
+    dense_walk_of(
+        random,
+        size,
+        |random, line| with_all_due(random, &line, &times),
+        least,
+        most,
+    )
+}
+
+fn dense_walk_of(
     random: &mut Random,
     (stations, trains): (u16, u16),
+    finish: impl Fn(&mut Random, Line) -> Line,
     least: u64,
     most: u64,
 ) -> LineWalk {
     loop {
         let line = dense_line(random, stations, trains);
+        let line = finish(random, line);
         match solve_within(&line, most) {
             Ok(walked) if walked.plans >= least => return LineWalk { line, walked },
             _ => {}

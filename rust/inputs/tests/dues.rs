@@ -6,21 +6,13 @@ use independent::walk::{plan_by_walk, solve_within};
 use independent::{Line, Train};
 use inputs::{beside_another, beside_walks, due_short_walks, due_small_walks};
 use inputs::{due_planned, due_saturday, due_small_planned, fully_due_planned, sizes};
-use inputs::{DueCorners, LineWalk, Planned, Random, Style, Traffic};
-
-/// Counts what the dues of the lines do as they are used.
-fn counted<'a>(
-    walks: impl Iterator<Item = LineWalk> + 'a,
-    corners: &'a mut DueCorners,
-) -> impl Iterator<Item = LineWalk> + 'a {
-    walks.inspect(|walk| corners.count(&walk.line, walk.walked.best.as_ref()))
-}
+use inputs::{DueCorners, Planned, Random, Style, Traffic};
 
 /// Each of these lines has its walk held to trying every order.
 #[test]
 fn the_search_and_every_order_on_small_lines() {
     let mut dues = DueCorners::default();
-    let walks = counted(due_small_walks(260).take(25_000), &mut dues);
+    let walks = dues.counting(due_small_walks(260).take(25_000));
     beside_walks(walks, plan_by_search).ends("small lines", 1000);
     dues.ends("small lines", 800);
     dues.half_are_ties();
@@ -35,7 +27,7 @@ fn the_walk_and_every_order_on_small_lines() {
 #[test]
 fn the_search_beside_the_walk_on_lines_of_every_shape() {
     let mut dues = DueCorners::default();
-    let walks = counted(due_short_walks(262, 5000).take(5000), &mut dues);
+    let walks = dues.counting(due_short_walks(262, 5000).take(5000));
     beside_walks(walks, plan_by_search).ends("lines of every shape", 150);
     dues.ends("lines of every shape", 100);
 }
