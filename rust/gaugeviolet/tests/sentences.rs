@@ -93,9 +93,9 @@ const LIST: [(u32, u32, &str, Cause); 19] = [
     (
         19,
         7,
-        "line 7: the booking is not in rising order of train and then station, or its station is not \
-         a middle one of its train's path",
-        Cause::BookingPlace,
+        "line 7: a booking is not in rising order of train and then station, or its station is not a \
+         middle one of its train's path; or a due minute is not in rising order of train",
+        Cause::OutOfPlace,
     ),
 ];
 
