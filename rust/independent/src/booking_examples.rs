@@ -1,43 +1,10 @@
 //! Bookings in the rules, the delay and the three planners, worked by hand.
 
-use crate::exhaustive::{best, plan, Unplanned};
-use crate::rules::{free_arrival, weighted_delay};
-use crate::search::{plan_by_search, search};
-use crate::test_texts::{line, minutes, minutes_checked, refused, with};
+use crate::rules::free_arrival;
+use crate::test_texts::{a_and, has_none, line, minutes_checked, planned_refused, plans};
+use crate::test_texts::{refused, with, ROWS_A, TIMETABLE_A};
 use crate::walk::{plan_by_walk, solve};
-use crate::{check, timetable, Refusal};
-
-const WORK: u64 = 1_000_000;
-const FILE_A: &str = include_str!("../../../samples/a.line");
-const TIMETABLE_A: &str = include_str!("../../../samples/a.timetable");
-
-/// The rows of [`TIMETABLE_A`].
-const ROWS_A: [&[u16]; 2] = [&[0, 20, 20, 40], &[0, 15, 24, 39]];
-
-fn a_and(section: &str) -> String {
-    format!("{FILE_A}{section}")
-}
-
-/// Holds that all three planners find `rows`, at this total, and that the check passes them.
-fn plans(file: &str, total: u32, rows: &[&[u16]]) {
-    let expected = minutes(file, rows);
-    assert_eq!(best(&line(file), WORK), Ok(Some(expected)));
-    assert_eq!(solve(&line(file)).best, Some(expected));
-    assert_eq!(search(&line(file)).best, Some(expected));
-    assert_eq!(weighted_delay(&line(file), &expected), total);
-    let text = timetable::write(&line(file), &expected);
-    assert!(text.ends_with(format!("\n{total}\n").as_bytes()));
-    assert_eq!(check(file.as_bytes(), &text), Ok(()));
-}
-
-/// Holds that no planner finds a timetable.
-fn has_none(file: &str) {
-    let refusal = Refusal::NO_TIMETABLE;
-    let file = file.as_bytes();
-    assert_eq!(plan(file, WORK), Err(Unplanned::Refused(refusal)));
-    assert_eq!(plan_by_walk(file), Err(refusal));
-    assert_eq!(plan_by_search(file), Err(refusal));
-}
+use crate::{check, Refusal};
 
 #[test]
 fn a_booking_that_costs_nothing() {
@@ -171,13 +138,11 @@ fn rule_18_stands_between_12_and_13_over_all_trains() {
 fn a_refused_section_comes_before_the_timetable() {
     let bad = a_and("1\n1 1 20\n");
     assert_eq!(check(bad.as_bytes(), b""), refused(19, 12));
-    assert_eq!(plan_by_walk(bad.as_bytes()), refused(19, 12));
-    assert_eq!(plan_by_search(bad.as_bytes()), refused(19, 12));
     let refusal = Refusal {
         number: 19,
         place: 12,
     };
-    assert_eq!(plan(bad.as_bytes(), WORK), Err(Unplanned::Refused(refusal)));
+    planned_refused(&bad, refusal);
 }
 
 /// Worked by hand: the plan without choices, and the ways out of each conflict.

@@ -1,13 +1,11 @@
 //! The section of bookings and the settled readings of its open points, one by one.
 
-use crate::test_texts::{line, refused, with, writing_gives};
+use crate::test_texts::{a_and, line, longest_without_dues, refused, with, writing_gives, FILE_A};
 use crate::{read, rewrite, write, write_into, Booking, Line, Refusal, FILE_BYTES};
 
-const FILE_A: &str = include_str!("../../../samples/a.line");
-
-/// File A with this text behind its trains: the count of the bookings would stand on line 11.
-fn a_and(section: &str) -> Result<Line, Refusal> {
-    read(format!("{FILE_A}{section}").as_bytes())
+/// What reading says of file A with this text behind its trains.
+fn a_read_with(section: &str) -> Result<Line, Refusal> {
+    read(a_and(section).as_bytes())
 }
 
 /// A line of six stations with a train each way over stations 2 to 5: the count stands on line 17.
@@ -69,31 +67,31 @@ fn reading_30_the_section_is_left_off_without_bookings() {
 #[test]
 fn reading_31_the_fields_of_a_booking_in_order() {
     // Train, station, then its order and place, then the minute.
-    assert_eq!(a_and("1\n0 9 x\n"), refused(3, 12));
-    assert_eq!(a_and("1\n3 2 5\n"), refused(3, 12));
-    assert_eq!(a_and("1\n3x2 5\n"), refused(2, 12));
-    assert_eq!(a_and("1\n1 0 x\n"), refused(3, 12));
-    assert_eq!(a_and("1\n1 4 x\n"), refused(3, 12));
-    assert_eq!(a_and("1\n1 4x5\n"), refused(2, 12));
-    assert_eq!(a_and("1\n1 3 x\n"), refused(19, 12));
-    assert_eq!(a_and("1\n1 3 2880\n"), refused(19, 12));
-    assert_eq!(a_and("1\n1 3x5\n"), refused(2, 12));
-    assert_eq!(a_and("1\n1 2 2880\n"), refused(3, 12));
-    assert_eq!(a_and("1\n1 2 2880"), refused(2, 12));
-    assert_eq!(a_and("1\n1 2 05\n"), refused(2, 12));
+    assert_eq!(a_read_with("1\n0 9 x\n"), refused(3, 12));
+    assert_eq!(a_read_with("1\n3 2 5\n"), refused(3, 12));
+    assert_eq!(a_read_with("1\n3x2 5\n"), refused(2, 12));
+    assert_eq!(a_read_with("1\n1 0 x\n"), refused(3, 12));
+    assert_eq!(a_read_with("1\n1 4 x\n"), refused(3, 12));
+    assert_eq!(a_read_with("1\n1 4x5\n"), refused(2, 12));
+    assert_eq!(a_read_with("1\n1 3 x\n"), refused(19, 12));
+    assert_eq!(a_read_with("1\n1 3 2880\n"), refused(19, 12));
+    assert_eq!(a_read_with("1\n1 3x5\n"), refused(2, 12));
+    assert_eq!(a_read_with("1\n1 2 2880\n"), refused(3, 12));
+    assert_eq!(a_read_with("1\n1 2 2880"), refused(2, 12));
+    assert_eq!(a_read_with("1\n1 2 05\n"), refused(2, 12));
     // A lower train is not refused at its own field.
-    assert_eq!(a_and("2\n2 2 30\n1 4 30\n"), refused(3, 13));
-    assert_eq!(a_and("2\n2 2 30\n1 2 3000\n"), refused(19, 13));
-    assert_eq!(a_and("2\n2 2 30\n1 x\n"), refused(2, 13));
+    assert_eq!(a_read_with("2\n2 2 30\n1 4 30\n"), refused(3, 13));
+    assert_eq!(a_read_with("2\n2 2 30\n1 2 3000\n"), refused(19, 13));
+    assert_eq!(a_read_with("2\n2 2 30\n1 x\n"), refused(2, 13));
     // The first bad line counts.
-    assert_eq!(a_and("2\n1 1 30\n1 9 30\n"), refused(19, 12));
+    assert_eq!(a_read_with("2\n1 1 30\n1 9 30\n"), refused(19, 12));
 }
 
 #[test]
 fn number_19_out_of_order() {
-    assert_eq!(a_and("2\n2 2 30\n1 2 30\n"), refused(19, 13));
-    assert_eq!(a_and("2\n1 2 30\n1 2 30\n"), refused(19, 13));
-    assert_eq!(a_and("2\n1 2 30\n1 2 31\n"), refused(19, 13));
+    assert_eq!(a_read_with("2\n2 2 30\n1 2 30\n"), refused(19, 13));
+    assert_eq!(a_read_with("2\n1 2 30\n1 2 30\n"), refused(19, 13));
+    assert_eq!(a_read_with("2\n1 2 30\n1 2 31\n"), refused(19, 13));
     assert_eq!(six_and("2\n1 4 30\n1 3 40\n"), refused(19, 19));
     // Stations rise for an inbound train too, and a next train begins anew.
     assert_eq!(six_and("2\n2 4 30\n2 3 40\n"), refused(19, 19));
@@ -131,45 +129,47 @@ fn number_19_not_in_the_middle() {
 #[test]
 fn reading_32_the_count() {
     for over in ["121", "122", "255", "256", "9999"] {
-        assert_eq!(a_and(&format!("{over}\n1 2 30\n")), refused(3, 11));
+        assert_eq!(a_read_with(&format!("{over}\n1 2 30\n")), refused(3, 11));
     }
-    assert_eq!(a_and("10000\n1 2 30\n"), refused(2, 11));
+    assert_eq!(a_read_with("10000\n1 2 30\n"), refused(2, 11));
     // The trains do not bound it.
     let none = "2\n1\n1\n1\nS 1 1\n0\n";
     assert_eq!(read(format!("{none}1\n").as_bytes()), refused(2, 8));
     assert_eq!(read(format!("{none}1\n1 1 0\n").as_bytes()), refused(3, 8));
     assert_eq!(read(format!("{none}0\n").as_bytes()), refused(3, 7));
     // More are said than there are, or fewer.
-    assert_eq!(a_and("120\n1 2 30\n2 2 30\n"), refused(2, 14));
-    assert_eq!(a_and("2\n1 2 30\n"), refused(2, 13));
-    assert_eq!(a_and("1\n1 2 30\n2 2 30\n"), refused(2, 13));
+    assert_eq!(a_read_with("120\n1 2 30\n2 2 30\n"), refused(2, 14));
+    assert_eq!(a_read_with("2\n1 2 30\n"), refused(2, 13));
+    assert_eq!(a_read_with("1\n1 2 30\n2 2 30\n"), refused(2, 13));
 }
 
 #[test]
 fn reading_33a_and_34_an_empty_last_section() {
-    assert_eq!(a_and("0\n"), refused(3, 11));
-    assert_eq!(a_and("0\n1 2 30\n"), refused(3, 11));
+    assert_eq!(a_read_with("0\n"), refused(3, 11));
+    // Something follows, which then is no booking: the count of the dues would stand there.
+    assert_eq!(a_read_with("0\n1 2 30\n"), refused(2, 12));
     for form in ["0", "0 \n", "00\n", "\n", " \n", "x\n", "01\n", "1 \n", "1"] {
-        assert_eq!(a_and(form), refused(2, 11));
+        assert_eq!(a_read_with(form), refused(2, 11));
     }
 }
 
 #[test]
 fn bytes_after_and_early_ends() {
     let section = "2\n1 2 30\n2 2 30\n";
-    assert!(a_and(section).is_ok());
-    for more in ["\n", "0\n", "1\n", "x", "2 2 31\n", "\0"] {
-        assert_eq!(a_and(&format!("{section}{more}")), refused(2, 14));
+    assert!(a_read_with(section).is_ok());
+    // The count of the dues would stand there.
+    for more in ["\n", "1 \n", "x", "2 2 31\n", "\0"] {
+        assert_eq!(a_read_with(&format!("{section}{more}")), refused(2, 14));
     }
     // Past a line feed it is the next line.
     for end in 1..section.len() {
         let place = 11 + section[..end].matches('\n').count();
-        assert_eq!(a_and(&section[..end]), refused(2, place as u32));
+        assert_eq!(a_read_with(&section[..end]), refused(2, place as u32));
     }
-    assert_eq!(a_and("1\n1 2\n"), refused(2, 12));
-    assert_eq!(a_and("1\n1 2 30 \n"), refused(2, 12));
-    assert_eq!(a_and("1\n1  2 30\n"), refused(2, 12));
-    assert_eq!(a_and("1\r\n1 2 30\n"), refused(2, 11));
+    assert_eq!(a_read_with("1\n1 2\n"), refused(2, 12));
+    assert_eq!(a_read_with("1\n1 2 30 \n"), refused(2, 12));
+    assert_eq!(a_read_with("1\n1  2 30\n"), refused(2, 12));
+    assert_eq!(a_read_with("1\r\n1 2 30\n"), refused(2, 11));
 }
 
 #[test]
@@ -211,27 +211,16 @@ fn writing_a_count_over_120() {
         writing_gives(&line, 3, 11);
     }
     // All 120 are looked at.
-    let mut line = line(longest());
+    let mut line = line(longest_without_dues());
     line.bookings[119].minute = 2880;
     writing_gives(&line, 3, 159);
     line.bookings[119] = line.bookings[118];
     writing_gives(&line, 19, 159);
 }
 
-/// The longest file: 12 trains over the whole line, each booked at every middle station.
-fn longest() -> String {
-    let train = |ends| format!("{ends} 2879 2879 99 {}240\n", "240 240 ".repeat(10));
-    let trains = [train("1 12"), train("12 1")].concat().repeat(6);
-    let bookings: String = (1..=12)
-        .flat_map(|train| (2..=11).map(move |station| format!("{train} {station} 2879\n")))
-        .collect();
-    let track = format!("12\n{}11\n{}", "12\n".repeat(12), "S 60 60\n".repeat(11));
-    format!("{track}12\n{trains}120\n{bookings}")
-}
-
 #[test]
 fn reading_10_the_longest_file_with_120_bookings() {
-    let longest = longest();
+    let longest = longest_without_dues();
     assert_eq!((longest.len(), longest.lines().count()), (2495, 159));
     let line = line(&longest);
     assert_eq!(line.used_bookings().len(), 120);

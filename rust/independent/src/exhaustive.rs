@@ -6,8 +6,9 @@
 //! after another: intervals of which no more than so many share a minute can be shared out to so many
 //! tracks. So each lawful timetable keeps some choice of an order for each segment, and of tracks
 //! with an order on each track for each station. Among the timetables that keep one choice the
-//! least minutes are the best, as each of them is at or below that of any other. Bookings, like
-//! earliest, are floors under departures and change nothing of this.
+//! least minutes are the best, as each of them is at or below that of any other, and a train that is in
+//! earlier has no more delay. Bookings, like earliest, are floors under departures and
+//! change nothing of this.
 //!
 //! The planner therefore goes through every choice, works out its least minutes, and keeps the best.
 //! It puts the trains in one after another, each at every position of every order that it has a part
@@ -335,9 +336,9 @@ impl<'a> Search<'a> {
         for _ in 0..=raised.len() {
             let mut settled = true;
             for wait in &self.waits {
-                let due = raised[wait.from] + wait.minutes;
-                if raised[wait.to] < due {
-                    raised[wait.to] = due;
+                let least = raised[wait.from] + wait.minutes;
+                if raised[wait.to] < least {
+                    raised[wait.to] = least;
                     settled = false;
                 }
             }

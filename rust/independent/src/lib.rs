@@ -22,6 +22,7 @@ pub mod walk;
 
 mod bookings;
 mod checker;
+mod dues;
 mod position;
 mod reader;
 mod tables;
@@ -33,6 +34,10 @@ mod booking_examples;
 #[cfg(test)]
 mod booking_readings;
 #[cfg(test)]
+mod due_examples;
+#[cfg(test)]
+mod due_readings;
+#[cfg(test)]
 mod examples;
 #[cfg(test)]
 mod readings;
@@ -43,6 +48,7 @@ mod timetable_readings;
 
 pub use bookings::Booking;
 pub use checker::check;
+pub use dues::Due;
 pub use reader::read;
 pub use writer::{rewrite, write, write_into};
 
@@ -56,6 +62,8 @@ pub const SEGMENTS: usize = STATIONS - 1;
 pub const TRAINS: usize = 12;
 /// The most bookings of a line.
 pub const BOOKINGS: usize = 120;
+/// The most dues of a line: one for each train.
+pub const DUES: usize = TRAINS;
 
 /// A range of a field, both ends included.
 #[derive(Clone, Copy, Debug, PartialEq, Eq)]
@@ -75,8 +83,8 @@ impl Limits {
     pub const GAP: Limits = Limits::new(1, 60);
     /// How many trains.
     pub const TRAIN_COUNT: Limits = Limits::new(0, TRAINS as u16);
-    /// How many bookings, where the section is there: it is never empty.
-    pub const BOOKING_COUNT: Limits = Limits::new(1, BOOKINGS as u16);
+    /// How many bookings. None of them stand in a section of their own only where dues follow.
+    pub const BOOKING_COUNT: Limits = Limits::new(0, BOOKINGS as u16);
     /// A minute of the timetable.
     pub const MINUTE: Limits = Limits::new(0, 2879);
     /// A train's weight.
@@ -102,8 +110,8 @@ impl Limits {
 /// its place.
 #[derive(Clone, Copy, Debug, PartialEq, Eq, PartialOrd, Ord)]
 pub struct Refusal {
-    /// Of a line file: 1 too long, 2 form, 3 range, 4 destination equals origin, 19 a booking out of
-    /// order or not at a middle station. 5 no timetable, 6 lent bytes too few. Of a timetable: 7 too
+    /// Of a line file: 1 too long, 2 form, 3 range, 4 destination equals origin, 19 a booking or a due out
+    /// of order, or a booking not at a middle station. 5 no timetable, 6 lent bytes too few. Of a timetable: 7 too
     /// long, 8 form, 9 range, 10 to 15 and 18 the rule broken, 16 order lists, 17 total.
     pub number: u32,
     /// The line of the fault for 2, 3, 4, 8, 9 and 19; the lowest train for 10 to 13 and 18, segment for
@@ -152,7 +160,7 @@ impl Refusal {
         }
     }
 
-    pub(crate) const fn misbooked(line: u32) -> Refusal {
+    pub(crate) const fn misplaced(line: u32) -> Refusal {
         Refusal {
             number: 19,
             place: line,
@@ -261,10 +269,14 @@ pub struct Line {
     pub train_count: u16,
     /// The trains.
     pub trains: [Train; TRAINS],
-    /// How many bookings there are; without any the file has no section for them.
+    /// How many bookings there are.
     pub booking_count: u16,
     /// The bookings, rising by train and then by station.
     pub bookings: [Booking; BOOKINGS],
+    /// How many dues there are. The sections of a file past the third go up to the last that is not empty.
+    pub due_count: u16,
+    /// The dues, rising by train. A train that has none is due at its free arrival.
+    pub dues: [Due; DUES],
 }
 
 impl Default for Line {
@@ -277,6 +289,8 @@ impl Default for Line {
             trains: [Train::default(); TRAINS],
             booking_count: 0,
             bookings: [Booking::default(); BOOKINGS],
+            due_count: 0,
+            dues: [Due::default(); DUES],
         }
     }
 }

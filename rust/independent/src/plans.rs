@@ -5,7 +5,7 @@
 //! 12 and 18. It is held as its departures alone. Only what follows from the latest choice is raised, and it
 //! is put back when the choice is.
 
-use crate::rules::Minutes;
+use crate::rules::{weighted_delay, Minutes};
 use crate::tables::{each, event, free_departures, PerEvent, Row, Tables, Trains};
 use crate::tables::{EVENTS, NONE, ROOM};
 use crate::{timetable, Line, Refusal};
@@ -81,13 +81,14 @@ pub(crate) struct Plans {
 }
 
 impl Plans {
-    /// The plan without choices. Each train is in at its free arrival, so there is no delay yet. No
-    /// more than `limit` plans may be taken up.
+    /// The plan without choices. Each train is in at its free arrival, which may be after its due minute.
+    /// No more than `limit` plans may be taken up.
     pub(crate) fn new(line: &Line, limit: u64) -> Plans {
+        let departures = free_departures(line);
         Plans {
             tables: Tables::new(line),
-            departures: free_departures(line),
-            delay: 0,
+            departures,
+            delay: weighted_delay(line, &minutes(line, &departures)),
             behind: [0; EVENTS],
             after: [0; EVENTS],
             raised: Vec::new(),
@@ -212,8 +213,7 @@ impl Plans {
     /// other.
     fn raise(&mut self, at: u8, minute: i16) -> bool {
         let e = usize::from(at);
-        let rise = minute - self.departures[e];
-        self.delay += self.tables.cost[e] * rise as u32;
+        self.delay += self.tables.cost_between(e, self.departures[e], minute);
         if minute > self.tables.limit[e] || at == self.source || self.delay > self.best_delay {
             return false;
         }

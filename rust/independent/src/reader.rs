@@ -1,10 +1,11 @@
 //! Reading a line file: once through the bytes, field by field.
 
 use crate::position::{Position, LINE_FEED, SPACE};
-use crate::{Booking, Kind, Limits, Line, Refusal, Segment, Train, FILE_BYTES};
+use crate::{Booking, Due, Kind, Limits, Line, Refusal, Segment, Train, FILE_BYTES};
 
 /// Reads a line file. A field's form comes first, then the byte after it, then its range, then (at
-/// a destination) whether it equals the origin, or (at a booking's station) whether the booking suits.
+/// a destination) whether it equals the origin, or (at a booking's station) whether the booking suits, or
+/// (at a due's train) whether it is above the one before.
 pub fn read(file: &[u8]) -> Result<Line, Refusal> {
     if file.len() > FILE_BYTES {
         return Err(Refusal::TOO_LONG);
@@ -15,6 +16,7 @@ pub fn read(file: &[u8]) -> Result<Line, Refusal> {
     at.segments(&mut line)?;
     at.trains(&mut line)?;
     at.bookings(&mut line)?;
+    at.dues(&mut line)?;
     at.at_the_end()?;
     Ok(line)
 }
@@ -29,9 +31,9 @@ impl Position<'_> {
     }
 
     fn segments(&mut self, line: &mut Line) -> Result<(), Refusal> {
-        let due = line.station_count - 1;
-        self.number(LINE_FEED, Limits::new(due, due))?;
-        for segment in &mut line.segments[..usize::from(due)] {
+        let count = line.station_count - 1;
+        self.number(LINE_FEED, Limits::new(count, count))?;
+        for segment in &mut line.segments[..usize::from(count)] {
             *segment = Segment {
                 kind: self.kind()?,
                 following: self.number(SPACE, Limits::GAP)?,
@@ -70,12 +72,16 @@ impl Position<'_> {
         Ok(())
     }
 
-    /// The bookings, if anything follows the trains: the section is left off where there are none.
+    /// The bookings, if anything follows the trains. Their section is empty only where another follows it.
     fn bookings(&mut self, line: &mut Line) -> Result<(), Refusal> {
         if self.bytes.is_empty() {
             return Ok(());
         }
+        let place = self.line;
         line.booking_count = self.number(LINE_FEED, Limits::BOOKING_COUNT)?;
+        if line.booking_count == 0 && self.bytes.is_empty() {
+            return Err(Refusal::range(place));
+        }
         for at in 0..usize::from(line.booking_count) {
             line.bookings[at] = self.booking(line, at)?;
         }
@@ -90,10 +96,32 @@ impl Position<'_> {
             minute: 0,
         };
         if !booking.suits(&line.trains, line.bookings[..at].last()) {
-            return Err(Refusal::misbooked(self.line));
+            return Err(Refusal::misplaced(self.line));
         }
         booking.minute = self.number(LINE_FEED, Limits::MINUTE)?;
         Ok(booking)
+    }
+
+    /// The dues, if anything follows the bookings. No section follows theirs, so it is never empty.
+    fn dues(&mut self, line: &mut Line) -> Result<(), Refusal> {
+        if self.bytes.is_empty() {
+            return Ok(());
+        }
+        line.due_count = self.number(LINE_FEED, Limits::new(1, line.train_count))?;
+        for at in 0..usize::from(line.due_count) {
+            line.dues[at] = self.due(line, at)?;
+        }
+        Ok(())
+    }
+
+    /// The due at this place, from 0, behind those that `line` has already.
+    fn due(&mut self, line: &Line, at: usize) -> Result<Due, Refusal> {
+        let train = self.number(SPACE, Limits::new(1, line.train_count))?;
+        if !Due::may_follow(train, line.dues[..at].last()) {
+            return Err(Refusal::misplaced(self.line));
+        }
+        let minute = self.number(LINE_FEED, Limits::MINUTE)?;
+        Ok(Due { train, minute })
     }
 
     /// A kind and the space after it.

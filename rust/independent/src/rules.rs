@@ -330,11 +330,12 @@ pub fn free_arrival(line: &Line, number: usize) -> u32 {
     ready + u32::from(train.runs[last])
 }
 
-/// The sum of weight times delay. A delay below 0, which no lawful timetable has, counts as 0.
+/// The sum of weight times delay: what the last arrival is after the due minute, and 0 for a train that is
+/// early.
 pub fn weighted_delay(line: &Line, minutes: &Minutes) -> u32 {
     let delay = |(number, train): (usize, &Train)| {
         let arrival = u32::from(last_arrival(minutes, number, train));
-        u32::from(train.weight) * arrival.saturating_sub(free_arrival(line, number))
+        u32::from(train.weight) * arrival.saturating_sub(line.due_minute(number))
     };
     line.used_trains().iter().enumerate().map(delay).sum()
 }

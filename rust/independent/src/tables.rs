@@ -69,8 +69,11 @@ pub(crate) struct Tables {
     pub(crate) next: PerEvent<u8>,
     /// The least minutes from a departure to the train's next one.
     pub(crate) to_next: PerEvent<i16>,
-    /// What a minute costs: the train's weight for its last departure, 0 for any other.
+    /// What a minute of lateness costs: the train's weight for its last departure, 0 for any other.
     pub(crate) cost: PerEvent<u32>,
+    /// The last departure with which the train is in when it is due, below 0 where it is due before its
+    /// run could end. It stands for the last departure only.
+    pub(crate) due: PerEvent<i16>,
     /// By event and other train: the least minutes from this departure to the other train's on the
     /// same segment if this one goes first there. [`ANY`] if the two have nothing to do there.
     pub(crate) gap: PerEvent<Row>,
@@ -104,12 +107,14 @@ impl Tables {
             next: [NONE; EVENTS],
             to_next: [0; EVENTS],
             cost: [0; EVENTS],
+            due: [0; EVENTS],
             gap: [[ANY; ROOM]; EVENTS],
             gap_back: [[ANY; ROOM]; EVENTS],
             coming: [[NONE; ROOM]; EVENTS],
         };
         for (number, train) in line.used_trains().iter().enumerate() {
             tables.add_path(number, train);
+            tables.add_due(number, train, line.due_minute(number) as i16);
         }
         tables.add_gaps(line);
         tables.add_stations(line);
@@ -124,9 +129,7 @@ impl Tables {
             let e = usize::from(at);
             self.on_segment[train.segment(leg)] |= 1 << number;
             self.run[e] = train.runs[leg] as i16;
-            if leg == last {
-                self.cost[e] = u32::from(train.weight);
-            } else {
+            if leg < last {
                 self.next[e] = event(train.segment(leg + 1), number);
                 self.to_next[e] = (train.runs[leg] + train.stops[leg]) as i16;
                 limit -= train.stops[leg] as i16;
@@ -136,6 +139,21 @@ impl Tables {
         }
         let events = (0..=last).map(|leg| event(train.segment(leg), number));
         self.by_train.extend(events);
+    }
+
+    /// What the train's last departure costs from its due minute on.
+    fn add_due(&mut self, number: usize, train: &Train, minute: i16) {
+        let last = usize::from(event(train.segment(train.legs() - 1), number));
+        self.cost[last] = u32::from(train.weight);
+        self.due[last] = minute - self.run[last];
+    }
+
+    /// What it costs to move a departure from one minute to a later one: nothing for the minutes before it
+    /// is due.
+    #[inline]
+    pub(crate) fn cost_between(&self, e: usize, from: i16, to: i16) -> u32 {
+        let due = self.due[e];
+        self.cost[e] * (to.max(due) - from.max(due)) as u32
     }
 
     fn add_gaps(&mut self, line: &Line) {

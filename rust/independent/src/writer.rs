@@ -1,12 +1,13 @@
 //! Writing a line: its fields in the reader's order, each held to its range.
 
 use crate::text::{Text, SPARE};
-use crate::{Booking, Limits, Line, Refusal, Segment, Train, FILE_BYTES, SEGMENTS};
+use crate::{Booking, Due, Limits, Line, Refusal, Segment, Train, FILE_BYTES, SEGMENTS};
 
 /// The bytes of the longest line within the limits: 39 for the stations, 91 for the segments, 3 for
 /// the train count, 102 for each of 12 trains, 4 for the booking count, and 92 for the bookings of each
-/// train with one digit, 102 for those of each with two.
-const LONGEST: usize = 39 + 91 + 3 + 12 * 102 + 4 + 9 * 92 + 3 * 102;
+/// train with one digit, 102 for those of each with two; 3 for the due count, 7 for the due of each train
+/// with one digit, 8 for that of each with two.
+const LONGEST: usize = 39 + 91 + 3 + 12 * 102 + 4 + 9 * 92 + 3 * 102 + 3 + 9 * 7 + 3 * 8;
 
 /// The text of `line`, or 3, 4 or 19 with the line that the first bad field would have.
 pub fn write(line: &Line) -> Result<Vec<u8>, Refusal> {
@@ -30,7 +31,7 @@ pub fn rewrite(file: &[u8], lent: &mut [u8]) -> Result<usize, Refusal> {
 }
 
 /// The first field of `line` that is outside its range, or a destination that equals its origin, or a
-/// booking that does not suit.
+/// booking that does not suit, or a due out of order.
 fn check(line: &Line) -> Result<(), Refusal> {
     field(line.station_count, Limits::STATION_COUNT, 1)?;
     let stations = usize::from(line.station_count);
@@ -51,7 +52,8 @@ fn check(line: &Line) -> Result<(), Refusal> {
         place += 1;
         check_train(train, Limits::new(1, line.station_count), place)?;
     }
-    check_bookings(line, place + 1)
+    check_bookings(line, place + 1)?;
+    check_dues(line, place + 2 + u32::from(line.booking_count))
 }
 
 fn check_train(train: &Train, stations: Limits, place: u32) -> Result<(), Refusal> {
@@ -76,21 +78,33 @@ fn check_train(train: &Train, stations: Limits, place: u32) -> Result<(), Refusa
     }
 }
 
-/// The bookings, whose count would stand on the line `place`. Without any nothing is written there.
+/// The bookings, whose count would stand on the line `place`.
 fn check_bookings(line: &Line, place: u32) -> Result<(), Refusal> {
-    if line.booking_count == 0 {
-        return Ok(());
-    }
     field(line.booking_count, Limits::BOOKING_COUNT, place)?;
     let mut before = None;
     for (booking, place) in line.used_bookings().iter().zip(place + 1..) {
         field(booking.train, Limits::new(1, line.train_count), place)?;
         field(booking.station, Limits::new(1, line.station_count), place)?;
         if !booking.suits(&line.trains, before) {
-            return Err(Refusal::misbooked(place));
+            return Err(Refusal::misplaced(place));
         }
         field(booking.minute, Limits::MINUTE, place)?;
         before = Some(booking);
+    }
+    Ok(())
+}
+
+/// The dues, whose count would stand on the line `place`.
+fn check_dues(line: &Line, place: u32) -> Result<(), Refusal> {
+    field(line.due_count, Limits::new(0, line.train_count), place)?;
+    let mut before = None;
+    for (due, place) in line.used_dues().iter().zip(place + 1..) {
+        field(due.train, Limits::new(1, line.train_count), place)?;
+        if !Due::may_follow(due.train, before) {
+            return Err(Refusal::misplaced(place));
+        }
+        field(due.minute, Limits::MINUTE, place)?;
+        before = Some(due);
     }
     Ok(())
 }
@@ -119,10 +133,22 @@ impl Text<{ LONGEST + SPARE }> {
         for train in &line.trains[..usize::from(line.train_count)] {
             self.train(train);
         }
-        if line.booking_count > 0 {
+        self.optional_sections(line);
+    }
+
+    /// The sections past the third, up to the last that is not empty.
+    fn optional_sections(&mut self, line: &Line) {
+        if line.booking_count > 0 || line.due_count > 0 {
             self.number(line.booking_count, b'\n');
             for booking in line.used_bookings() {
                 self.booking(booking);
+            }
+        }
+        if line.due_count > 0 {
+            self.number(line.due_count, b'\n');
+            for due in line.used_dues() {
+                self.number(due.train, b' ');
+                self.number(due.minute, b'\n');
             }
         }
     }
