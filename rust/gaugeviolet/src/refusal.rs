@@ -213,8 +213,8 @@ fn in_words(cause: Cause) -> &'static str {
         Cause::Total => "the total is not the weighted delay of the minutes",
         Cause::Booking => "at a middle station it departs before the minute booked there",
         Cause::OutOfPlace => {
-            "a booking is not in rising order of train and then station, or its station is not a \
-             middle one of its train's path; or a due minute is not in rising order of train"
+            "a booking (by train and then station) or a due minute (by train) is not in rising order, \
+             or a booking's station is not a middle one of its train's path"
         }
     }
 }

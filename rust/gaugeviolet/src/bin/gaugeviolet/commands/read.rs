@@ -119,7 +119,7 @@ fn due_in_words(line: &Line, number: u32) -> String {
     };
     let free = line.free_arrival(number);
     format!(
-        "  is due at {}; alone on the line it arrives {}, {}\n",
+        "  is due at {}; alone it arrives {}, {}\n",
         minute(due),
         time_of_day(free),
         punctuality(free, due)

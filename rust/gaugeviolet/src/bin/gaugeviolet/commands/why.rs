@@ -112,17 +112,17 @@ fn lateness(timetable: &Timetable, number: u32) -> String {
 }
 
 /// A row on how a train would keep its due minute alone on the line: where it would be late even then, and
-/// where it would be early and so waits for nothing in part.
+/// where it would be early and so may wait.
 fn alone(timetable: &Timetable, number: u32, waits: bool) -> String {
     let line = timetable.line();
     let (free, due) = (line.free_arrival(number), line.due(number));
     let free_of_cost = match free.cmp(&due) {
         Ordering::Greater => "",
-        Ordering::Less if waits => ", so it waits that long at no cost",
+        Ordering::Less if waits => ", so it may wait that long at no cost",
         _ => return String::new(),
     };
     format!(
-        "  alone on the line it arrives {}, {}{free_of_cost}\n",
+        "  alone it arrives {}, {}{free_of_cost}\n",
         time_of_day(free),
         punctuality(free, due)
     )

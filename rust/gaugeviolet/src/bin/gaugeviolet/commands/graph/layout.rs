@@ -216,9 +216,14 @@ impl Layout {
 }
 
 impl TrainLabel {
-    /// The end of its leader at the label, whose upper right corner is given.
+    /// The end of its leader at the label, whose upper right corner is given. The round frame of a due
+    /// minute is met at half its height.
     pub fn leader_end(&self, corner: Point) -> Point {
-        let down = if self.above { LABEL_HEIGHT } else { 0 };
+        let down = match (self.due, self.above) {
+            (true, _) => LABEL_HEIGHT / 2,
+            (false, true) => LABEL_HEIGHT,
+            (false, false) => 0,
+        };
         Point {
             x: corner.x,
             y: corner.y + down,
