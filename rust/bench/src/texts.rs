@@ -3,7 +3,7 @@
 use std::hint::black_box;
 
 use independent::Line;
-use inputs::{booked_full_size, full_size, full_size_planned, fully_booked_planned};
+use inputs::{due_full_size, full_size, full_size_planned, fully_due_planned};
 use inputs::{Fields, Pair, Random};
 
 use crate::times::{Beside, Times, Unit};
@@ -19,27 +19,28 @@ const NANOSECONDS: Unit = Unit {
     digits: 0,
 };
 
-/// Prints all of it: for full-size lines without bookings, and for the same with 120.
+/// Prints all of it: for full-size lines without bookings and dues, and for the same with 120 and 12.
 pub fn print() {
     println!("{ROUNDS} rounds of {CALLS} calls for each, in turn.");
     println!("The lent buffer is cleared between rounds, outside the time, and not between calls.");
     let mut random = Random::new(1);
     file(&full_size(&mut random));
-    file(&booked_full_size(&mut random));
+    file(&due_full_size(&mut random));
 
     let mut random = Random::new(2);
     timetables("", || full_size_planned(&mut random).pair());
-    timetables(" with 120 bookings", || {
-        fully_booked_planned(&mut random).pair()
+    timetables(" with 120 bookings and 12 dues", || {
+        fully_due_planned(&mut random).pair()
     });
 }
 
 fn file(line: &Line) {
     let file = Fields::of(line).text();
     println!(
-        "A file of {} bytes: 12 stations, 12 trains over the whole line, {} bookings.",
+        "A file of {} bytes: 12 stations, 12 trains over the whole line, {} bookings, {} dues.",
         file.len(),
-        line.booking_count
+        line.booking_count,
+        line.due_count
     );
     reading(&file);
     rewriting(&file);

@@ -5,7 +5,7 @@ use std::hint::black_box;
 
 use independent::search::plan_by_search;
 use independent::walk;
-use inputs::{dense_walk, Fields, LineWalk, Random};
+use inputs::{dense_walk, due_dense_walk, Fields, LineWalk, Random};
 
 use crate::times::{Beside, Times, Unit};
 
@@ -23,15 +23,22 @@ const MILLISECONDS: Unit = Unit {
     digits: 2,
 };
 
-/// Prints all of it.
+/// How a dense line is drawn: its size, and the fewest and the most plans of its walk.
+type Draw = fn(&mut Random, (u16, u16), u64, u64) -> LineWalk;
+
+/// Prints all of it: without dues, and with every train due around its free arrival.
 pub fn print() {
-    println!("Dense lines planned, each {ROUNDS} times.");
-    let mut random = Random::new(3);
+    print_lines("Dense lines", Random::new(3), dense_walk);
+    print_lines("Dense lines with dues", Random::new(5), due_dense_walk);
+}
+
+fn print_lines(which: &str, mut random: Random, draw: Draw) {
+    println!("{which} planned, each {ROUNDS} times.");
     let (mut walks, mut solves) = (Beside::default(), Beside::default());
     for size in [(6, 8), (8, 9)] {
         println!("{} stations, {} trains:", size.0, size.1);
         for _ in 0..LINES {
-            let LineWalk { line, walked } = dense_walk(&mut random, size, LEAST_PLANS, MOST_PLANS);
+            let LineWalk { line, walked } = draw(&mut random, size, LEAST_PLANS, MOST_PLANS);
             let file = Fields::of(&line).text();
             println!("A line with a walk of {} plans:", walked.plans);
             let walked_both = walking(&file, walked.plans);

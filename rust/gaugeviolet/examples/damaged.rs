@@ -10,7 +10,8 @@ use std::process::ExitCode;
 
 use gaugeviolet::{on_callers_stack, Refusal, FILE_BYTES};
 use inputs::{booked_planned, booked_small_line, damage_bytes, damaged, planned, small_line};
-use inputs::{fully_booked_planned, Damage, Pair, Planned, Random, Traffic};
+use inputs::{due_planned, due_small_line, fully_due_planned};
+use inputs::{Damage, Pair, Planned, Random, Traffic};
 
 /// How many lines there are to damage.
 const LINES: usize = 400;
@@ -41,7 +42,7 @@ fn usage() -> ExitCode {
 fn run(count: u64) -> ExitCode {
     let mut random = Random::new(70);
     let lines: Vec<Planned> = (0..LINES).map(|_| line_to_damage(&mut random)).collect();
-    let full = fully_booked_planned(&mut random);
+    let full = fully_due_planned(&mut random);
     let mut numbers = Numbers::new();
     for at in 0..count {
         let damage = Damage::ALL[at as usize % Damage::ALL.len()];
@@ -59,14 +60,14 @@ fn run(count: u64) -> ExitCode {
     report(count, &numbers)
 }
 
-/// A small line, with bookings or without, and a timetable of it. Half of them have latest arrivals that
+/// A small line, with bookings or dues or without, and a timetable of it. Half of them have latest arrivals that
 /// are hard to keep, so that some have no timetable; the one beside it is then no timetable of it either.
 fn line_to_damage(random: &mut Random) -> Planned {
     let (stations, trains) = (random.within(2, 5), random.within(1, 4));
-    let draw = random.one_of(&[planned, booked_planned]);
+    let draw = random.one_of(&[planned, booked_planned, due_planned]);
     let mut planned = draw(random, stations, trains, Traffic::Mixed);
     if random.below(2) == 0 {
-        let draw = random.one_of(&[small_line, booked_small_line]);
+        let draw = random.one_of(&[small_line, booked_small_line, due_small_line]);
         planned.line = draw(random, stations, trains);
     }
     planned

@@ -3,12 +3,14 @@
 
 mod altered;
 mod common;
+mod sections;
 
 use altered::{bytes_after, cut_short};
 use common::Compared;
 use independent::Line;
-use inputs::{booked_full_size, damage_bytes, damage_lines, misbooked, sizes, with_bookings};
+use inputs::{booked_full_size, misbooked, sizes, with_bookings};
 use inputs::{with_one_byte_damaged, Booked, Density, Fields, Least, Misbooking, Random};
+use sections::{damaged, every_number, limits, optional_places};
 
 // What each test must at least have seen stands before it; here are the inputs of all of them.
 const ALL: usize = Least::inputs_of(&[
@@ -40,13 +42,6 @@ fn booked_line(random: &mut Random) -> Line {
             return booked;
         }
     }
-}
-
-/// Where the fields of a line's section of bookings are.
-fn section(line: &Line, fields: &Fields) -> Vec<(usize, usize)> {
-    let first = usize::from(2 * line.station_count + line.train_count) + 2;
-    let places = fields.places().into_iter();
-    places.filter(|place| place.0 >= first).collect()
 }
 
 const VALID: Least = Least {
@@ -123,28 +118,10 @@ const EVERY_NUMBER: Least = Least {
 
 #[test]
 fn every_number_in_every_field_of_the_section() {
-    let line = independent::read(SMALL).expect("a line file");
-    let fields = Fields::of(&line);
     let mut compared = Compared::new();
-    for place in section(&line, &fields) {
-        for number in 0..=9999 {
-            compared.file(&fields.text_with(place, &number.to_string()));
-        }
-    }
+    every_number(&mut compared, SMALL);
     compared.seen.ends(&EVERY_NUMBER);
 }
-
-/// At each limit of the ranges, next to it and past it; what wraps to a good number; leading zeros; forms
-/// that are no number.
-#[rustfmt::skip]
-const FIELD_TEXTS: &[&str] = &[
-    "0", "1", "2", "3", "10", "11", "12", "13", "14", "119", "120", "121", "122", "127", "128",
-    "239", "240", "241", "255", "256", "257", "2878", "2879", "2880", "9999",
-    "10000", "65536", "65537", "65538", "99999", "4294967297", "18446744073709551617",
-    "00", "01", "02", "0002", "00002", "02879",
-    "", " ", "-1", "+1", "1.", "1 1", " 1", "1 ", "1\n", "\n1", "\n", "x", "1x", "x1", "\0", "1\0",
-    "\u{7f}", "\u{e9}", "S",
-];
 
 const LIMITS: Least = Least {
     name: "limits",
@@ -168,17 +145,8 @@ fn each_field_of_the_section_to_and_past_its_limits() {
             _ => booked_line(&mut random),
         };
         let fields = Fields::of(&line);
-        for place in section(&line, &fields) {
-            for text in FIELD_TEXTS {
-                compared.file(&fields.text_with(place, text));
-            }
-            // The line's own counts, and next to them.
-            for count in [line.station_count, line.train_count, line.booking_count] {
-                for near in [count - 1, count, count + 1] {
-                    compared.file(&fields.text_with(place, &near.to_string()));
-                }
-            }
-        }
+        let places = optional_places(&line, &fields);
+        limits(&mut compared, &line, &fields, &places);
     }
     compared.seen.ends(&LIMITS);
 }
@@ -213,7 +181,7 @@ const ONE_BYTE: Least = Least {
     accepted: 1500,
     numbers: &[
         (2, 48_000, 17),
-        (3, 1500, 16),
+        (3, 1500, 15),
         (4, 20, 3),
         (6, 4500, 1),
         (19, 30, 2),
@@ -251,14 +219,7 @@ fn damaged_bytes_and_lines() {
             0 => booked_full_size(&mut random),
             _ => booked_line(&mut random),
         };
-        let text = Fields::of(&line).text();
-        compared.file(&damage_lines(&mut random, &text));
-        let many = 2 + random.below(7);
-        for times in [1, many] {
-            let mut bytes = text.clone();
-            damage_bytes(&mut random, &mut bytes, times);
-            compared.file(&bytes);
-        }
+        damaged(&mut compared, &mut random, &line);
     }
     compared.seen.ends(&DAMAGED);
 }
@@ -287,7 +248,8 @@ const BYTES_AFTER: Least = Least {
     name: "bytes after",
     inputs: 26_000,
     accepted: 0,
-    numbers: &[(2, 26_000, 40)],
+    // A section of dues may follow: it is not empty, and what has no form is none.
+    numbers: &[(2, 26_000, 40), (3, 100, 40)],
 };
 
 #[test]

@@ -1,17 +1,19 @@
 //! Solving files with bookings beside the independent planners, byte for byte, and the length of the walk
 //! beside the independent one.
 
+mod lent_solving;
 mod solved;
+mod walked;
 
-use gaugeviolet::check;
-use gaugeviolet::on_callers_stack::{solve, walk_length};
 use independent::search::search_within;
 use independent::walk::solve_within;
 use independent::Line;
 use inputs::{beside_another, beside_walks, booked_saturday, booked_short_walks};
-use inputs::{booked_small_walks, dense_line, saturday, shown, with_bookings};
+use inputs::{booked_small_walks, dense_line, saturday, with_bookings};
 use inputs::{Booked, BookingCorners, LineWalk, Random, Style};
+use lent_solving::{lend_every_number, refused_by_all};
 use solved::solved;
+use walked::hold_length;
 
 /// Holds the walks' bookings to have done what mistakes could hide behind.
 fn corners(walks: impl Iterator<Item = LineWalk>, name: &str, least: usize) {
@@ -66,13 +68,6 @@ fn large_saturdays_beside_the_search() {
     }
 }
 
-/// Holds that the library's walk takes up as many plans.
-fn hold_length(walk: &LineWalk) {
-    let file = independent::write(&walk.line).expect("a line within the limits");
-    let length = walk_length(&file).map(u64::from);
-    assert_eq!(length, Ok(walk.walked.plans), "{}", shown(&file));
-}
-
 #[test]
 fn the_walk_takes_up_the_same_plans() {
     let mut split = 0;
@@ -107,48 +102,17 @@ fn long_walks() {
 /// No byte lent, one, one too few, and just enough, for files with and without a timetable.
 #[test]
 fn lent_bytes_of_every_number() {
-    let (mut texts, mut without) = (0, 0);
-    for walk in booked_small_walks(111).take(2_000) {
-        let file = independent::write(&walk.line).expect("a line within the limits");
-        let Ok(text) = solved(&file) else {
-            let refusal = solve(&file, &mut []).unwrap_err();
-            assert_eq!((refusal.number, refusal.place), (5, 0));
-            without += 1;
-            continue;
-        };
-        for few in [0, 1, text.len() - 1] {
-            let mut lent = vec![0xa5; few];
-            let refusal = solve(&file, &mut lent).unwrap_err();
-            assert_eq!((refusal.number, refusal.place), (6, 0));
-            assert!(lent.iter().all(|&byte| byte == 0xa5));
-        }
-        let mut lent = vec![0xa5; text.len()];
-        assert_eq!(solve(&file, &mut lent), Ok(text.len()));
-        assert_eq!(lent, text);
-        texts += 1;
-    }
-    println!("{texts} with a timetable, {without} without");
+    let (texts, without) = lend_every_number(booked_small_walks(111).take(2_000));
     assert!(texts >= 500 && without >= 50);
 }
 
 /// A booking that is refused is refused alike by every function.
 #[test]
 fn refused_as_reading_is() {
-    let front = "3\n1\n1\n1\n2\nS 1 1\nS 1 1\n1\n1 3 0 99 1 5 0 5\n";
-    for section in [
-        "0\n",
-        "121\n",
-        "1\n1 1 5\n",
-        "1\n2 2 5\n",
-        "1\n1 2 2880\n",
-        "1\n1 3 5\n",
-    ] {
-        let file = format!("{front}{section}").into_bytes();
-        let refusal = gaugeviolet::read(&file).expect_err("no line file");
-        let mut lent = [0xa5; 64];
-        assert_eq!(solve(&file, &mut lent), Err(refusal));
-        assert!(lent.iter().all(|&byte| byte == 0xa5));
-        assert_eq!(walk_length(&file), Err(refusal));
-        assert_eq!(check(&file, b""), Err(refusal));
-    }
+    refused_by_all("0\n");
+    refused_by_all("121\n");
+    refused_by_all("1\n1 1 5\n");
+    refused_by_all("1\n2 2 5\n");
+    refused_by_all("1\n1 2 2880\n");
+    refused_by_all("1\n1 3 5\n");
 }

@@ -2,6 +2,7 @@
 //! a timetable: right ones, damaged ones, and unlawful minutes with the lists and total of their own.
 
 mod checked;
+mod totals;
 
 use checked::Compared;
 use gaugeviolet::{FILE_BYTES, TIMETABLE_BYTES};
@@ -9,6 +10,7 @@ use independent::rules::Minutes;
 use independent::{Limits, Line, Train};
 use inputs::{damaged, full_size_planned, planned, small_planned, with_one_byte_damaged};
 use inputs::{Damage, Density, Fields, Least, Pair, Planned, Random, Traffic};
+use totals::near_and_wrapped;
 
 // What each test must at least have seen stands before it; here are the inputs of all of them.
 const ALL: usize = Least::inputs_of(&[
@@ -235,7 +237,7 @@ const GREATEST_TOTAL: Least = Least {
     numbers: &[(8, 2, 1), (17, 200, 1)],
 };
 
-/// The greatest total of a lawful timetable, and others that fewer bits would not tell from it.
+/// The greatest total of a lawful timetable without dues, and others that fewer bits would not tell from it.
 #[test]
 fn totals_near_the_greatest() {
     let mut compared = Compared::default();
@@ -246,16 +248,7 @@ fn totals_near_the_greatest() {
         line,
         minutes: Minutes::of_rows(&line, &rows),
     };
-    let Pair { file, timetable } = planned.pair();
-    let fields = Fields::of_text(&timetable);
-    let total = *fields.places().last().expect("a timetable has fields");
-    let greatest = 3_412_530_u64;
-    let near = greatest - 100..greatest + 100;
-    let wrapped = [8, 16, 20, 21].map(|bits| greatest % (1 << bits));
-    let longer = [8, 16, 20, 21, 22, 32, 63].map(|bits| greatest + (1 << bits));
-    for number in near.chain(wrapped).chain(longer) {
-        compared.pair(&file, &fields.text_with(total, &number.to_string()));
-    }
+    near_and_wrapped(&mut compared, &planned, 3_412_530);
     compared.seen.ends(&GREATEST_TOTAL);
 }
 

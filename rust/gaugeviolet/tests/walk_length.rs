@@ -1,20 +1,17 @@
 //! The length of the library's walk beside the independent walk: both take up the same plans.
 
-use gaugeviolet::on_callers_stack::walk_length;
-use inputs::{dense_walk, short_walks, shown, Corners, LineWalk, Random};
+mod walked;
 
-fn compare(walk: &LineWalk) {
-    let file = independent::write(&walk.line).expect("a line within the limits");
-    let length = walk_length(&file).map(u64::from);
-    assert_eq!(length, Ok(walk.walked.plans), "{}", shown(&file));
-}
+use gaugeviolet::on_callers_stack::walk_length;
+use inputs::{dense_walk, short_walks, Corners, Random};
+use walked::hold_length;
 
 #[test]
 fn lines_of_every_shape() {
     let mut corners = Corners::default();
     let mut split = 0;
     for walk in short_walks(85, 2_000).take(10_000) {
-        compare(&walk);
+        hold_length(&walk);
         split += usize::from(walk.walked.plans > 1);
         corners.count(&walk.line, walk.walked.best.as_ref());
     }
@@ -28,7 +25,7 @@ fn long_walks() {
     let mut random = Random::new(86);
     for size in [(6, 8), (8, 9)] {
         for _ in 0..3 {
-            compare(&dense_walk(&mut random, size, 200_000, 1_000_000));
+            hold_length(&dense_walk(&mut random, size, 200_000, 1_000_000));
         }
     }
 }

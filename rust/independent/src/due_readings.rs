@@ -228,7 +228,7 @@ fn cut_short_at_every_byte() {
             true => refused(3, 11),
             false => refused(2, place),
         };
-        assert_eq!(read(whole[..end].as_bytes()), expected);
+        assert_eq!(read(&whole.as_bytes()[..end]), expected);
     }
 }
 

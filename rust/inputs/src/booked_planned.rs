@@ -89,12 +89,7 @@ fn book(planned: &mut Planned, mut minute: impl FnMut(u16) -> Option<u16>) {
 #[cfg(test)]
 mod tests {
     use super::*;
-
-    fn passes_the_check(planned: &Planned) {
-        let pair = planned.pair();
-        assert_eq!(independent::read(&pair.file), Ok(planned.line));
-        assert_eq!(independent::check(&pair.file, &pair.timetable), Ok(()));
-    }
+    use crate::planned::passes_the_check;
 
     #[test]
     fn planned_lines_with_bookings_pass_the_check() {

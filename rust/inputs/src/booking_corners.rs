@@ -4,10 +4,9 @@ use independent::rules::{lists, order_list, weighted_delay, Minutes};
 use independent::walk::solve_within;
 use independent::{Booking, Limits, Line};
 
+use crate::corners::PLANS;
 use crate::parts::put_bookings;
-
-/// The most plans of a walk that shows what the bookings do.
-const PLANS: u64 = 100_000;
+use crate::tally::Tally;
 
 /// Something that the bookings of a line do.
 #[derive(Clone, Copy, Debug, PartialEq, Eq)]
@@ -86,8 +85,7 @@ fn has_an_inbound_train_booked_twice(line: &Line) -> bool {
 /// How many lines with bookings there were, and of how many each corner is.
 #[derive(Default)]
 pub struct BookingCorners {
-    lines: usize,
-    times: [usize; BookingCorner::ALL.len()],
+    tally: Tally<{ BookingCorner::ALL.len() }>,
 }
 
 impl BookingCorners {
@@ -98,25 +96,14 @@ impl BookingCorners {
         }
         let mut without = *line;
         put_bookings(&mut without, Vec::new());
-        let Ok(unbooked) = solve_within(&without, PLANS) else {
-            return;
-        };
-        self.lines += 1;
-        for (corner, times) in BookingCorner::ALL.iter().zip(&mut self.times) {
-            *times += usize::from(corner.is_of(line, best, unbooked.best.as_ref()));
+        if let Ok(unbooked) = solve_within(&without, PLANS) {
+            let is_of = |corner: BookingCorner| corner.is_of(line, best, unbooked.best.as_ref());
+            self.tally.count(BookingCorner::ALL.map(is_of));
         }
     }
 
     /// Prints the counts, and holds that each corner was seen at least so often.
     pub fn ends(&self, name: &str, least: usize) {
-        println!("{name}: {} lines with bookings", self.lines);
-        for (corner, times) in BookingCorner::ALL.iter().zip(&self.times) {
-            println!("  {corner:?}: {times}");
-        }
-        let rare = BookingCorner::ALL
-            .iter()
-            .zip(&self.times)
-            .filter(|(_, &times)| times < least);
-        assert_eq!(rare.collect::<Vec<_>>(), [], "{name}: too rare");
+        self.tally.ends(name, BookingCorner::ALL, least);
     }
 }

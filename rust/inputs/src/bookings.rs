@@ -216,14 +216,8 @@ pub fn with_one_booking(random: &mut Random, line: &Line, booked: Booked) -> Lin
 #[cfg(test)]
 mod tests {
     use super::*;
+    use crate::parts::reads_back;
     use crate::Fields;
-
-    /// Holds that the line is within the limits and reads back.
-    fn reads_back(line: &Line) {
-        let text = Fields::of(line).text();
-        assert_eq!(independent::read(&text), Ok(*line));
-        assert_eq!(independent::write(line), Ok(text));
-    }
 
     #[test]
     fn every_line_with_bookings_is_within_the_limits_and_reads_back() {

@@ -2,12 +2,13 @@
 
 use independent::rules::{free_arrival, last_arrival, weighted_delay, Minutes};
 use independent::walk::solve_within;
-use independent::{Booking, Kind, Limits, Line, Train};
+use independent::{Booking, Due, Kind, Limits, Line, Train};
 
-use crate::parts::{put_bookings, used_parts};
+use crate::parts::{put_bookings, put_dues, used_parts};
+use crate::tally::Tally;
 
 /// The most plans of a walk that shows what a line has.
-const PLANS: u64 = 100_000;
+pub(crate) const PLANS: u64 = 100_000;
 
 /// Something that a line has.
 #[derive(Clone, Copy, Debug, PartialEq, Eq)]
@@ -34,7 +35,7 @@ pub enum Corner {
     /// Two trains share a segment, not of kind D, on which the following gap is more than three times
     /// the opposing one.
     WideFollowing,
-    /// A train that is delayed in the best timetable arrives at its latest.
+    /// A train that is in after its free arrival in the best timetable arrives at its latest.
     JustInTime,
     /// It would have another best timetable if every train might arrive a minute later.
     MinuteTooLate,
@@ -85,7 +86,9 @@ impl Corner {
     }
 }
 
-fn has_a_tie(line: &Line, best: &Minutes) -> bool {
+/// Whether the best timetable would be another, of the same weighted delay, were the trains numbered the
+/// other way round: then two timetables at least have the least weighted delay.
+pub(crate) fn has_a_tie(line: &Line, best: &Minutes) -> bool {
     let Ok(found) = solve_within(&numbered_backwards(line), PLANS) else {
         return false;
     };
@@ -102,11 +105,17 @@ fn has_a_tie(line: &Line, best: &Minutes) -> bool {
 fn numbered_backwards(line: &Line) -> Line {
     let mut backwards = *line;
     used_parts(&mut backwards).2.reverse();
+    let other = |train| line.train_count + 1 - train;
     let bookings = line.used_bookings().iter().map(|&booking| Booking {
-        train: line.train_count + 1 - booking.train,
+        train: other(booking.train),
         ..booking
     });
     put_bookings(&mut backwards, bookings.collect());
+    let dues = line.used_dues().iter().rev().map(|&due| Due {
+        train: other(due.train),
+        ..due
+    });
+    put_dues(&mut backwards, &dues.collect::<Vec<_>>());
     backwards
 }
 
@@ -179,29 +188,18 @@ fn ends_with_the_day(line: &Line, best: &Minutes) -> bool {
 /// How many lines there were, and how many of them have each corner.
 #[derive(Default)]
 pub struct Corners {
-    lines: usize,
-    times: [usize; Corner::ALL.len()],
+    tally: Tally<{ Corner::ALL.len() }>,
 }
 
 impl Corners {
     /// Counts a line, of which `best` is the best timetable.
     pub fn count(&mut self, line: &Line, best: Option<&Minutes>) {
-        self.lines += 1;
-        for (corner, times) in Corner::ALL.iter().zip(&mut self.times) {
-            *times += usize::from(corner.is_of(line, best));
-        }
+        self.tally
+            .count(Corner::ALL.map(|corner| corner.is_of(line, best)));
     }
 
     /// Prints the counts, and holds that each corner was seen at least so often.
     pub fn ends(&self, name: &str, least: usize) {
-        println!("{name}: {} lines", self.lines);
-        for (corner, times) in Corner::ALL.iter().zip(&self.times) {
-            println!("  {corner:?}: {times}");
-        }
-        let rare = Corner::ALL
-            .iter()
-            .zip(&self.times)
-            .filter(|(_, &times)| times < least);
-        assert_eq!(rare.collect::<Vec<_>>(), [], "{name}: too rare");
+        self.tally.ends(name, Corner::ALL, least);
     }
 }

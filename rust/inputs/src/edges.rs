@@ -11,7 +11,7 @@ use crate::Random;
 enum Edge {
     /// Some trains may arrive when they do in the best timetable, and not later: that just holds.
     JustInTime,
-    /// The same, and for one of them, a delayed one if there is any, a minute less.
+    /// The same, and for one of them, one that is in after its free arrival if there is any, a minute less.
     MinuteTooLate,
     /// All times are later by as much, so that the best timetable would end with the day, or up to two
     /// minutes before or after that.
@@ -33,17 +33,17 @@ pub(crate) fn at_the_edges(random: &mut Random, line: &Line, best: Option<&Minut
 fn at_the_edge(random: &mut Random, line: &Line, best: &Minutes, edge: Edge) -> Line {
     let arrival = |(i, train): (usize, &Train)| last_arrival(best, i, train);
     let arrivals: Vec<u16> = line.used_trains().iter().enumerate().map(arrival).collect();
-    let late = |&i: &usize| u32::from(arrivals[i]) > free_arrival(line, i);
-    let delayed: Vec<usize> = (0..arrivals.len()).filter(late).collect();
+    let waits = |&i: &usize| u32::from(arrivals[i]) > free_arrival(line, i);
+    let waiting: Vec<usize> = (0..arrivals.len()).filter(waits).collect();
     let mut line = *line;
     let trains = used_parts(&mut line).2;
     match edge {
         Edge::JustInTime => just_in_time(random, trains, &arrivals),
         Edge::MinuteTooLate => {
             just_in_time(random, trains, &arrivals);
-            let one = match delayed[..] {
+            let one = match waiting[..] {
                 [] => random.below(trains.len()),
-                _ => random.one_of(&delayed),
+                _ => random.one_of(&waiting),
             };
             trains[one].latest = arrivals[one] - 1;
         }
@@ -57,7 +57,7 @@ fn at_the_edge(random: &mut Random, line: &Line, best: &Minutes, edge: Edge) -> 
     line
 }
 
-/// Moves the times of all trains, and their bookings, within the day.
+/// Moves the times of all trains, their bookings and dues, within the day.
 fn move_all_times(line: &mut Line, later: u16) {
     let moved = |minute: u16| minute.wrapping_add(later).min(Limits::MINUTE.most);
     for train in used_parts(line).2 {
@@ -67,6 +67,9 @@ fn move_all_times(line: &mut Line, later: u16) {
     let bookings = line.bookings[..usize::from(line.booking_count)].iter_mut();
     for booking in bookings {
         booking.minute = moved(booking.minute);
+    }
+    for due in &mut line.dues[..usize::from(line.due_count)] {
+        due.minute = moved(due.minute);
     }
 }
 

@@ -9,7 +9,8 @@ pub struct Fields {
 }
 
 impl Fields {
-    /// The fields of `line`, which is within the limits; its bookings need not be, but for their count.
+    /// The fields of `line`, which is within the limits; its bookings and dues need not be, but for the room
+    /// that a record has for them.
     pub fn of(line: &Line) -> Fields {
         let stations = usize::from(line.station_count);
         let trains = usize::from(line.train_count);
@@ -45,7 +46,7 @@ impl Fields {
             numbers.pop();
             lines.push(numbers.iter().map(u16::to_string).collect());
         }
-        lines.extend(booking_lines(line));
+        lines.extend(optional_lines(line));
         Fields { lines }
     }
 
@@ -81,15 +82,22 @@ impl Fields {
     }
 }
 
-/// The lines of the section of bookings, if there are any.
-fn booking_lines(line: &Line) -> Vec<Vec<String>> {
-    if line.booking_count == 0 {
-        return Vec::new();
+/// The lines of the sections past the third, up to the last that is not empty.
+fn optional_lines(line: &Line) -> Vec<Vec<String>> {
+    let bookings = line.used_bookings().iter();
+    let bookings = bookings.map(|it| vec![it.train, it.station, it.minute]);
+    let dues = line.used_dues().iter();
+    let dues = dues.map(|it| vec![it.train, it.minute]);
+    let mut sections = vec![section(bookings), section(dues)];
+    while sections.last().is_some_and(|section| section.len() == 1) {
+        sections.pop();
     }
-    let mut lines = vec![vec![line.booking_count.to_string()]];
-    lines.extend(line.used_bookings().iter().map(|booking| {
-        let numbers = [booking.train, booking.station, booking.minute];
-        numbers.iter().map(u16::to_string).collect()
-    }));
+    sections.concat()
+}
+
+/// A line with the count of these rows, and a line for each.
+fn section(rows: impl ExactSizeIterator<Item = Vec<u16>>) -> Vec<Vec<String>> {
+    let mut lines = vec![vec![rows.len().to_string()]];
+    lines.extend(rows.map(|row| row.iter().map(u16::to_string).collect()));
     lines
 }

@@ -1,5 +1,5 @@
 //! Line files and timetables for tests and benchmarks: random lines within the limits, lines for the
-//! planners, Saturdays, all of these with and without bookings, lawful timetables, texts with fields
+//! planners, Saturdays, all of these with and without bookings and dues, lawful timetables, texts with fields
 //! altered, texts with bytes damaged; and the count of what they have and of what came of them.
 //! Everything comes from a seed, so a failure can be seen again.
 
@@ -11,6 +11,10 @@ mod booking_corners;
 mod bookings;
 mod corners;
 mod damage;
+mod due_corners;
+mod due_faults;
+mod due_planned;
+mod dues;
 mod edges;
 mod fields;
 mod misbooked;
@@ -20,6 +24,7 @@ mod random;
 mod saturdays;
 mod seen;
 mod shown;
+mod tally;
 mod timetable_damage;
 mod walks;
 
@@ -31,6 +36,11 @@ pub use bookings::{booked_full_size, booked_saturday, booked_small_line};
 pub use bookings::{with_bookings, with_one_booking, Booked};
 pub use corners::{Corner, Corners};
 pub use damage::{damage_bytes, damage_lines, with_one_byte_damaged};
+pub use due_corners::{DueCorner, DueCorners};
+pub use due_faults::{with_due_fault, DueFault};
+pub use due_planned::{due_planned, due_small_planned, fully_due_planned};
+pub use dues::{due_full_size, due_saturday, due_small_line};
+pub use dues::{with_all_due, with_dues, with_some_dues, DueAt};
 pub use fields::Fields;
 pub use misbooked::{misbooked, Misbooking};
 pub use planned::{full_size_planned, planned, small_line, small_planned, Pair, Planned, Traffic};
@@ -41,6 +51,7 @@ pub use shown::shown;
 pub use timetable_damage::{damaged, Damage};
 pub use walks::{booked_short_walks, booked_small_walks};
 pub use walks::{dense_line, dense_walk, short_walk, short_walks, small_walks, walk_line};
+pub use walks::{due_dense_walk, due_short_walks, due_small_walks};
 pub use walks::{LineWalk, Shape};
 
 use independent::{Kind, Limits, Line, Segment, Train, STATIONS, TRAINS};
@@ -151,16 +162,14 @@ fn full_size_train(random: &mut Random) -> Train {
 #[cfg(test)]
 mod tests {
     use super::*;
+    use crate::parts::reads_back;
 
     #[test]
     fn every_random_line_is_within_the_limits_and_reads_back() {
         let mut random = Random::new(1);
         for (stations, trains) in sizes() {
             for density in [Density::Sparse, Density::Dense] {
-                let line = line(&mut random, stations, trains, density);
-                let text = Fields::of(&line).text();
-                assert_eq!(independent::read(&text), Ok(line));
-                assert_eq!(independent::write(&line), Ok(text));
+                reads_back(&line(&mut random, stations, trains, density));
             }
         }
     }

@@ -109,7 +109,7 @@ fn off_the_path(random: &mut Random, line: &Line, train: &Train) -> Option<u16> 
 }
 
 /// A number at a limit, next to it, or far past it.
-fn near_limits(random: &mut Random, least: u16, most: u16) -> u16 {
+pub(crate) fn near_limits(random: &mut Random, least: u16, most: u16) -> u16 {
     let below = least.saturating_sub(1);
     random.one_of(&[below, least, most, most + 1, most + 2, 255, 256, 257, 9999])
 }

@@ -1,6 +1,6 @@
 //! The parts of a line and of a train that are in use, for the generators to draw one after another.
 
-use independent::{Booking, Line, Segment, Train};
+use independent::{Booking, Due, Line, Segment, Train};
 
 /// A line of this size with nothing drawn yet.
 pub(crate) fn of_size(stations: u16, trains: u16) -> Line {
@@ -40,4 +40,19 @@ pub(crate) fn put_bookings(line: &mut Line, mut bookings: Vec<Booking>) {
     line.booking_count = bookings.len() as u16;
     line.bookings = Line::default().bookings;
     line.bookings[..bookings.len()].copy_from_slice(&bookings);
+}
+
+/// Gives the line these dues and no others. They rise by train.
+pub(crate) fn put_dues(line: &mut Line, dues: &[Due]) {
+    line.due_count = dues.len() as u16;
+    line.dues = Line::default().dues;
+    line.dues[..dues.len()].copy_from_slice(dues);
+}
+
+/// Holds that the line is within the limits and reads back.
+#[cfg(test)]
+pub(crate) fn reads_back(line: &Line) {
+    let text = crate::Fields::of(line).text();
+    assert_eq!(independent::read(&text), Ok(*line));
+    assert_eq!(independent::write(line), Ok(text));
 }

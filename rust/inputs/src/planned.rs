@@ -231,6 +231,14 @@ pub fn small_planned(random: &mut Random) -> Planned {
     }
 }
 
+/// Holds that the file reads as the line, and that the check passes the timetable.
+#[cfg(test)]
+pub(crate) fn passes_the_check(planned: &Planned) {
+    let pair = planned.pair();
+    assert_eq!(independent::read(&pair.file), Ok(planned.line));
+    assert_eq!(independent::check(&pair.file, &pair.timetable), Ok(()));
+}
+
 #[cfg(test)]
 mod tests {
     use super::*;
@@ -240,10 +248,7 @@ mod tests {
         let mut random = Random::new(20);
         for (stations, trains) in crate::sizes() {
             for traffic in [Traffic::Mixed, Traffic::Full] {
-                let planned = planned(&mut random, stations, trains, traffic);
-                let pair = planned.pair();
-                assert_eq!(independent::read(&pair.file), Ok(planned.line));
-                assert_eq!(independent::check(&pair.file, &pair.timetable), Ok(()));
+                passes_the_check(&planned(&mut random, stations, trains, traffic));
             }
         }
     }
@@ -252,8 +257,7 @@ mod tests {
     fn small_planned_lines_pass_the_check() {
         let mut random = Random::new(21);
         for _ in 0..2000 {
-            let pair = small_planned(&mut random).pair();
-            assert_eq!(independent::check(&pair.file, &pair.timetable), Ok(()));
+            passes_the_check(&small_planned(&mut random));
         }
     }
 

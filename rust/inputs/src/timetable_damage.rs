@@ -26,8 +26,8 @@ pub enum Damage {
     Field,
     /// Any field of the line file; the timetable stays.
     LineField,
-    /// A demand of the line file made a little harder: earliest, a stop, a booking, latest, a gap or
-    /// tracks. The timetable stays.
+    /// A demand of the line file made a little harder: earliest, a stop, a booking, latest, a due minute, a
+    /// gap or tracks. The timetable stays.
     Demand,
     /// A few bytes of the timetable, now and then of the line file.
     Bytes,
@@ -273,6 +273,10 @@ fn harder(random: &mut Random, mut line: Line) -> Vec<u8> {
         5 | 6 if line.booking_count > 0 => {
             let at = random.below(usize::from(line.booking_count));
             raise(&mut line.bookings[at].minute, Limits::MINUTE);
+        }
+        7 if line.due_count > 0 => {
+            let due = &mut line.dues[random.below(usize::from(line.due_count))];
+            due.minute = due.minute.saturating_sub(1);
         }
         _ => line.tracks[station] = 1.max(line.tracks[station] - 1),
     }

@@ -4,9 +4,11 @@ use independent::plans::Found;
 use independent::walk::solve_within;
 use independent::{exhaustive, Kind, Limits, Line, Segment, Train};
 
+use crate::corners::has_a_tie;
 use crate::edges::at_the_edges;
 use crate::parts::{of_size, unbooked_arrival, used_parts, used_runs_and_stops};
-use crate::{shown, small_line, with_bookings, with_one_booking, Booked, Fields, Random};
+use crate::{shown, small_line, with_all_due, with_bookings, with_one_booking, with_some_dues};
+use crate::{Booked, DueAt, Fields, Random};
 
 /// What the trains of a line have to do with each other.
 #[derive(Clone, Copy, Debug, PartialEq, Eq)]
@@ -183,6 +185,16 @@ fn booked(random: &mut Random, line: Line) -> Line {
     }
 }
 
+/// It has dues, if it has trains: near the free arrivals or far from them. Half of them have bookings too.
+fn due(random: &mut Random, line: Line) -> Line {
+    let line = match random.below(2) {
+        0 => line,
+        _ => booked(random, line),
+    };
+    let near = random.one_of(&[3, 10, 30]);
+    with_some_dues(random, &line, near)
+}
+
 /// A random line of any size and this shape, whose walk takes up no more than `limit` plans.
 pub fn short_walk(random: &mut Random, shape: Shape, limit: u64) -> LineWalk {
     short_walk_of(random, shape, limit, unbooked)
@@ -216,6 +228,11 @@ pub fn booked_short_walks(seed: u64, limit: u64) -> impl Iterator<Item = LineWal
     short_walks_of(seed, limit, booked)
 }
 
+/// The same with dues, half of them with bookings too. Lines without trains are among them.
+pub fn due_short_walks(seed: u64, limit: u64) -> impl Iterator<Item = LineWalk> {
+    short_walks_of(seed, limit, due)
+}
+
 fn short_walks_of(seed: u64, limit: u64, finish: Finish) -> impl Iterator<Item = LineWalk> {
     let mut random = Random::new(seed);
     let shapes = Shape::ALL.into_iter().cycle();
@@ -235,6 +252,22 @@ pub fn small_walks(seed: u64) -> impl Iterator<Item = LineWalk> {
 pub fn booked_small_walks(seed: u64) -> impl Iterator<Item = LineWalk> {
     let walks = small_walks_of(seed, small_size_with_stops, booked);
     walks.filter(|walk| walk.line.booking_count > 0)
+}
+
+/// The same with dues, each line with one at least, some of them with bookings too. Of those without a tie so
+/// many are left out that there are never more of them than of those with one.
+pub fn due_small_walks(seed: u64) -> impl Iterator<Item = LineWalk> {
+    let mut more_ties = 0_usize;
+    small_walks_of(seed, small_size, due).filter(move |LineWalk { line, walked }| {
+        let best = walked.best.as_ref();
+        let tie = best.is_some_and(|best| has_a_tie(line, best));
+        let kept = tie || more_ties > 0;
+        more_ties = match tie {
+            true => more_ties + 1,
+            false => more_ties.saturating_sub(1),
+        };
+        kept
+    })
 }
 
 fn small_walks_of(
@@ -306,14 +339,37 @@ fn with_altered(
 }
 
 /// A line of [`dense_line`] whose walk takes up from `least` to `most` plans.
-pub fn dense_walk(
+pub fn dense_walk(random: &mut Random, size: (u16, u16), least: u64, most: u64) -> LineWalk {
+    dense_walk_of(random, size, unbooked, least, most)
+}
+
+/// The same with every train due around its free arrival.
+pub fn due_dense_walk(random: &mut Random, size: (u16, u16), least: u64, most: u64) -> LineWalk {
+    let times = [
+        DueAt::Before(20),
+        DueAt::Free,
+        DueAt::After(20),
+        DueAt::After(60),
+    ];
+    dense_walk_of(
+        random,
+        size,
+        |random, line| with_all_due(random, &line, &times),
+        least,
+        most,
+    )
+}
+
+fn dense_walk_of(
     random: &mut Random,
     (stations, trains): (u16, u16),
+    finish: impl Fn(&mut Random, Line) -> Line,
     least: u64,
     most: u64,
 ) -> LineWalk {
     loop {
         let line = dense_line(random, stations, trains);
+        let line = finish(random, line);
         match solve_within(&line, most) {
             Ok(walked) if walked.plans >= least => return LineWalk { line, walked },
             _ => {}

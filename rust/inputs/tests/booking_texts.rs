@@ -1,28 +1,13 @@
 //! Sections of bookings, good and bad: what the independent reader says of a text beside what the writer
 //! says of the record, and beside the papers word by word.
 
-use independent::{read, write, write_into, Booking, Line, Refusal, FILE_BYTES};
-use inputs::{booked_full_size, booked_saturday, damage_bytes, damage_lines, misbooked, shown};
+mod texts;
+
+use independent::{read, write, Booking, Line, Refusal};
+use inputs::{booked_full_size, booked_saturday, damage_bytes, damage_lines, misbooked};
 use inputs::{with_bookings, with_one_byte_damaged, Booked, Density, Fields, Misbooking};
 use inputs::{Random, Seen, Style};
-
-/// Four stations; a train over the whole line, one back over a part of it, and one over one segment.
-const SMALL: &[u8] =
-    b"4\n1\n1\n1\n1\n3\nS 1 1\nS 1 1\nS 1 1\n3\n1 4 0 99 1 5 0 5 0 5\n4 2 0 99 1 5 0 5\n2 3 0 9 1 5\n";
-
-/// Counts what reading says, and holds that what is accepted is written back byte for byte.
-fn count(seen: &mut Seen, file: &[u8]) -> Result<Line, Refusal> {
-    let answer = read(file);
-    if let Ok(line) = &answer {
-        assert_eq!(write(line).as_deref(), Ok(file), "{}", shown(file));
-    }
-    seen.input(
-        answer
-            .map(|_| ())
-            .map_err(|refusal| (refusal.number, refusal.place)),
-    );
-    answer
-}
+use texts::{count, count_record, FIELD_TEXTS, SMALL};
 
 /// What the papers say of two bookings behind the trains of [`SMALL`], whose count stands on line 14.
 fn by_the_papers(bookings: [Booking; 2]) -> Result<(), Refusal> {
@@ -68,14 +53,7 @@ fn every_two_bookings_by_the_papers() {
             booked.booking_count = 2;
             booked.bookings[..2].copy_from_slice(&[first, second]);
             let expected = by_the_papers([first, second]);
-            let text = Fields::of(&booked).text();
-            assert_eq!(
-                count(&mut seen, &text).map(|_| ()),
-                expected,
-                "{}",
-                shown(&text)
-            );
-            assert_eq!(write(&booked), expected.map(|()| text));
+            assert_eq!(count_record(&mut seen, &booked), expected, "{booked:?}");
         }
     }
     seen.print("two bookings");
@@ -106,19 +84,7 @@ fn a_record_and_its_text_are_refused_alike() {
             _ => booked_line(&mut random),
         };
         let wrong = misbooked(&mut random, &line, misbooking);
-        let text = Fields::of(&wrong).text();
-        let answer = count(&mut seen, &text);
-        assert_eq!(
-            write(&wrong),
-            answer.map(|_| text.clone()),
-            "{misbooking:?} {}",
-            shown(&text)
-        );
-        if answer.is_err() {
-            let mut lent = [0xA5; FILE_BYTES];
-            assert_eq!(write_into(&wrong, &mut lent).err(), answer.err());
-            assert!(lent.iter().all(|&byte| byte == 0xA5));
-        }
+        let _ = count_record(&mut seen, &wrong);
     }
     seen.print("wrong bookings");
     assert!(seen.times(0) >= 5000 && seen.times(3) >= 5000 && seen.times(19) >= 15_000);
@@ -151,12 +117,6 @@ fn each_misbooking_does_its_part() {
 /// Each field of the section at and past its limits, and in forms that are none.
 #[test]
 fn each_field_of_the_section_altered() {
-    #[rustfmt::skip]
-    let texts = [
-        "0", "1", "2", "3", "11", "12", "13", "119", "120", "121", "255", "256", "2878", "2879",
-        "2880", "9999", "10000", "65536", "65537", "00", "01", "0002", "", " ", "-1", "1 1", "1 ",
-        " 1", "1\n", "\n1", "x", "1x", "\0", "S",
-    ];
     let mut random = Random::new(97);
     let mut seen = Seen::default();
     for at in 0..60 {
@@ -167,7 +127,7 @@ fn each_field_of_the_section_altered() {
         let fields = Fields::of(&line);
         let first = usize::from(2 * line.station_count + line.train_count) + 2;
         for place in fields.places().into_iter().filter(|place| place.0 >= first) {
-            for text in texts {
+            for text in FIELD_TEXTS {
                 let _ = count(&mut seen, &fields.text_with(place, text));
             }
         }

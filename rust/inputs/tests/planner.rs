@@ -3,7 +3,7 @@
 use independent::exhaustive::best;
 use independent::rules::{first_breach, free_arrival, weighted_delay, Minutes};
 use independent::{Line, Train};
-use inputs::{booked_small_line, small_line, Random};
+use inputs::{booked_small_line, due_small_line, small_line, Random};
 
 /// Every row of minutes with which the train, were it alone and without bookings, keeps rules 10 to 13.
 fn rows_alone(train: &Train) -> Vec<Vec<u16>> {
@@ -105,6 +105,11 @@ fn compare_booked(seed: u64, stations: u16, trains: u16, lines: usize) {
     compare_of(booked_small_line, seed, (stations, trains), lines);
 }
 
+/// The same with dues, half of them with bookings.
+fn compare_due(seed: u64, stations: u16, trains: u16, lines: usize) {
+    compare_of(due_small_line, seed, (stations, trains), lines);
+}
+
 fn compare_of(
     draw: fn(&mut Random, u16, u16) -> Line,
     seed: u64,
@@ -164,4 +169,24 @@ fn three_stations_three_trains_with_bookings() {
 #[test]
 fn four_stations_two_trains_with_bookings() {
     compare_booked(47, 4, 2, 300);
+}
+
+#[test]
+fn two_stations_three_trains_with_dues() {
+    compare_due(48, 2, 3, 2000);
+}
+
+#[test]
+fn three_stations_two_trains_with_dues() {
+    compare_due(49, 3, 2, 3000);
+}
+
+#[test]
+fn three_stations_three_trains_with_dues() {
+    compare_due(140, 3, 3, 200);
+}
+
+#[test]
+fn four_stations_two_trains_with_dues() {
+    compare_due(141, 4, 2, 300);
 }

@@ -2,6 +2,7 @@
 //! many places. A comparison of two checks over these inputs has then seen them all.
 
 use inputs::{booked_planned, booked_small_planned, damaged, planned, sizes, small_planned};
+use inputs::{due_planned, due_small_planned};
 use inputs::{Damage, Planned, Random, Seen, Traffic};
 
 /// Counts what the check says of the planned line after this damage.
@@ -74,6 +75,29 @@ fn every_number_is_seen_with_bookings() {
     }
 }
 
+/// The same with dues, half of them with bookings.
+#[test]
+fn every_number_is_seen_with_dues() {
+    let mut random = Random::new(36);
+    let mut seen = Seen::default();
+    for (stations, trains) in sizes().chain([(12, 12); 30]) {
+        let traffic = random.one_of(&[Traffic::Mixed, Traffic::Full]);
+        let planned = due_planned(&mut random, stations, trains, traffic);
+        for _ in 0..25 {
+            for damage in Damage::ALL {
+                count(&mut seen, &mut random, &planned, damage);
+            }
+        }
+    }
+    seen.print("planned lines with dues");
+    for (number, places) in [(10, 12), (11, 12), (12, 12), (13, 12), (18, 12)] {
+        assert_eq!(seen.places(number), places, "places of number {number}");
+    }
+    for number in (7..=17).chain([0, 2, 3, 18, 19]) {
+        assert!(seen.times(number) >= 150, "number {number}");
+    }
+}
+
 /// Counts what the check says of 1,000 lines as `draw` draws them after every kind of damage.
 fn count_damaged(seed: u64, draw: fn(&mut Random) -> Planned) -> Seen {
     let mut random = Random::new(seed);
@@ -102,6 +126,15 @@ fn tight_small_lines() {
 fn tight_small_lines_with_bookings() {
     let seen = count_damaged(35, booked_small_planned);
     seen.print("small lines with bookings");
+    for number in 7..=19 {
+        assert!(seen.times(number) >= 20, "number {number}");
+    }
+}
+
+#[test]
+fn tight_small_lines_with_dues() {
+    let seen = count_damaged(37, due_small_planned);
+    seen.print("small lines with dues");
     for number in 7..=19 {
         assert!(seen.times(number) >= 20, "number {number}");
     }

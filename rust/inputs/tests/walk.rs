@@ -6,7 +6,8 @@ use independent::rules::{weighted_delay, Minutes};
 use independent::walk::{plan_by_walk, solve, solve_within};
 use independent::{check, Kind, Line, Refusal};
 use inputs::{beside_walks, dense_line, short_walk, small_line, small_walks, walk_line};
-use inputs::{booked_small_line, with_bookings, Booked, Random, Shape};
+use inputs::{booked_small_line, due_small_line, with_bookings, with_some_dues};
+use inputs::{Booked, Random, Shape};
 
 fn text(line: &Line) -> String {
     let file = independent::write(line).expect("a line within the limits");
@@ -339,6 +340,33 @@ fn small_lines_with_bookings_word_by_word() {
     let compared = compared("short times, booked", 2000, |compared| {
         let (stations, trains) = (random.within(3, 6), random.within(1, 5));
         let line = booked_small_line(&mut random, stations, trains);
+        compared.word_by_word(&line, 200);
+    });
+    assert!(compared.files >= 1900);
+}
+
+#[test]
+fn lines_with_dues_word_by_word() {
+    let mut random = Random::new(69);
+    let by_shape = compared_by_shape(400, |compared, shape| {
+        let (stations, trains) = (random.within(2, 7), random.within(1, 7));
+        let line = walk_line(&mut random, stations, trains, shape);
+        let line = match random.below(2) {
+            0 => line,
+            _ => with_bookings(&mut random, &line, &[Booked::InAnyCase, Booked::Later(10)]),
+        };
+        let line = with_some_dues(&mut random, &line, 10);
+        compared.word_by_word(&line, 200);
+    });
+    assert!(by_shape.iter().all(|compared| compared.files >= 200));
+}
+
+#[test]
+fn small_lines_with_dues_word_by_word() {
+    let mut random = Random::new(160);
+    let compared = compared("short times, due", 2000, |compared| {
+        let (stations, trains) = (random.within(2, 6), random.within(1, 5));
+        let line = due_small_line(&mut random, stations, trains);
         compared.word_by_word(&line, 200);
     });
     assert!(compared.files >= 1900);
