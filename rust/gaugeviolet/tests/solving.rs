@@ -89,7 +89,12 @@ fn six_where_a_byte_is_missing() {
 fn the_sample_saturdays() {
     let samples = Path::new(env!("CARGO_MANIFEST_DIR")).join("../../samples");
     let bytes = |name: &str| std::fs::read(samples.join(name)).expect("a sample");
-    let names = ["saturday", "saturday-booked", "saturday-due", "saturday-full"];
+    let names = [
+        "saturday",
+        "saturday-booked",
+        "saturday-due",
+        "saturday-full",
+    ];
     let lines = names.map(|name| {
         let line = independent::read(&bytes(&format!("{name}.line")));
         line.expect("a line file")
