@@ -274,6 +274,7 @@ fn due_minutes_out_of_order() {
     let two = "a number from 1 to 2";
     let trains = "line 8 says 2 trains";
     refused_after("0\n1\n3 10\n", (3, 13), first, two, &[trains]);
+    refused_after("0\n1\n0 10\n", (3, 13), first, two, &[trains]);
     refused_after("1\n1 2 5\n2\n1 9\n3 9\n", (3, 15), second, two, &[trains]);
     let four = "2\n1\n1\n1\nS 5 4\n4\n".to_string() + &"1 2 0 99 1 9\n".repeat(4);
     let file = four + "0\n2\n2 10\n1 10\n";
@@ -319,7 +320,10 @@ fn due_minutes_in_wrong_numbers() {
     ];
     let line_feed = "the end of the line (a line feed) after it";
     refused_after("1\n1 2 5\n2 2 6\n", (2, 13), count, line_feed, &more);
-    // Where there is no train none can be due.
+}
+
+#[test]
+fn due_minutes_without_trains() {
     let file = "2\n1\n1\n1\nS 5 4\n0\n0\n1\n1 5\n";
     let refusal = read(file.as_bytes()).expect_err("no train");
     assert_eq!((refusal.number, refusal.place), (3, 8));

@@ -266,13 +266,8 @@ fn expected_sheet(
         Lane::Outbound => ", outbound",
         Lane::Inbound => ", inbound",
     };
-    let kind = char::from(line.segments[p].kind.letter());
-    let mut sheet = format!(
-        "segment {}, stations {} to {} ({kind}){lane}\n",
-        p + 1,
-        p + 1,
-        p + 2
-    );
+    let (kind, from, to) = (char::from(line.segments[p].kind.letter()), p + 1, p + 2);
+    let mut sheet = format!("segment {from}, stations {from} to {to} ({kind}){lane}\n");
     let listed = &rows[2 + usize::from(line.train_count) + list][1..];
     for &number in listed {
         let train = &line.trains[usize::from(number) - 1];
@@ -287,11 +282,12 @@ fn expected_sheet(
         let (departs, arrives) = (clock(minutes[at]), clock(minutes[at + 1]));
         let row =
             format!("  train {number:>2}  {direction}  departs {departs:<11}  arrives {arrives}");
-        let (from, to) = match train.outbound() {
-            true => (p + 1, p + 2),
-            false => (p + 2, p + 1),
+        let ends = if train.outbound() {
+            (from, to)
+        } else {
+            (to, from)
         };
-        sheet += &with_minutes(line, row, number, from, to);
+        sheet += &with_minutes(line, row, number, ends);
         sheet += "\n";
     }
     if listed.is_empty() {
@@ -306,8 +302,7 @@ fn with_minutes(
     line: &independent::Line,
     mut row: String,
     number: u16,
-    from: usize,
-    to: usize,
+    (from, to): (usize, usize),
 ) -> String {
     let mut bookings = line.used_bookings().iter();
     let booking = bookings.find(|it| (it.train, usize::from(it.station)) == (number, from));

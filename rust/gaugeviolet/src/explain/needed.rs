@@ -133,34 +133,20 @@ fn by_bookings(file: &[u8], fault: &Fault, known: &Known) -> Option<String> {
 
 /// What the counts before a fault in the section of due minutes, or after it, say of its line.
 fn by_dues(file: &[u8], fault: &Fault, known: &Known) -> Option<String> {
-    let (count, bookings) = says_bookings(known)?;
+    let none = &file[fault.from..fault.to] == b"0";
     match fault.field {
-        Field::DueCount if &file[fault.from..fault.to] == b"0" => Some(match known.bookings? {
-            0 => format!(
-                "without bookings and due minutes their sections are left off; take line {count} away \
-                 too"
-            ),
-            _ => "without due minutes their section is left off; take the line away".into(),
-        }),
+        Field::DueCount if none || fault.wrong != Wrong::Range => due_count(fault, known),
         Field::DueCount | Field::DueTrain { .. } if fault.wrong == Wrong::Range => {
             Some(says_trains(known)?.1)
         }
-        Field::DueCount if known.bookings? == 0 => Some(format!(
-            "{bookings}, so line {} is the number of due minutes; without any, take line {count} away",
-            fault.line
-        )),
-        Field::DueCount => Some(format!(
-            "{bookings}, so the file ends after line {} or goes on with the number of due minutes",
-            fault.line - 1
-        )),
         Field::DueTrain { due } if fault.from == file.len() => Some(format!(
             "{}, and there are only {}",
             says_dues(known)?.1,
             due - 1
         )),
-        Field::DueMinute { .. } if fields_on_line(file, fault)? > 2 => {
-            Some("here a line is a train and its due minute; bookings are the section before".into())
-        }
+        Field::DueMinute { .. } if fields_on_line(file, fault).is_some_and(|has| has > 2) => Some(
+            "here a line is a train and its due minute; bookings are the section before".into(),
+        ),
         Field::End => Some(format!(
             "{}, so the file ends after line {}",
             says_dues(known)?.1,
@@ -168,6 +154,28 @@ fn by_dues(file: &[u8], fault: &Fault, known: &Known) -> Option<String> {
         )),
         _ => None,
     }
+}
+
+/// What the number of bookings says of the line that is to be the number of due minutes. That is 0, or
+/// something else than a number.
+fn due_count(fault: &Fault, known: &Known) -> Option<String> {
+    let (line, bookings) = says_bookings(known)?;
+    Some(match (fault.wrong, known.bookings?) {
+        (Wrong::Range, 0) => format!(
+            "without bookings and due minutes their sections are left off; take line {line} away too"
+        ),
+        (Wrong::Range, _) => {
+            "without due minutes their section is left off; take the line away".into()
+        }
+        (_, 0) => format!(
+            "{bookings}, so line {} is the number of due minutes; without any, take line {line} away",
+            fault.line
+        ),
+        _ => format!(
+            "{bookings}, so the file ends after line {} or goes on with the number of due minutes",
+            fault.line - 1
+        ),
+    })
 }
 
 /// Why a number may not stand where it does, although it is in its range.
