@@ -48,26 +48,30 @@ fn every_lent_length_for_an_accepted_file() {
 #[test]
 fn every_lent_length_for_a_refused_file() {
     let mut compared = Compared::new();
+    let until_last_run = |destination: u32| {
+        format!(
+            "3\n2\n2\n2\n2\nS 5 4\nS 5 4\n2\n1 3 0 200 1 20 0 20\n3 {destination} 0 200 2 15 0 "
+        )
+    };
+    let long = format!("15\n{}", "x".repeat(4100));
     // Each is refused at its end or past it, when all of a text could have been written.
     let refusals = [
-        ("15\n\n".into(), (2, 11)),
-        ("15".into(), (2, 10)),
-        ("241\n".into(), (3, 10)),
-        (format!("15\n{}", "x".repeat(4100)), (1, 0)),
-        ("15\n2\n1 2 5\n1 2 5\n".into(), (19, 13)),
-        ("15\n1\n1 2 2880\n".into(), (3, 12)),
-        ("15\n0\n".into(), (3, 11)),
-        ("15\n0\n2\n2 5\n2 5\n".into(), (19, 14)),
-        ("15\n0\n1\n1 2880\n".into(), (3, 13)),
+        (1, "15\n\n", (2, 11)),
+        (1, "15", (2, 10)),
+        (1, "241\n", (3, 10)),
+        (3, "15\n", (4, 10)),
+        (1, &long, (1, 0)),
+        (1, "15\n2\n1 2 5\n1 2 5\n", (19, 13)),
+        (1, "15\n1\n1 2 2880\n", (3, 12)),
+        (1, "15\n0\n", (3, 11)),
+        (1, "15\n0\n2\n2 5\n2 5\n", (19, 14)),
+        (1, "15\n0\n1\n1 2880\n", (3, 13)),
     ];
-    let good = "3\n2\n2\n2\n2\nS 5 4\nS 5 4\n2\n1 3 0 200 1 20 0 20\n3 1 0 200 2 15 0 ";
-    let ended = |end: &String| format!("{good}{end}");
-    let mut refusals = Vec::from(refusals.map(|(end, refusal)| (ended(&end), refusal)));
-    refusals.push((ended(&"15\n".into()).replace("3 1", "3 3"), (4, 10)));
-    for (file, refusal) in &refusals {
+    for (destination, end, refusal) in refusals {
+        let file = until_last_run(destination) + end;
         compared.file(file.as_bytes());
         for lent in (0..300).chain([4095, 4096, 4097, 8192]) {
-            compared.lent(file.as_bytes(), lent, Err(*refusal));
+            compared.lent(file.as_bytes(), lent, Err(refusal));
         }
     }
     compared.seen.ends(&Least {
