@@ -49,6 +49,22 @@
 //! assert_eq!((refusal.number, refusal.place), (19, 11));
 //! ```
 //!
+//! A special is late from the minute at which it was due. Due minutes are a section after the bookings,
+//! of which the count is there also where it is 0: their count, then train and minute on a line each. A
+//! train that is not listed is due when it would be there alone on the line.
+//!
+//! ```
+//! let due = "2\n1\n1\n1\nS 5 4\n2\n1 2 0 99 1 10\n2 1 0 99 1 10\n0\n1\n1 20\n";
+//! let timetable = gaugeviolet::plan(due.as_bytes()).unwrap();
+//! // Train 1 is due at 20 and waits. It arrives at 24, and train 2 at 10, as it would alone.
+//! assert_eq!(timetable, b"2\n14 24\n0 10\n1\n2 2 1\n4\n");
+//!
+//! // The trains stand in rising order.
+//! let twice = due.replace("1\n1 20\n", "2\n1 20\n1 20\n");
+//! let refusal = gaugeviolet::read(twice.as_bytes()).unwrap_err();
+//! assert_eq!((refusal.number, refusal.place), (19, 12));
+//! ```
+//!
 //! [`plan`] finds the best timetable. [`Line`] and [`Timetable`] give typed access to accepted texts, and
 //! [`LineBuilder`] makes line files. Nothing here overflows a stack but the functions of
 //! [`on_callers_stack`], and only where they are called from a thread with too little of it.
@@ -68,11 +84,11 @@ mod waits;
 mod words;
 
 pub use explain::{Explanation, Field, Quotation, Text};
-pub use line::{Booking, Kind, Line, LineBuilder, Segment, Train};
+pub use line::{Booking, Due, Kind, Line, LineBuilder, Segment, Train};
 pub use refusal::{Cause, Refusal};
 pub use timetable::{Lane, Leg, OrderList, Timetable};
 pub use waits::{Reason, Wait};
-pub use words::{counted, time_of_day};
+pub use words::{counted, punctuality, time_of_day};
 
 /// The most bytes that a line file may have. As many lent bytes hold the text of every line.
 pub const FILE_BYTES: usize = 4096;

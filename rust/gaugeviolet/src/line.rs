@@ -151,6 +151,22 @@ impl Booking {
     }
 }
 
+/// A due minute: the lateness of the train counts from it.
+#[derive(Clone, Copy, Debug, PartialEq, Eq, Hash)]
+pub struct Due {
+    /// The train.
+    pub train: u32,
+    /// The minute. Also 0 is a due minute.
+    pub minute: u32,
+}
+
+impl Due {
+    /// Its line in the file.
+    fn text(&self) -> String {
+        format!("{} {}\n", self.train, self.minute)
+    }
+}
+
 /// A line that the library has accepted, with typed access to what its file says.
 ///
 /// ```
@@ -200,6 +216,11 @@ impl Line {
     /// The bookings, rising by train and then by station.
     pub fn bookings(&self) -> &[Booking] {
         &self.parts.bookings
+    }
+
+    /// The due minutes that the file lists, rising by train. [`Line::due`] is that of any train.
+    pub fn dues(&self) -> &[Due] {
+        &self.parts.dues
     }
 
     /// The tracks of a station, by its number.
@@ -267,13 +288,38 @@ impl Line {
         legs.last().expect("a train has legs").arrival
     }
 
+    /// The due minute that the file lists for a train, by its number, if it does.
+    pub fn listed_due(&self, train: u32) -> Option<u32> {
+        let due = self.dues().iter().find(|it| it.train == train)?;
+        Some(due.minute)
+    }
+
+    /// When a train, by its number, is due at its destination: at the minute that the file lists, or else
+    /// at its free arrival.
+    ///
+    /// ```
+    /// let file = b"2\n1\n1\n1\nD 5 4\n2\n1 2 0 99 1 10\n2 1 0 99 1 10\n0\n1\n2 0\n";
+    /// let line = gaugeviolet::Line::read(file)?;
+    /// assert_eq!((line.listed_due(1), line.due(1)), (None, 10));
+    /// // Minute 0 is a due minute too, though no train can be there then.
+    /// assert_eq!((line.listed_due(2), line.due(2)), (Some(0), 0));
+    /// # Ok::<(), gaugeviolet::Refusal>(())
+    /// ```
+    ///
+    /// # Panics
+    /// Where there is no such train.
+    pub fn due(&self, train: u32) -> u32 {
+        let listed = self.listed_due(train);
+        listed.unwrap_or_else(|| self.free_arrival(train))
+    }
+
     /// The bytes of its file.
     pub fn file(&self) -> &[u8] {
         &self.file
     }
 
     /// The same stations and segments with these of its trains alone, by number and in this order. They
-    /// are numbered anew and keep their bookings.
+    /// are numbered anew and keep their bookings and due minutes.
     ///
     /// ```
     /// let file = b"2\n1\n1\n1\nS 5 4\n2\n1 2 0 9 1 5\n2 1 0 9 1 6\n";
@@ -281,9 +327,9 @@ impl Line {
     /// assert_eq!(second.file(), b"2\n1\n1\n1\nS 5 4\n1\n2 1 0 9 1 6\n");
     ///
     /// let (front, train) = (b"3\n1\n1\n1\n2\nS 5 4\nS 5 4\n", b"3 1 0 99 1 5 0 5\n");
-    /// let file = [&front[..], b"2\n1 2 0 9 1 5\n", train, b"1\n2 2 30\n"].concat();
+    /// let file = [&front[..], b"2\n1 2 0 9 1 5\n", train, b"1\n2 2 30\n1\n2 40\n"].concat();
     /// let second = gaugeviolet::Line::read(&file)?.with_trains(&[2]);
-    /// assert_eq!(second.file(), [&front[..], b"1\n", train, b"1\n1 2 30\n"].concat());
+    /// assert_eq!(second.file(), [&front[..], b"1\n", train, b"1\n1 2 30\n1\n1 40\n"].concat());
     /// # Ok::<(), gaugeviolet::Refusal>(())
     /// ```
     ///
@@ -292,10 +338,16 @@ impl Line {
     pub fn with_trains(&self, numbers: &[u32]) -> Line {
         let train = |&number: &u32| self.train(number).clone();
         let numbered = (1..).zip(numbers);
-        let bookings = numbered.flat_map(|(own, &number)| self.bookings_of(number, own));
+        let bookings = numbered.clone();
+        let bookings = bookings.flat_map(|(own, &number)| self.bookings_of(number, own));
+        let dues = numbered.filter_map(|(train, &number)| {
+            let minute = self.listed_due(number)?;
+            Some(Due { train, minute })
+        });
         let fewer = LineBuilder {
             trains: numbers.iter().map(train).collect(),
             bookings: bookings.collect(),
+            dues: dues.collect(),
             ..self.parts.clone()
         };
         fewer.build().expect("parts of an accepted line")
@@ -311,21 +363,29 @@ impl Line {
 /// The fields of an accepted file, found by splitting at line feeds and spaces.
 fn parts_of_accepted(file: &[u8]) -> LineBuilder {
     let text = std::str::from_utf8(file).expect("what is accepted is ASCII");
-    let rows: Vec<Vec<&str>> = text.lines().map(|row| row.split(' ').collect()).collect();
-    let stations = number(rows[0][0]) as usize;
-    // Before the segments, the trains and the bookings stands a line with their count.
-    let (segments, first_train) = (stations + 2..2 * stations + 1, 2 * stations + 2);
-    let trains = first_train..first_train + number(rows[first_train - 1][0]) as usize;
-    // Without bookings the file ends after the trains.
-    let bookings = rows.get(trains.end + 1..).unwrap_or(&[]);
+    let rows: Vec<Row> = text.lines().map(|row| row.split(' ').collect()).collect();
+    let (tracks, rest) = section(&rows);
+    let (segments, rest) = section(rest);
+    let (trains, rest) = section(rest);
+    let (bookings, rest) = section(rest);
+    let (dues, _) = section(rest);
     LineBuilder {
-        tracks: rows[1..=stations]
-            .iter()
-            .map(|row| number(row[0]))
-            .collect(),
-        segments: rows[segments].iter().map(|row| segment(row)).collect(),
-        trains: rows[trains].iter().map(|row| train(row)).collect(),
+        tracks: tracks.iter().map(|row| number(row[0])).collect(),
+        segments: segments.iter().map(|row| segment(row)).collect(),
+        trains: trains.iter().map(|row| train(row)).collect(),
         bookings: bookings.iter().map(|row| booking(row)).collect(),
+        dues: dues.iter().map(|row| due(row)).collect(),
+    }
+}
+
+type Row<'a> = Vec<&'a str>;
+
+/// The rows of the section that comes next, after the one with their count, and the rows after it. One that
+/// is left off has none.
+fn section<'a, 'b>(rows: &'b [Row<'a>]) -> (&'b [Row<'a>], &'b [Row<'a>]) {
+    match rows.split_first() {
+        None => (&[], &[]),
+        Some((count, rest)) => rest.split_at(number(count[0]) as usize),
     }
 }
 
@@ -356,6 +416,13 @@ fn booking(row: &[&str]) -> Booking {
         train: number(row[0]),
         station: number(row[1]),
         minute: number(row[2]),
+    }
+}
+
+fn due(row: &[&str]) -> Due {
+    Due {
+        train: number(row[0]),
+        minute: number(row[1]),
     }
 }
 
@@ -397,6 +464,7 @@ pub struct LineBuilder {
     segments: Vec<Segment>,
     trains: Vec<Train>,
     bookings: Vec<Booking>,
+    dues: Vec<Due>,
 }
 
 impl LineBuilder {
@@ -460,19 +528,54 @@ impl LineBuilder {
         self
     }
 
+    /// Adds a due minute. They are to rise by train.
+    ///
+    /// ```
+    /// use gaugeviolet::{Due, Kind, LineBuilder, Train};
+    ///
+    /// let train = Train {
+    ///     origin: 1,
+    ///     destination: 2,
+    ///     earliest: 0,
+    ///     latest: 90,
+    ///     weight: 2,
+    ///     journey: vec![15],
+    /// };
+    /// let line = LineBuilder::new()
+    ///     .station(2)
+    ///     .segment(Kind::S, 5, 4)
+    ///     .station(2)
+    ///     .train(train);
+    /// let line = line.due(Due { train: 1, minute: 20 });
+    /// assert_eq!(line.build()?.due(1), 20);
+    /// // The section of bookings before it is empty.
+    /// assert!(line.text().ends_with(b"\n0\n1\n1 20\n"));
+    ///
+    /// // There is one train, so there is one due minute at most.
+    /// let refusal = line.due(Due { train: 1, minute: 30 }).build().unwrap_err();
+    /// assert_eq!((refusal.number, refusal.place), (3, 9));
+    /// # Ok::<(), gaugeviolet::Refusal>(())
+    /// ```
+    pub fn due(mut self, due: Due) -> LineBuilder {
+        self.dues.push(due);
+        self
+    }
+
     /// What its file would be. [`Refusal::explanation`] takes it where `build` is refused.
     pub fn text(&self) -> Vec<u8> {
-        let mut text = format!("{}\n", self.tracks.len());
-        text.extend(self.tracks.iter().map(|tracks| format!("{tracks}\n")));
-        text += &format!("{}\n", self.segments.len());
-        text.extend(self.segments.iter().map(Segment::text));
-        text += &format!("{}\n", self.trains.len());
-        text.extend(self.trains.iter().map(Train::text));
-        // Without bookings the section is left off.
-        if !self.bookings.is_empty() {
-            text += &format!("{}\n", self.bookings.len());
-            text.extend(self.bookings.iter().map(Booking::text));
+        let mut sections = vec![
+            self.tracks.iter().map(|it| format!("{it}\n")).collect(),
+            self.segments.iter().map(Segment::text).collect(),
+            self.trains.iter().map(Train::text).collect(),
+            self.bookings.iter().map(Booking::text).collect(),
+            self.dues.iter().map(Due::text).collect::<Vec<String>>(),
+        ];
+        // Of bookings and due minutes, those after which nothing comes are left off.
+        while sections.len() > 3 && sections.last().is_some_and(Vec::is_empty) {
+            sections.pop();
         }
+        let text = |rows: &Vec<String>| format!("{}\n{}", rows.len(), rows.concat());
+        let text: String = sections.iter().map(text).collect();
         text.into_bytes()
     }
 

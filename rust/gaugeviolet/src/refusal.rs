@@ -64,8 +64,8 @@ pub enum Cause {
     Total = 17,
     /// A train departs before its booking.
     Booking = 18,
-    /// A booking is out of order, or not at a middle station of its train.
-    BookingPlace = 19,
+    /// A booking or a due minute is out of order, or a booking not at a middle station of its train.
+    OutOfPlace = 19,
 }
 
 impl Cause {
@@ -89,12 +89,17 @@ impl Cause {
         Cause::OrderList,
         Cause::Total,
         Cause::Booking,
-        Cause::BookingPlace,
+        Cause::OutOfPlace,
     ];
 
     /// Its number in the rules.
     pub const fn number(self) -> u32 {
         self as u32
+    }
+
+    /// Whether it is about a timetable, and not about the line file or what is made of it.
+    pub fn is_of_timetable(self) -> bool {
+        (Cause::TimetableLength..=Cause::Booking).contains(&self)
     }
 }
 
@@ -156,7 +161,7 @@ impl Refusal {
 /// The place, for the causes that have one.
 fn place_in_words(cause: Cause, place: u32) -> Option<String> {
     match cause {
-        Cause::FileForm | Cause::FileRange | Cause::SameStation | Cause::BookingPlace => {
+        Cause::FileForm | Cause::FileRange | Cause::SameStation | Cause::OutOfPlace => {
             Some(format!("line {place}"))
         }
         Cause::TimetableForm | Cause::TimetableRange => {
@@ -207,9 +212,9 @@ fn in_words(cause: Cause) -> &'static str {
         Cause::OrderList => "it is not the trains of its segment and lane by departure minute",
         Cause::Total => "the total is not the weighted delay of the minutes",
         Cause::Booking => "at a middle station it departs before the minute booked there",
-        Cause::BookingPlace => {
-            "the booking is not in rising order of train and then station, or its station is not a \
-             middle one of its train's path"
+        Cause::OutOfPlace => {
+            "a booking (by train and then station) or a due minute (by train) is not in rising order, \
+             or a booking's station is not a middle one of its train's path"
         }
     }
 }

@@ -137,13 +137,27 @@ impl Timetable {
         self.legs(train).last().expect("a train has legs").arrival
     }
 
-    /// How much later a train is at its destination than it would be alone on the line, its bookings kept.
+    /// How much later a train is at its destination than it is due there ([`Line::due`]); 0 where it is
+    /// early.
+    ///
+    /// ```
+    /// use gaugeviolet::{Line, Timetable};
+    ///
+    /// // Two trains one after the other over a segment: one is due later than it can be there, and the
+    /// // other earlier.
+    /// let file = b"2\n1\n1\n1\nD 5 4\n2\n1 2 0 99 1 10\n1 2 0 99 1 10\n0\n2\n1 20\n2 7\n";
+    /// let timetable = Timetable::read(&Line::read(file)?, &gaugeviolet::plan(file)?)?;
+    /// assert_eq!((timetable.last_arrival(1), timetable.delay(1)), (15, 0));
+    /// assert_eq!((timetable.last_arrival(2), timetable.delay(2)), (10, 3));
+    /// assert_eq!(timetable.total(), 3);
+    /// # Ok::<(), gaugeviolet::Refusal>(())
+    /// ```
     ///
     /// # Panics
     /// Where there is no such train.
     pub fn delay(&self, train: u32) -> u32 {
-        let free = self.line.free_arrival(train);
-        self.last_arrival(train).saturating_sub(free)
+        let due = self.line.due(train);
+        self.last_arrival(train).saturating_sub(due)
     }
 
     /// The trains that stand at a station at a minute: those that have it in the middle of their path,

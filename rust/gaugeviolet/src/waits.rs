@@ -156,7 +156,8 @@ impl Wait {
 
 impl Timetable {
     /// All waits, train by train in travel order. A train's delay is the sum of its waits where it has no
-    /// booking. Standing for a booking is in itself no delay, and may make up for one.
+    /// booking and no due minute is listed for it. Standing for a booking is in itself no delay, and may
+    /// make up for one. A train that would be early alone on the line waits so long without a delay.
     pub fn waits(&self) -> Vec<Wait> {
         let trains = self.numbers().zip(self.line().trains());
         trains

@@ -1,5 +1,7 @@
 //! Minutes and counts as people say them.
 
+use std::cmp::Ordering;
+
 /// A minute as time of day: hours and minutes, with the second day marked.
 ///
 /// ```
@@ -12,6 +14,22 @@ pub fn time_of_day(minute: u32) -> String {
     match day {
         0 => time,
         _ => format!("{time} day {}", day + 1),
+    }
+}
+
+/// How an arrival stands to the minute at which it was due.
+///
+/// ```
+/// assert_eq!(gaugeviolet::punctuality(723, 700), "23 minutes late");
+/// assert_eq!(gaugeviolet::punctuality(700, 700), "on time");
+/// assert_eq!(gaugeviolet::punctuality(699, 700), "1 minute early");
+/// ```
+pub fn punctuality(arrival: u32, due: u32) -> String {
+    let minutes = counted(arrival.abs_diff(due), "minute");
+    match arrival.cmp(&due) {
+        Ordering::Less => format!("{minutes} early"),
+        Ordering::Equal => "on time".to_string(),
+        Ordering::Greater => format!("{minutes} late"),
     }
 }
 

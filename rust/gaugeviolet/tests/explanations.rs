@@ -7,10 +7,10 @@ use std::collections::{BTreeMap, BTreeSet};
 
 use gaugeviolet::{check, plan, read, Cause, Explanation, Field, Line, Quotation, Refusal, Text};
 use inputs::{
-    booked_planned, damage_bytes, damage_lines, damaged, planned, sizes, walk_line, with_bookings,
-    with_one_byte_damaged,
+    booked_planned, damage_bytes, damage_lines, damaged, due_planned, planned, sizes, walk_line,
+    with_bookings, with_dues, with_one_byte_damaged,
 };
-use inputs::{shown, Booked, Damage, Fields, Random, Shape, Traffic};
+use inputs::{shown, Booked, Damage, DueAt, Fields, Random, Shape, Traffic};
 use refused::{explained, FILE, TIMETABLE};
 
 /// The lines of a text, without their line feeds. After the last one there may be an empty one.
@@ -48,7 +48,8 @@ fn due_in_file(file: &[u8], line: usize, before: usize) -> String {
     let train = line - 2 * stations - 2;
     let trains = leading(&rows, 2 * stations + 1) as usize;
     if train > trains {
-        return due_of_booking(&rows, 2 * stations + 3 + trains, line, before);
+        let count = 2 * stations + 3 + trains;
+        return due_of_booking(&rows, count, line, before);
     }
     due_of_train(&rows, line, train, before)
 }
@@ -58,12 +59,25 @@ fn due_of_booking(rows: &[&[u8]], count: usize, line: usize, before: usize) -> S
     if line == count {
         return "number of bookings".into();
     }
-    let booking = line - count;
-    if booking > leading(rows, count - 1) as usize {
-        return "end of the text".into();
+    let (booking, bookings) = (line - count, leading(rows, count - 1) as usize);
+    if booking > bookings {
+        return due_of_due(rows, count + bookings + 1, line, before);
     }
     let part = ["train", "station", "minute"][before.min(2)];
     format!("booking {booking}: {part}")
+}
+
+/// The same after the bookings, where the line `count` is the number of due minutes.
+fn due_of_due(rows: &[&[u8]], count: usize, line: usize, before: usize) -> String {
+    if line == count {
+        return "number of due minutes".into();
+    }
+    let due = line - count;
+    if due > leading(rows, count - 1) as usize {
+        return "end of the text".into();
+    }
+    let part = ["train", "minute"][before.min(1)];
+    format!("due {due}: {part}")
 }
 
 fn due_of_train(rows: &[&[u8]], line: usize, train: usize, before: usize) -> String {
@@ -255,23 +269,36 @@ fn is_arrival_at(line: &independent::Line, field: Field, station: usize) -> bool
     at as usize == station && usize::from(train.destination) != station
 }
 
-#[test]
-fn every_byte_of_a_line_file_damaged() {
+/// Holds the explanations of a file with each byte damaged in every way, and of what is left where it ends
+/// before any of them. So many fields have a fault then.
+fn hold_every_byte(file: &str, fields: usize) {
     let mut seen = Seen::default();
-    let booked = FILE.to_string() + "2\n1 2 30\n2 2 0\n";
-    for file in with_one_byte_damaged(booked.as_bytes()) {
+    for file in with_one_byte_damaged(file.as_bytes()) {
         seen.file(&file);
+    }
+    for end in 0..file.len() {
+        seen.file(&file.as_bytes()[..end]);
     }
     println!("{:?}\n{:?}", seen.numbers, seen.fields);
     assert_eq!(
         seen.numbers.keys().copied().collect::<Vec<u32>>(),
         [2, 3, 4, 19]
     );
-    assert_eq!(
-        seen.fields.len(),
-        19,
-        "every field of a line file, and its end"
-    );
+    assert_eq!(seen.fields.len(), fields);
+}
+
+/// All fields but the due minutes themselves: after the bookings their count is due, or the end.
+#[test]
+fn every_byte_of_a_line_file_damaged() {
+    hold_every_byte(&(FILE.to_string() + "2\n1 2 30\n2 2 0\n"), 19);
+}
+
+#[test]
+fn every_byte_of_a_line_file_with_due_minutes_damaged() {
+    let booked = FILE.to_string() + "2\n1 2 30\n2 2 0\n2\n1 45\n2 2879\n";
+    hold_every_byte(&booked, 22);
+    // Where the line `0` is damaged, the due minutes are taken for bookings up to their stations.
+    hold_every_byte(&(FILE.to_string() + "0\n2\n1 45\n2 0\n"), 21);
 }
 
 #[test]
@@ -295,7 +322,7 @@ fn damaged_texts_of_every_size() {
     let mut seen = Seen::default();
     for (stations, trains) in sizes() {
         let traffic = random.one_of(&[Traffic::Mixed, Traffic::Full]);
-        let draw = random.one_of(&[planned, booked_planned]);
+        let draw = random.one_of(&[planned, booked_planned, due_planned]);
         let planned = draw(&mut random, stations, trains, traffic);
         for damage in [Damage::ALL; 20].concat() {
             let pair = damaged(&mut random, &planned, damage);
@@ -326,6 +353,9 @@ fn lines_without_a_timetable() {
         let mut line = walk_line(&mut random, 4, 4, Shape::Tight);
         if random.below(2) == 0 {
             line = with_bookings(&mut random, &line, &[Booked::InAnyCase, Booked::Later(40)]);
+        }
+        if random.below(2) == 0 {
+            line = with_dues(&mut random, &line, &DueAt::ALL);
         }
         let mut file = Fields::of(&line).text();
         if random.below(2) == 0 {

@@ -10,8 +10,9 @@ use std::collections::BTreeSet;
 use std::path::Path;
 
 use gaugeviolet::{Refusal, TIMETABLE_BYTES};
-use inputs::{booked_planned, damaged, planned, saturday, sizes, with_bookings};
-use inputs::{Booked, Damage, Fields, Pair, Random, Style, Traffic};
+use inputs::{booked_planned, damaged, due_planned, planned, saturday, sizes};
+use inputs::{with_bookings, with_dues};
+use inputs::{Booked, Damage, DueAt, Fields, Pair, Random, Style, Traffic};
 use picture::{hold, numbers};
 use run::{run, sample, sample_text, samples_with, written};
 use xml::well_formed;
@@ -55,7 +56,7 @@ fn the_stored_picture_is_drawn() {
 #[test]
 fn planned_lines_of_every_size() {
     let mut random = Random::new(77);
-    let draws = [planned, booked_planned];
+    let draws = [planned, booked_planned, due_planned];
     for ((stations, trains), draw) in sizes().flat_map(|size| draws.map(|draw| (size, draw))) {
         let traffic = random.one_of(&[Traffic::Mixed, Traffic::Full]);
         let Pair { file, timetable } = draw(&mut random, stations, trains, traffic).pair();
@@ -77,6 +78,10 @@ fn saturdays_of_the_greatest_size() {
             if turn % 2 == 0 {
                 line = with_bookings(&mut random, &line, &[Booked::InAnyCase, Booked::Later(9)]);
             }
+            if turn % 3 == 0 {
+                let times = [DueAt::Before(9), DueAt::Free, DueAt::After(40)];
+                line = with_dues(&mut random, &line, &times);
+            }
             let file = Fields::of(&line).text();
             let Ok(timetable) = gaugeviolet::plan(&file) else {
                 continue;
@@ -94,12 +99,34 @@ fn the_second_day() {
                  1 4 1440 2000 3 20 0 20 0 20\n1 4 1435 2000 3 20 0 20 0 20\n\
                  4 1 1400 2000 5 20 0 20 0 20\n1 2 1445 2000 9 30\n";
     let second = "2\n1\n1\n1\nS 5 4\n1\n1 2 1503 2879 1 5\n";
-    for file in [night, second] {
+    let due = night.to_string() + "0\n4\n1 1439\n2 1501\n4 1460\n5 1475\n";
+    for file in [night, second, &due] {
         let timetable = gaugeviolet::plan(file.as_bytes()).expect("a timetable");
         let picture = drawn(&[&written("night.line", file.as_bytes())]);
         hold(&picture, file.as_bytes(), &timetable);
         assert!(picture.contains(">day 2<"));
     }
+}
+
+/// A due minute up to an hour after the last arrival is shown, and one that is further away or before all
+/// trains is not: there is no room for it.
+#[test]
+fn due_minutes_far_from_the_trains() {
+    let front = "2\n1\n1\n1\nD 5 4\n3\n1 2 600 900 1 10\n1 2 600 900 1 10\n2 1 600 900 1 10\n";
+    let shown = |dues: &str| {
+        let file = format!("{front}0\n{dues}");
+        let timetable = gaugeviolet::plan(file.as_bytes()).expect("a timetable");
+        let picture = drawn(&[&written("far.line", file.as_bytes())]);
+        hold(&picture, file.as_bytes(), &timetable);
+        let marks = picture.matches("class=\"due\"").count();
+        let legend = picture.contains(">is due at its destination at that minute<");
+        assert_eq!(legend, marks > 0);
+        marks
+    };
+    // The last arrival is at 615.
+    assert_eq!(shown("3\n1 675\n2 610\n3 600\n"), 3);
+    assert_eq!(shown("3\n1 676\n2 2879\n3 590\n"), 0);
+    assert_eq!(shown("2\n1 0\n3 620\n"), 1);
 }
 
 #[test]

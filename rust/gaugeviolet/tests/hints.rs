@@ -178,12 +178,12 @@ fn too_many_and_too_few() {
     hinted("4\n2\n1", "4\n1\n1", &["more fields", end]);
 }
 
-/// The file with a section of bookings, which is then refused so: number, line, field, what is allowed
-/// and the hints.
-fn misbooked(section: &str, refused: (u32, u32), field: &str, allowed: &str, hints: &[&str]) {
-    let file = FILE.to_string() + section;
-    let refusal = read(file.as_bytes()).expect_err(section);
-    assert_eq!((refusal.number, refusal.place), refused, "{section}");
+/// The file with more sections, which is then refused so: number, line, field, what is allowed and the
+/// hints.
+fn refused_after(sections: &str, refused: (u32, u32), field: &str, allowed: &str, hints: &[&str]) {
+    let file = FILE.to_string() + sections;
+    let refusal = read(file.as_bytes()).expect_err(sections);
+    assert_eq!((refusal.number, refusal.place), refused, "{sections}");
     let explanation = explained(refusal, file.as_bytes(), None);
     let told = explanation.field.expect("a field").to_string();
     assert_eq!((&told[..], &explanation.allowed[..]), (field, allowed));
@@ -195,15 +195,15 @@ fn bookings_out_of_place() {
     let station = "booking 1: station";
     let middle = "2, the middle station of train 1";
     let origin = "station 1 is the origin of train 1; its earliest minute says when";
-    misbooked("1\n1 1 5\n", (19, 12), station, middle, &[origin]);
+    refused_after("1\n1 1 5\n", (19, 12), station, middle, &[origin]);
     let destination = "station 3 is the destination of train 1, which does not leave it";
-    misbooked("1\n1 3 5\n", (19, 12), station, middle, &[destination]);
+    refused_after("1\n1 3 5\n", (19, 12), station, middle, &[destination]);
     let station = "booking 2: station";
     let after = "a booking that comes after train 2 at station 2";
     let rising = "bookings stand in rising order of train, and of station for one train";
-    misbooked("2\n2 2 5\n1 2 5\n", (19, 13), station, after, &[rising]);
+    refused_after("2\n2 2 5\n1 2 5\n", (19, 13), station, after, &[rising]);
     let twice = "train 2 is booked twice at station 2";
-    misbooked("2\n2 2 5\n2 2 6\n", (19, 13), station, after, &[twice]);
+    refused_after("2\n2 2 5\n2 2 6\n", (19, 13), station, after, &[twice]);
     let short = "5\n1\n1\n1\n1\n1\n4\nS 5 4\nS 5 4\nS 5 4\nS 5 4\n2\n2 3 0 9 1 5\n\
                  4 1 0 99 1 5 0 5 0 5\n1\n";
     let explanation = |booking: &str| {
@@ -226,37 +226,31 @@ fn bookings_out_of_place() {
 #[test]
 fn bookings_in_wrong_numbers() {
     let numbers = "a number from 1 to 120";
-    let off = "without bookings their section is left off";
-    misbooked("0\n", (3, 11), "number of bookings", numbers, &[off]);
+    let off = "without bookings and due minutes their sections are left off; take the line away";
+    refused_after("0\n", (3, 11), "number of bookings", numbers, &[off]);
     let ends = "line 8 says 2 trains, so the file ends after line 10 or goes on with the number";
-    misbooked("121\n", (3, 11), "number of bookings", numbers, &[ends]);
+    refused_after("121\n", (3, 11), "number of bookings", numbers, &[ends]);
     let two = "a number from 1 to 2";
     let train = "booking 1: train";
-    misbooked("1\n3 2 5\n", (3, 12), train, two, &["line 8 says 2 trains"]);
+    refused_after("1\n3 2 5\n", (3, 12), train, two, &["line 8 says 2 trains"]);
     let station = "a number from 1 to 3";
-    misbooked("1\n2 4 5\n", (3, 12), "booking 1: station", station, &[]);
+    refused_after("1\n2 4 5\n", (3, 12), "booking 1: station", station, &[]);
     let time = "a number from 0 to 2879";
     let minute = "booking 1: minute";
     let day = "those of the second day go on from 1440";
-    misbooked("1\n2 2 2880\n", (3, 12), minute, time, &[day]);
+    refused_after("1\n2 2 2880\n", (3, 12), minute, time, &[day]);
     let write = "times are minutes from midnight; write 365";
-    misbooked("1\n2 2 6:05\n", (2, 12), minute, time, &[write]);
+    refused_after("1\n2 2 6:05\n", (2, 12), minute, time, &[write]);
     let only = [
         "the text ends before the field `booking 2: train`",
         "line 11 says 2 bookings, and there are only 1",
     ];
-    misbooked("2\n1 2 5\n", (2, 13), "booking 2: train", two, &only);
+    refused_after("2\n1 2 5\n", (2, 13), "booking 2: train", two, &only);
     let end = [
         "there is a blank line at the end",
-        "line 11 says 1 booking, so the file ends after line 12",
+        "line 11 says 1 booking, so the file ends after line 12 or goes on with the number of due",
     ];
-    misbooked(
-        "1\n1 2 5\n\n",
-        (2, 13),
-        "end of the text",
-        "nothing more",
-        &end,
-    );
+    refused_after("1\n1 2 5\n\n", (2, 13), "number of due minutes", two, &end);
     // Where there is no train nothing can be booked.
     let file = "2\n1\n1\n1\nS 5 4\n0\n1\n1 2 5\n";
     let refusal = read(file.as_bytes()).expect_err("no train");
@@ -264,6 +258,115 @@ fn bookings_in_wrong_numbers() {
     let explanation = explained(refusal, file.as_bytes(), None);
     assert_eq!(explanation.allowed, "no number");
     hold_hints(&explanation, &["line 6 says 0 trains"]);
+}
+
+#[test]
+fn due_minutes_out_of_order() {
+    let (first, second) = ("due 1: train", "due 2: train");
+    let rising = "due minutes stand in rising order of train";
+    let last = "none: train 2 is the last";
+    refused_after("0\n2\n2 10\n1 10\n", (19, 14), second, last, &[rising]);
+    // The order is looked at before the minute.
+    refused_after("0\n2\n2 10\n1 x\n", (19, 14), second, last, &[rising]);
+    let twice = "train 1 has two due minutes; take one of them away";
+    let next = "the number 2, a train after the one before";
+    refused_after("0\n2\n1 10\n1 20\n", (19, 14), second, next, &[twice]);
+    let two = "a number from 1 to 2";
+    let trains = "line 8 says 2 trains";
+    refused_after("0\n1\n3 10\n", (3, 13), first, two, &[trains]);
+    refused_after("0\n1\n0 10\n", (3, 13), first, two, &[trains]);
+    refused_after("1\n1 2 5\n2\n1 9\n3 9\n", (3, 15), second, two, &[trains]);
+    let four = "2\n1\n1\n1\nS 5 4\n4\n".to_string() + &"1 2 0 99 1 9\n".repeat(4);
+    let file = four + "0\n2\n2 10\n1 10\n";
+    let refusal = read(file.as_bytes()).expect_err("out of order");
+    let told = explained(refusal, file.as_bytes(), None);
+    assert_eq!(
+        told.allowed,
+        "a number from 3 to 4, a train after the one before"
+    );
+}
+
+#[test]
+fn due_minutes_in_wrong_numbers() {
+    let (count, numbers) = ("number of due minutes", "a number from 1 to 2");
+    let off = "without due minutes their section is left off; take the line away";
+    refused_after("1\n1 2 5\n0\n", (3, 13), count, numbers, &[off]);
+    let both =
+        "without bookings and due minutes their sections are left off; take line 11 away too";
+    refused_after("0\n0\n", (3, 12), count, numbers, &[both]);
+    let trains = "line 8 says 2 trains";
+    refused_after("0\n3\n", (3, 12), count, numbers, &[trains]);
+    let only = [
+        "the text ends before the field `due 2: train`",
+        "line 12 says 2 due minutes, and there are only 1",
+    ];
+    refused_after("0\n2\n1 40\n", (2, 14), "due 2: train", numbers, &only);
+    let end = [
+        "there is a blank line at the end",
+        "line 13 says 1 due minute, so the file ends after line 14",
+    ];
+    let (text, nothing) = ("end of the text", "nothing more");
+    refused_after("1\n1 2 5\n1\n1 40\n\n", (2, 15), text, nothing, &end);
+    // The line `0` alone does not end a file.
+    let ends = [
+        "there is a blank line at the end",
+        "line 11 says 0 bookings, so line 12 is the number of due minutes; without any, take line 11",
+    ];
+    refused_after("0\n\n", (2, 12), count, numbers, &ends);
+    // One booking more than their count says.
+    let more = [
+        "the line has more fields",
+        "line 11 says 1 booking, so the file ends after line 12 or goes on with the number of due",
+    ];
+    let line_feed = "the end of the line (a line feed) after it";
+    refused_after("1\n1 2 5\n2 2 6\n", (2, 13), count, line_feed, &more);
+}
+
+#[test]
+fn due_minutes_without_trains() {
+    let file = "2\n1\n1\n1\nS 5 4\n0\n0\n1\n1 5\n";
+    let refusal = read(file.as_bytes()).expect_err("no train");
+    assert_eq!((refusal.number, refusal.place), (3, 8));
+    let explanation = explained(refusal, file.as_bytes(), None);
+    assert_eq!(explanation.allowed, "no number");
+    hold_hints(&explanation, &["line 6 says 0 trains"]);
+}
+
+#[test]
+fn what_people_type_for_due_minutes() {
+    let (minute, time) = ("due 1: minute", "a number from 0 to 2879");
+    let write = "times are minutes from midnight; write 700";
+    refused_after("0\n1\n2 11:40\n", (2, 13), minute, time, &[write]);
+    let day = "those of the second day go on from 1440";
+    refused_after("0\n1\n2 2880\n", (3, 13), minute, time, &[day]);
+    let line_feed = "the end of the line (a line feed) after it";
+    let fields = [
+        "the line has more fields",
+        "here a line is a train and its due minute; bookings are the section before",
+    ];
+    refused_after("0\n1\n2 2 30\n", (2, 13), minute, line_feed, &fields);
+    let space = "a space and the next field after it";
+    let fewer = "the line has fewer fields";
+    refused_after("0\n1\n2\n", (2, 13), "due 1: train", space, &[fewer]);
+    // Due minutes where bookings are due.
+    let missing = "if this is a due minute, the line `0` for no bookings is missing before line 11";
+    let station = "booking 1: station";
+    refused_after("1\n2 40\n", (2, 12), station, space, &[fewer, missing]);
+    let three = "a number from 1 to 3";
+    refused_after("1\n2 11:40\n", (2, 12), station, three, &[missing]);
+}
+
+/// The total of a line with due minutes.
+#[test]
+fn a_wrong_total_with_due_minutes() {
+    let file = FILE.to_string() + "0\n1\n2 30\n";
+    let timetable = TIMETABLE.replace("18\n", "17\n");
+    let refusal = check(file.as_bytes(), timetable.as_bytes()).expect_err("another total");
+    assert_eq!((refusal.number, refusal.place), (17, 0));
+    let told = explained(refusal, file.as_bytes(), Some(timetable.as_bytes()));
+    let sum =
+        "18, the sum of weight times delay from the due minute, which is 0 for an early train";
+    assert_eq!(told.allowed, sum);
 }
 
 /// A departure before its booking: the booked minute and station are told.

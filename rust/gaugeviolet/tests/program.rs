@@ -7,7 +7,7 @@ use std::ffi::OsStr;
 use std::path::Path;
 
 use independent::rules::{lists, Lane};
-use inputs::{booked_planned, planned, sizes, Pair, Random, Traffic};
+use inputs::{booked_planned, due_planned, planned, sizes, Pair, Random, Traffic};
 use run::{on, run, run_with, sample, sample_text, samples_with, written, COMMANDS};
 
 fn text(path: &Path) -> String {
@@ -17,7 +17,7 @@ fn text(path: &Path) -> String {
 #[test]
 fn the_library_s_bytes_on_every_sample() {
     let timetables = samples_with("timetable");
-    assert!(timetables.len() >= 13);
+    assert!(timetables.len() >= 17);
     for (line, timetable) in &timetables {
         let expected = text(timetable);
         assert_eq!(run(&["plan".as_ref(), line.as_os_str()]).answer(), expected);
@@ -47,6 +47,16 @@ fn every_command_refuses_what_the_library_refuses() {
             let files = [line.as_os_str(); 2];
             hold_refused(command, &files[..least], &refused, "\nfound: ");
         }
+    }
+}
+
+/// Where the line file is refused, it is named and not the timetable.
+#[test]
+fn the_file_that_is_refused_is_named() {
+    let timetable = sample("a.timetable");
+    for (line, refused) in samples_with("refused") {
+        let files = [line.as_os_str(), timetable.as_os_str()];
+        hold_refused("check", &files, &refused, "\nfound: ");
     }
 }
 
@@ -152,6 +162,49 @@ train 2, inbound, station 3 to station 1, weight 2
     assert!(told.ends_with(trains), "{told}");
 }
 
+/// The same two trains: the first is due before it can be there, the second later.
+fn with_dues() -> String {
+    BOOKED.to_string() + "2\n1 45\n2 36\n"
+}
+
+#[test]
+fn due_minutes_in_words() {
+    let told = run_with(&["read", "-"], with_dues().as_bytes()).answer();
+    assert!(told.starts_with("3 stations, 2 segments, 2 trains, 2 bookings, 2 due minutes\n\n"));
+    let first = "
+  is booked to leave station 2 at 00:30 (minute 30) or later
+  is due at 00:45 (minute 45); alone it arrives 00:50, 5 minutes late
+  alone on the line it takes 50 minutes, 150 minutes to spare:
+";
+    assert!(told.contains(first), "{told}");
+    let second = "\n  is due at 00:36 (minute 36); alone it arrives 00:30, 6 minutes early\n";
+    assert!(told.contains(second), "{told}");
+    let one = BOOKED.to_string() + "1\n2 30\n";
+    let told = run_with(&["read", "-"], one.as_bytes()).answer();
+    assert!(told.starts_with("3 stations, 2 segments, 2 trains, 2 bookings, 1 due minute\n\n"));
+    let row = "\n  is due at 00:30 (minute 30); alone it arrives 00:30, on time\n";
+    assert_eq!(told.matches("is due").count(), told.matches(row).count());
+    assert_eq!(told.matches(row).count(), 1);
+}
+
+#[test]
+fn due_minutes_on_the_sheet() {
+    let sheet = "\
+segment 1, stations 1 to 2 (S)
+  train  1  outbound  departs 00:00        arrives 00:20
+  train  2  inbound   departs 00:24        arrives 00:39        booked 00:14        due 00:36
+
+segment 2, stations 2 to 3 (S)
+  train  2  inbound   departs 00:00        arrives 00:15
+  train  1  outbound  departs 00:30        arrives 00:50        booked 00:30        due 00:45
+";
+    let told = run_with(&["lists", "-"], with_dues().as_bytes()).answer();
+    assert_eq!(told, sheet);
+    let told = on("lists", &["a-due.line"]).answer();
+    let row = "  train  2  inbound   departs 00:15        arrives 00:30        due 00:35\n";
+    assert!(told.contains(row), "{told}");
+}
+
 #[test]
 fn booked_departures_on_the_sheet() {
     let sheet = "\
@@ -213,13 +266,8 @@ fn expected_sheet(
         Lane::Outbound => ", outbound",
         Lane::Inbound => ", inbound",
     };
-    let kind = char::from(line.segments[p].kind.letter());
-    let mut sheet = format!(
-        "segment {}, stations {} to {} ({kind}){lane}\n",
-        p + 1,
-        p + 1,
-        p + 2
-    );
+    let (kind, from, to) = (char::from(line.segments[p].kind.letter()), p + 1, p + 2);
+    let mut sheet = format!("segment {from}, stations {from} to {to} ({kind}){lane}\n");
     let listed = &rows[2 + usize::from(line.train_count) + list][1..];
     for &number in listed {
         let train = &line.trains[usize::from(number) - 1];
@@ -234,13 +282,13 @@ fn expected_sheet(
         let (departs, arrives) = (clock(minutes[at]), clock(minutes[at + 1]));
         let row =
             format!("  train {number:>2}  {direction}  departs {departs:<11}  arrives {arrives}");
-        let from = if train.outbound() { p + 1 } else { p + 2 };
-        let mut bookings = line.used_bookings().iter();
-        let booking = bookings.find(|it| (it.train, usize::from(it.station)) == (number, from));
-        sheet += &match booking {
-            None => row + "\n",
-            Some(booking) => format!("{row:<62}  booked {}\n", clock(booking.minute)),
+        let ends = if train.outbound() {
+            (from, to)
+        } else {
+            (to, from)
         };
+        sheet += &with_minutes(line, row, number, ends);
+        sheet += "\n";
     }
     if listed.is_empty() {
         sheet += "  no train\n";
@@ -248,10 +296,32 @@ fn expected_sheet(
     sheet
 }
 
+/// The row of a train with the minute that is booked where it comes from, and with its due minute where it
+/// ends.
+fn with_minutes(
+    line: &independent::Line,
+    mut row: String,
+    number: u16,
+    (from, to): (usize, usize),
+) -> String {
+    let mut bookings = line.used_bookings().iter();
+    let booking = bookings.find(|it| (it.train, usize::from(it.station)) == (number, from));
+    if let Some(booking) = booking {
+        row = format!("{row:<62}  booked {}", clock(booking.minute));
+    }
+    let at = usize::from(number) - 1;
+    let due = line.listed_due(at);
+    if let Some(due) = due.filter(|_| usize::from(line.trains[at].destination) == to) {
+        let width = if booking.is_some() { 82 } else { 62 };
+        row = format!("{row:<width$}  due {}", clock(due));
+    }
+    row
+}
+
 #[test]
 fn sheets_of_every_size() {
     let mut random = Random::new(61);
-    let draws = [planned, booked_planned];
+    let draws = [planned, booked_planned, due_planned];
     for ((stations, trains), draw) in sizes().flat_map(|size| draws.map(|draw| (size, draw))) {
         let planned = draw(&mut random, stations, trains, Traffic::Mixed);
         let Pair { file, timetable } = planned.pair();

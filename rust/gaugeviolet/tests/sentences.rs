@@ -5,7 +5,7 @@ use std::collections::BTreeMap;
 use std::path::Path;
 
 use gaugeviolet::{check, plan, read, rewrite, Cause, Refusal, FILE_BYTES};
-use inputs::{booked_planned, damage_bytes, damage_lines, damaged, sizes};
+use inputs::{booked_planned, damage_bytes, damage_lines, damaged, due_planned, sizes};
 use inputs::{Damage, Random, Traffic};
 
 /// Every number of the scope document, told for place 7 where it has a place, else for 0; and its cause.
@@ -93,9 +93,9 @@ const LIST: [(u32, u32, &str, Cause); 19] = [
     (
         19,
         7,
-        "line 7: the booking is not in rising order of train and then station, or its station is not \
-         a middle one of its train's path",
-        Cause::BookingPlace,
+        "line 7: a booking (by train and then station) or a due minute (by train) is not in rising \
+         order, or a booking's station is not a middle one of its train's path",
+        Cause::OutOfPlace,
     ),
 ];
 
@@ -215,7 +215,8 @@ fn what_is_refused_of_damaged_texts() {
     let mut refused = Refused::default();
     for (stations, trains) in sizes() {
         let traffic = random.one_of(&[Traffic::Mixed, Traffic::Full]);
-        let planned = booked_planned(&mut random, stations, trains, traffic);
+        let draw = random.one_of(&[booked_planned, due_planned]);
+        let planned = draw(&mut random, stations, trains, traffic);
         for damage in [Damage::ALL; 20].concat() {
             let pair = damaged(&mut random, &planned, damage);
             refused.note(check(&pair.file, &pair.timetable));

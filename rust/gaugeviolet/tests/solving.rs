@@ -84,12 +84,17 @@ fn six_where_a_byte_is_missing() {
     assert_eq!(lent, text);
 }
 
-/// The samples of a real size, two with their stored timetables and one without any, beside the search.
+/// The samples of a real size, three with their stored timetables and one without any, beside the search.
 #[test]
 fn the_sample_saturdays() {
     let samples = Path::new(env!("CARGO_MANIFEST_DIR")).join("../../samples");
     let bytes = |name: &str| std::fs::read(samples.join(name)).expect("a sample");
-    let names = ["saturday", "saturday-booked", "saturday-full"];
+    let names = [
+        "saturday",
+        "saturday-booked",
+        "saturday-due",
+        "saturday-full",
+    ];
     let lines = names.map(|name| {
         let line = independent::read(&bytes(&format!("{name}.line")));
         line.expect("a line file")
@@ -98,9 +103,9 @@ fn the_sample_saturdays() {
     let outcomes = beside_another(lines.into_iter(), search, solved);
     assert_eq!(
         (outcomes.lines, outcomes.without, outcomes.delayed),
-        (3, 1, 2)
+        (4, 1, 3)
     );
-    for name in ["saturday", "saturday-booked"] {
+    for name in ["saturday", "saturday-booked", "saturday-due"] {
         let line = bytes(&format!("{name}.line"));
         assert_eq!(solved(&line), Ok(bytes(&format!("{name}.timetable"))));
     }

@@ -1,11 +1,12 @@
 //! Typed access to lines and timetables, and the builder, beside the independent code; and waits beside
 //! the rules.
 
-use gaugeviolet::{check, plan, Booking, Line, LineBuilder, Reason, Segment, Timetable};
+use gaugeviolet::{check, plan, Booking, Due, Line, LineBuilder, Reason, Segment, Timetable};
 use gaugeviolet::{Train, Wait};
 use independent::rules::{free_arrival, last_arrival, weighted_delay, Minutes};
-use inputs::{booked_planned, line, planned, saturday, sizes, walk_line, with_bookings};
-use inputs::{Booked, Density, Pair, Planned, Random, Shape, Style, Traffic};
+use inputs::{booked_planned, due_planned, line, planned, saturday, sizes, walk_line};
+use inputs::{with_bookings, with_dues};
+use inputs::{Booked, Density, DueAt, Pair, Planned, Random, Shape, Style, Traffic};
 
 /// The train as the independent reader has it, in the crate's form.
 fn same_train(train: &independent::Train) -> Train {
@@ -34,15 +35,43 @@ fn same_booking(booking: &independent::Booking) -> Booking {
     }
 }
 
+/// The due minute in the crate's form.
+fn same_due(due: &independent::Due) -> Due {
+    Due {
+        train: u32::from(due.train),
+        minute: u32::from(due.minute),
+    }
+}
+
+/// A line of this size, with bookings and due minutes or without.
+fn drawn(random: &mut Random, size: (u16, u16), booked: bool, due: bool) -> independent::Line {
+    let mut drawn = line(random, size.0, size.1, Density::Dense);
+    if booked {
+        let times = [Booked::InAnyCase, Booked::Later(30), Booked::AnyTime];
+        drawn = with_bookings(random, &drawn, &times);
+    }
+    if due {
+        drawn = with_dues(random, &drawn, &DueAt::ALL);
+    }
+    drawn
+}
+
+/// Holds what the line says of the due minute of each train.
+fn hold_dues(line: &Line, drawn: &independent::Line) {
+    let dues = drawn.used_dues().iter().map(same_due);
+    assert_eq!(line.dues(), dues.collect::<Vec<Due>>());
+    for (i, number) in (0..drawn.used_trains().len()).zip(1..) {
+        assert_eq!(line.listed_due(number), drawn.listed_due(i).map(u32::from));
+        assert_eq!(line.due(number), drawn.due_minute(i));
+    }
+}
+
 #[test]
 fn lines_of_every_size() {
     let mut random = Random::new(31);
-    for ((stations, trains), booked) in sizes().flat_map(|size| [(size, false), (size, true)]) {
-        let mut drawn = line(&mut random, stations, trains, Density::Dense);
-        if booked {
-            let times = [Booked::InAnyCase, Booked::Later(30), Booked::AnyTime];
-            drawn = with_bookings(&mut random, &drawn, &times);
-        }
+    let sections = [(false, false), (true, false), (false, true), (true, true)];
+    for (size, (booked, due)) in sizes().flat_map(|size| sections.map(|it| (size, it))) {
+        let (stations, drawn) = (size.0, drawn(&mut random, size, booked, due));
         let file = independent::write(&drawn).expect("a line within the limits");
         let line = Line::read(&file).expect("an accepted file");
         let tracks = drawn.tracks[..usize::from(stations)].iter();
@@ -64,6 +93,7 @@ fn lines_of_every_size() {
         }
         let bookings = drawn.used_bookings().iter().map(same_booking);
         assert_eq!(line.bookings(), bookings.collect::<Vec<Booking>>());
+        hold_dues(&line, &drawn);
         assert_eq!(rebuilt(&line).build().as_ref(), Ok(&line));
         assert_eq!(line.file(), file);
     }
@@ -89,17 +119,19 @@ fn rebuilt(line: &Line) -> LineBuilder {
     for &booking in line.bookings() {
         builder = builder.booking(booking);
     }
+    for &due in line.dues() {
+        builder = builder.due(due);
+    }
     builder
 }
 
-/// Trains are numbered anew, and each keeps its own minutes at its own stations.
+/// Trains are numbered anew, and each keeps its own minutes at its own stations and its due minute.
 #[test]
-fn fewer_trains_keep_their_bookings() {
+fn fewer_trains_keep_their_bookings_and_due_minutes() {
     let mut random = Random::new(35);
-    let mut kept = 0;
+    let (mut kept, mut dues) = (0, 0);
     for (stations, trains) in sizes().filter(|&(_, trains)| trains > 0) {
-        let drawn = line(&mut random, stations, trains, Density::Dense);
-        let drawn = with_bookings(&mut random, &drawn, &[Booked::AnyTime]);
+        let drawn = drawn(&mut random, (stations, trains), true, true);
         let file = independent::write(&drawn).expect("a line within the limits");
         let line = Line::read(&file).expect("an accepted file");
         let mut numbers: Vec<u32> = (1..=u32::from(trains)).collect();
@@ -118,12 +150,14 @@ fn fewer_trains_keep_their_bookings() {
             };
             assert_eq!(at(&fewer, own), at(&line, number));
             assert_eq!(fewer.free_legs(own), line.free_legs(number));
+            assert_eq!(fewer.listed_due(own), line.listed_due(number));
         }
         assert_eq!(fewer.trains().len(), numbers.len());
         kept += fewer.bookings().len();
+        dues += fewer.dues().len();
     }
-    println!("{kept} bookings kept");
-    assert!(kept >= 500);
+    println!("{kept} bookings and {dues} due minutes kept");
+    assert!(kept >= 500 && dues >= 300);
 }
 
 #[test]
@@ -142,8 +176,10 @@ fn what_the_library_refuses_is_not_built() {
 #[test]
 fn timetables_of_every_size() {
     let mut random = Random::new(32);
-    for (stations, trains) in sizes() {
-        let Planned { line, minutes } = planned(&mut random, stations, trains, Traffic::Mixed);
+    let mut early = 0;
+    let draws = [planned, due_planned];
+    for ((stations, trains), draw) in sizes().flat_map(|size| draws.map(|draw| (size, draw))) {
+        let Planned { line, minutes } = draw(&mut random, stations, trains, Traffic::Mixed);
         let Pair { file, timetable } = Planned { line, minutes }.pair();
         let own = Line::read(&file).expect("an accepted file");
         let own = Timetable::read(&own, &timetable).expect("a timetable");
@@ -156,8 +192,9 @@ fn timetables_of_every_size() {
                 own.last_arrival(number),
                 u32::from(last_arrival(&minutes, i, train))
             );
-            let late = own.last_arrival(number) - free_arrival(&line, i);
-            assert_eq!(own.delay(number), late);
+            let (arrival, due) = (own.last_arrival(number), line.due_minute(i));
+            assert_eq!(own.delay(number), arrival.max(due) - due);
+            early += usize::from(arrival < due);
         }
         let text = String::from_utf8(timetable).expect("a text");
         let lists = own.order_lists().iter().map(|list| {
@@ -170,6 +207,8 @@ fn timetables_of_every_size() {
         let lines = text.lines().skip(usize::from(trains) + 2);
         assert!(lists.eq(lines.take(own.order_lists().len()).map(str::to_string)));
     }
+    println!("{early} early trains");
+    assert!(early >= 100);
 }
 
 fn row(timetable: &Timetable, train: u32) -> Vec<u16> {
@@ -178,8 +217,9 @@ fn row(timetable: &Timetable, train: u32) -> Vec<u16> {
         .collect()
 }
 
-/// Holds that the waits of a timetable are its delays. Of a train with bookings that is so of what it waits
-/// after these, unless it stands for a later one the shorter for it.
+/// Holds that a train's delay follows from its waits: it is how much later it would be than its due minute
+/// had it waited so after its free arrival. Of a train with bookings that is so of what it waits after
+/// these, unless it stands for a later one the shorter for it.
 fn hold_delays(timetable: &Timetable) {
     let line = timetable.line();
     for train in timetable.numbers() {
@@ -191,9 +231,10 @@ fn hold_delays(timetable: &Timetable) {
                 wait.until - booked.max(wait.from)
             })
             .sum();
+        let late = (line.free_arrival(train) + waited).saturating_sub(line.due(train));
         match line.bookings().iter().any(|it| it.train == train) {
-            true => assert!(waited >= timetable.delay(train)),
-            false => assert_eq!(waited, timetable.delay(train)),
+            true => assert!(late >= timetable.delay(train)),
+            false => assert_eq!(late, timetable.delay(train)),
         }
     }
 }
@@ -278,6 +319,9 @@ fn waits_of_the_best_timetable() {
         if turn % 3 == 0 {
             line = with_bookings(&mut random, &line, &[Booked::InAnyCase, Booked::Later(20)]);
         }
+        if turn % 5 < 2 {
+            line = with_dues(&mut random, &line, &[DueAt::Before(9), DueAt::After(40)]);
+        }
         let file = independent::write(&line).expect("a line within the limits");
         let Ok(best) = plan(&file) else { continue };
         let line = Line::read(&file).expect("an accepted file");
@@ -301,7 +345,7 @@ fn waits_of_any_timetable() {
     let mut random = Random::new(34);
     let mut kinds = [0; 3];
     for turn in 0..600 {
-        let draw = [planned, planned, booked_planned][turn % 3];
+        let draw = [planned, planned, booked_planned, due_planned][turn % 4];
         let planned = draw(&mut random, 5, 4, Traffic::Mixed);
         let Pair { file, timetable } = planned.pair();
         let line = Line::read(&file).expect("an accepted file");

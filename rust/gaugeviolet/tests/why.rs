@@ -6,8 +6,9 @@ mod run;
 use std::time::Instant;
 
 use gaugeviolet::Line;
-use independent::rules::{free_arrival, last_arrival};
-use inputs::{booked_planned, planned, saturday, sizes, Pair, Random, Style, Traffic};
+use independent::rules::last_arrival;
+use inputs::{booked_planned, due_planned, planned, saturday, sizes};
+use inputs::{Pair, Random, Style, Traffic};
 use run::{long_with, on, run, run_with, sample_text, written};
 
 #[test]
@@ -42,6 +43,36 @@ segment 1
     assert_eq!(run_with(&["why", "-"], file.as_bytes()).answer(), words);
 }
 
+/// Late from the due minute: one train waits at no cost and then some, the other is early.
+#[test]
+fn due_minutes_that_are_kept_and_not() {
+    let words = "\
+total weighted delay 4
+
+train 1 arrives 01:14, due 01:10, 4 minutes late, weight 1: 4
+  alone it arrives 00:40, 30 minutes early, so it may wait that long at no cost
+  train 1 waits 34 minutes in the yard of station 1, from 00:00 to 00:34, for train 2 on segment 1
+
+train 2 arrives 00:30, due 00:35, 5 minutes early, no delay
+";
+    assert_eq!(on("why", &["a-due.line"]).answer(), words);
+    let file = sample_text("a-due.line").replace("2\n1 70\n2 35\n", "1\n2 29\n");
+    let words = "\
+total weighted delay 20
+
+train 1 arrives 00:40, no delay
+
+train 2 arrives 00:39, due 00:29, 10 minutes late, weight 2: 20
+  alone it arrives 00:30, 1 minute late
+  train 2 waits 9 minutes at station 2, from 00:15 to 00:24, for train 1 on segment 1
+";
+    assert_eq!(run_with(&["why", "-"], file.as_bytes()).answer(), words);
+    let kept = file.replace("2 29\n", "2 39\n");
+    let told = run_with(&["why", "-"], kept.as_bytes()).answer();
+    let row = "\ntrain 2 arrives 00:39, due 00:39, on time, no delay\n";
+    assert!(told.contains(row), "{told}");
+}
+
 /// A train that its booking makes too late.
 #[test]
 fn a_booking_that_makes_it_impossible() {
@@ -56,12 +87,13 @@ fn a_booking_that_makes_it_impossible() {
 #[test]
 fn delays_of_every_size() {
     let mut random = Random::new(62);
-    let draws = [planned, booked_planned];
+    let draws = [planned, booked_planned, due_planned];
     for ((stations, trains), draw) in sizes().flat_map(|size| draws.map(|draw| (size, draw))) {
         let planned = draw(&mut random, stations, trains, Traffic::Mixed);
         let (line, minutes) = (&planned.line, &planned.minutes);
         let delays = line.used_trains().iter().enumerate().map(|(i, train)| {
-            let late = u32::from(last_arrival(minutes, i, train)) - free_arrival(line, i);
+            let (arrival, due) = (last_arrival(minutes, i, train), line.due_minute(i));
+            let late = u32::from(arrival).saturating_sub(due);
             (late, late * u32::from(train.weight))
         });
         let (delays, costs): (Vec<u32>, Vec<u32>) = delays.unzip();
@@ -84,7 +116,12 @@ fn delays_of_every_size() {
 
 /// The delay of a train and what it costs, as its row tells them.
 fn told_delay(row: &str) -> (u32, u32) {
-    let Some((_, delay)) = row.split_once(", delay ") else {
+    let delay = row.split_once(", delay ").or_else(|| {
+        let (_, due) = row.split_once(", due ")?;
+        due.split_once(", ")
+            .filter(|(_, late)| late.contains(" late, "))
+    });
+    let Some((_, delay)) = delay else {
         assert!(row.ends_with(", no delay"), "{row}");
         return (0, 0);
     };

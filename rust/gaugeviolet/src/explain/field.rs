@@ -2,8 +2,8 @@
 
 use std::fmt;
 
-/// A field, by what it says. Trains, stations, segments, bookings and order lists count from 1, and so do
-/// the places of trains in an order list. Later versions know more.
+/// A field, by what it says. Trains, stations, segments, bookings, due minutes and order lists count from
+/// 1, and so do the places of trains in an order list. Later versions know more.
 #[non_exhaustive]
 #[derive(Clone, Copy, Debug, PartialEq, Eq, Hash)]
 #[allow(missing_docs, reason = "each name says it, and `Display` in words")]
@@ -56,6 +56,13 @@ pub enum Field {
     BookedMinute {
         booking: u32,
     },
+    DueCount,
+    DueTrain {
+        due: u32,
+    },
+    DueMinute {
+        due: u32,
+    },
     Departure {
         train: u32,
         segment: u32,
@@ -85,6 +92,7 @@ impl Field {
             Field::Earliest { .. }
                 | Field::Latest { .. }
                 | Field::BookedMinute { .. }
+                | Field::DueMinute { .. }
                 | Field::Departure { .. }
                 | Field::Arrival { .. }
         )
@@ -123,6 +131,9 @@ impl fmt::Display for Field {
             Field::BookedTrain { booking } => write!(f, "booking {booking}: train"),
             Field::BookedStation { booking } => write!(f, "booking {booking}: station"),
             Field::BookedMinute { booking } => write!(f, "booking {booking}: minute"),
+            Field::DueCount => write!(f, "number of due minutes"),
+            Field::DueTrain { due } => write!(f, "due {due}: train"),
+            Field::DueMinute { due } => write!(f, "due {due}: minute"),
             Field::Departure { train, segment } => {
                 write!(f, "train {train}: departure on segment {segment}")
             }

@@ -47,8 +47,9 @@ fn in_place_of_field(text: &[u8], fault: &Fault) -> Option<String> {
     if fault.field == Field::End {
         return after_the_end(&text[fault.from..]);
     }
-    // After the trains the file ends or its bookings begin: what is blank was not meant as bookings.
-    if let (Field::BookingCount, Some(hint)) = (fault.field, after_the_end(&text[fault.from..])) {
+    // Where the file may end or go on with another section, what is blank was not meant as that section.
+    let blank = after_the_end(&text[fault.from..]);
+    if let (Field::BookingCount | Field::DueCount, Some(hint)) = (fault.field, blank) {
         return Some(hint);
     }
     match (text.get(fault.from), token) {

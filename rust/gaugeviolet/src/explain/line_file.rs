@@ -12,7 +12,7 @@ pub(super) const TIME: Allowed = Allowed {
     most: 2879,
 };
 const BOOKINGS: Allowed = Allowed {
-    least: 1,
+    least: 0,
     most: 120,
 };
 const WEIGHT: Allowed = Allowed { least: 0, most: 99 };
@@ -37,6 +37,9 @@ pub(super) struct Known {
     pub booked_train: Option<u32>,
     /// Train and station of the booking before it.
     pub booked_before: Option<(u32, u32)>,
+    pub dues: Option<u32>,
+    /// The train of the last due minute.
+    pub due_train: Option<u32>,
 }
 
 /// Goes through the whole file.
@@ -50,6 +53,7 @@ pub(super) fn walk(file: &[u8], known: &mut Known) -> Result<(), Fault> {
         train_line(&mut walker, train, stations, known)?;
     }
     booking_section(&mut walker, stations, known)?;
+    due_section(&mut walker, trains, known)?;
     walker.end()
 }
 
@@ -87,7 +91,7 @@ fn train_line(
         (station == origin).then(another)
     };
     let field = Field::Destination { train };
-    let destination = walker.station(field, numbers, Wrong::SameStation, another)?;
+    let destination = walker.fitting(field, numbers, Wrong::SameStation, another)?;
     known.paths.push((origin, destination));
     walker.ranged(Field::Earliest { train }, TIME, After::Space)?;
     walker.ranged(Field::Latest { train }, TIME, After::Space)?;
@@ -115,12 +119,17 @@ fn journey(walker: &mut Walker, train: u32, origin: u32, destination: u32) -> Re
     Ok(())
 }
 
-/// The bookings with their count. Without bookings nothing stands there.
+/// The bookings with their count, which is 0 only where due minutes follow. Without either nothing stands
+/// there.
 fn booking_section(walker: &mut Walker, stations: u32, known: &mut Known) -> Result<(), Fault> {
     if walker.at_end() {
         return Ok(());
     }
-    let bookings = walker.ranged(Field::BookingCount, BOOKINGS, After::LineFeed)?;
+    let (field, numbers) = (Field::BookingCount, BOOKINGS);
+    let read = walker.number(field, 4, &numbers.in_words())?;
+    walker.after(field, After::LineFeed)?;
+    let least = u32::from(walker.at_end());
+    let bookings = walker.within(field, read, Allowed { least, ..numbers })?;
     known.bookings = Some(bookings);
     for booking in 1..=bookings {
         booking_line(walker, booking, stations, known)?;
@@ -140,7 +149,7 @@ fn booking_line(
     let instead = |station| booked_instead(known, train, station);
     let numbers = Allowed::from(1, stations);
     let field = Field::BookedStation { booking };
-    let station = walker.station(field, numbers, Wrong::BookingPlace, instead)?;
+    let station = walker.fitting(field, numbers, Wrong::OutOfPlace, instead)?;
     known.booked_before = Some((train, station));
     walker.ranged(Field::BookedMinute { booking }, TIME, After::LineFeed)?;
     Ok(())
@@ -164,4 +173,31 @@ fn booked_instead(known: &Known, train: u32, station: u32) -> Option<String> {
     let (before, there) = known.booked_before?;
     ((train, station) <= (before, there))
         .then(|| format!("a booking that comes after train {before} at station {there}"))
+}
+
+/// The due minutes with their count. Without due minutes nothing stands there.
+fn due_section(walker: &mut Walker, trains: u32, known: &mut Known) -> Result<(), Fault> {
+    if walker.at_end() {
+        return Ok(());
+    }
+    let numbers = Allowed::from(1, trains);
+    let dues = walker.ranged(Field::DueCount, numbers, After::LineFeed)?;
+    known.dues = Some(dues);
+    for due in 1..=dues {
+        let instead = |train| due_instead(known.due_train?, train, trains);
+        let field = Field::DueTrain { due };
+        let train = walker.fitting(field, numbers, Wrong::OutOfPlace, instead)?;
+        known.due_train = Some(train);
+        walker.ranged(Field::DueMinute { due }, TIME, After::LineFeed)?;
+    }
+    Ok(())
+}
+
+/// What is allowed in the place of a train whose due minute does not stand in order, after that of the
+/// train before.
+fn due_instead(before: u32, train: u32, trains: u32) -> Option<String> {
+    (train <= before).then(|| match before == trains {
+        true => format!("none: train {before} is the last"),
+        false => Allowed::from(before + 1, trains).in_words() + ", a train after the one before",
+    })
 }

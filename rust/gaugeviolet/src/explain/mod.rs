@@ -64,7 +64,7 @@ impl Refusal {
         }
         match cause {
             Cause::FileLength => Some(too_long(file)),
-            Cause::FileForm | Cause::FileRange | Cause::SameStation | Cause::BookingPlace => {
+            Cause::FileForm | Cause::FileRange | Cause::SameStation | Cause::OutOfPlace => {
                 self.of_file(cause, file)
             }
             Cause::NoTimetable => without_timetable(file),
@@ -81,10 +81,10 @@ impl Refusal {
     fn is_of(&self, cause: Cause, file: &[u8], timetable: Option<&[u8]>) -> bool {
         match cause {
             Cause::NoTimetable | Cause::LentBytes => true,
-            _ if cause < Cause::NoTimetable || cause == Cause::BookingPlace => {
-                crate::read(file) == Err(*self)
+            _ if cause.is_of_timetable() => {
+                timetable.is_some_and(|text| crate::check(file, text) == Err(*self))
             }
-            _ => timetable.is_some_and(|text| crate::check(file, text) == Err(*self)),
+            _ => crate::read(file) == Err(*self),
         }
     }
 
@@ -126,7 +126,7 @@ fn cause_in_file(wrong: Wrong) -> Cause {
         Wrong::Form | Wrong::After(_) => Cause::FileForm,
         Wrong::Range => Cause::FileRange,
         Wrong::SameStation => Cause::SameStation,
-        Wrong::BookingPlace => Cause::BookingPlace,
+        Wrong::OutOfPlace => Cause::OutOfPlace,
     }
 }
 

@@ -26,12 +26,15 @@ pub(super) fn in_file(file: &[u8], fault: &Fault, known: &Known) -> Option<Strin
         | Field::Weight { train }
         | Field::Run { train, .. }
         | Field::Stop { train, .. } => runs_and_stops(file, fault, train, *known.paths.last()?),
-        Field::BookedStation { .. } if fault.wrong == Wrong::BookingPlace => {
-            let station = std::str::from_utf8(&file[fault.from..fault.to]).ok()?;
-            booking_place(known, known.booked_train?, station.parse().ok()?)
+        _ if fault.wrong == Wrong::OutOfPlace => {
+            let number = std::str::from_utf8(&file[fault.from..fault.to]).ok()?;
+            out_of_place(fault, known, number.parse().ok()?)
         }
-        Field::BookingCount | Field::BookedTrain { .. } | Field::End => {
+        Field::BookingCount | Field::BookedTrain { .. } | Field::BookedStation { .. } => {
             by_bookings(file, fault, known)
+        }
+        Field::DueCount | Field::DueTrain { .. } | Field::DueMinute { .. } | Field::End => {
+            by_dues(file, fault, known)
         }
         _ => by_counts(file, fault, known),
     }
@@ -77,34 +80,112 @@ fn by_counts(file: &[u8], fault: &Fault, known: &Known) -> Option<String> {
     }
 }
 
-/// What the counts of trains and bookings say of a line after the trains.
+/// The line of the number of trains, and what it says.
+fn says_trains(known: &Known) -> Option<(u32, String)> {
+    let line = 2 * known.stations? + 2;
+    Some((line, says(line, known.trains?, "train")))
+}
+
+/// The line of the number of bookings, and what it says.
+fn says_bookings(known: &Known) -> Option<(u32, String)> {
+    let line = says_trains(known)?.0 + known.trains? + 1;
+    Some((line, says(line, known.bookings?, "booking")))
+}
+
+/// The same of the due minutes.
+fn says_dues(known: &Known) -> Option<(u32, String)> {
+    let line = says_bookings(known)?.0 + known.bookings? + 1;
+    Some((line, says(line, known.dues?, "due minute")))
+}
+
+fn says(line: u32, count: u32, word: &str) -> String {
+    format!("line {line} says {}", counted(count, word))
+}
+
+/// What the counts before a fault in the section of bookings say of its line.
 fn by_bookings(file: &[u8], fault: &Fault, known: &Known) -> Option<String> {
-    let train_count = 2 * known.stations? + 2;
-    let trains = known.trains?;
-    let by_trains = format!("line {train_count} says {}", counted(trains, "train"));
-    let by_bookings = |bookings: u32| {
-        let line = train_count + trains + 1;
-        format!("line {line} says {}", counted(bookings, "booking"))
-    };
+    let (_, trains) = says_trains(known)?;
     match fault.field {
-        Field::BookingCount if &file[fault.from..fault.to] == b"0" => {
-            Some("without bookings their section is left off; take the line away".into())
-        }
+        Field::BookingCount if &file[fault.from..fault.to] == b"0" => Some(
+            "without bookings and due minutes their sections are left off; take the line away"
+                .into(),
+        ),
         Field::BookingCount => Some(format!(
-            "{by_trains}, so the file ends after line {} or goes on with the number of bookings",
+            "{trains}, so the file ends after line {} or goes on with the number of bookings",
             fault.line - 1
         )),
         Field::BookedTrain { booking } if fault.from == file.len() => Some(format!(
             "{}, and there are only {}",
-            by_bookings(known.bookings?),
+            says_bookings(known)?.1,
             booking - 1
         )),
-        Field::BookedTrain { .. } if fault.wrong == Wrong::Range => Some(by_trains),
+        Field::BookedTrain { .. } if fault.wrong == Wrong::Range => Some(trains),
+        Field::BookedStation { booking: 1 } if fields_on_line(file, fault) == Some(2) => {
+            Some(format!(
+                "a booking is train, station and minute; if this is a due minute, the line `0` for no \
+                 bookings is missing before line {}",
+                fault.line - 1
+            ))
+        }
+        _ => None,
+    }
+}
+
+/// What the counts before a fault in the section of due minutes, or after it, say of its line.
+fn by_dues(file: &[u8], fault: &Fault, known: &Known) -> Option<String> {
+    let none = &file[fault.from..fault.to] == b"0";
+    match fault.field {
+        Field::DueCount if none || fault.wrong != Wrong::Range => due_count(fault, known),
+        Field::DueCount | Field::DueTrain { .. } if fault.wrong == Wrong::Range => {
+            Some(says_trains(known)?.1)
+        }
+        Field::DueTrain { due } if fault.from == file.len() => Some(format!(
+            "{}, and there are only {}",
+            says_dues(known)?.1,
+            due - 1
+        )),
+        Field::DueMinute { .. } if fields_on_line(file, fault).is_some_and(|has| has > 2) => Some(
+            "here a line is a train and its due minute; bookings are the section before".into(),
+        ),
         Field::End => Some(format!(
             "{}, so the file ends after line {}",
-            by_bookings(known.bookings?),
+            says_dues(known)?.1,
             fault.line - 1
         )),
+        _ => None,
+    }
+}
+
+/// What the number of bookings says of the line that is to be the number of due minutes. That is 0, or
+/// something else than a number.
+fn due_count(fault: &Fault, known: &Known) -> Option<String> {
+    let (line, bookings) = says_bookings(known)?;
+    Some(match (fault.wrong, known.bookings?) {
+        (Wrong::Range, 0) => format!(
+            "without bookings and due minutes their sections are left off; take line {line} away too"
+        ),
+        (Wrong::Range, _) => {
+            "without due minutes their section is left off; take the line away".into()
+        }
+        (_, 0) => format!(
+            "{bookings}, so line {} is the number of due minutes; without any, take line {line} away",
+            fault.line
+        ),
+        _ => format!(
+            "{bookings}, so the file ends after line {} or goes on with the number of due minutes",
+            fault.line - 1
+        ),
+    })
+}
+
+/// Why a number may not stand where it does, although it is in its range.
+fn out_of_place(fault: &Fault, known: &Known, number: u32) -> Option<String> {
+    match fault.field {
+        Field::BookedStation { .. } => booking_place(known, known.booked_train?, number),
+        Field::DueTrain { .. } if known.due_train == Some(number) => Some(format!(
+            "train {number} has two due minutes; take one of them away"
+        )),
+        Field::DueTrain { .. } => Some("due minutes stand in rising order of train".into()),
         _ => None,
     }
 }

@@ -273,11 +273,15 @@ fn trains(numbers: &[u32]) -> String {
 
 fn total(timetable: &Timetable) -> Option<Breach> {
     let worked = timetable.total_of_minutes();
+    let late = match timetable.line().dues() {
+        [] => "",
+        _ => " from the due minute, which is 0 for an early train",
+    };
     (worked != timetable.total()).then(|| Breach {
         field: Field::Total,
         line: timetable.numbers().count() + 3 + timetable.order_lists().len(),
         at: 0,
         found: timetable.total().to_string(),
-        allowed: format!("{worked}, the sum of weight times delay"),
+        allowed: format!("{worked}, the sum of weight times delay{late}"),
     })
 }

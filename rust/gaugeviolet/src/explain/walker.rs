@@ -11,8 +11,8 @@ pub(super) enum Wrong {
     After(After),
     Range,
     SameStation,
-    /// A booking is out of order, or not at a middle station of its train.
-    BookingPlace,
+    /// A booking or a due minute is out of order, or a booking not at a middle station of its train.
+    OutOfPlace,
 }
 
 /// The first fault of a text, with the bytes that it is about.
@@ -64,7 +64,7 @@ impl Allowed {
         Allowed { least, most }
     }
 
-    fn in_words(self) -> String {
+    pub fn in_words(self) -> String {
         match self {
             Allowed { least, most } if least == most => format!("the number {least}"),
             Allowed { least, most } if least > most => "no number".to_string(),
@@ -170,9 +170,9 @@ impl<'a> Walker<'a> {
         Err(self.read_fault(Wrong::Range, field, read, allowed.in_words()))
     }
 
-    /// A station within its range, with the space after it. It is wrong all the same where `instead` says
+    /// A number within its range, with the space after it. It is wrong all the same where `instead` says
     /// what is allowed instead.
-    pub fn station(
+    pub fn fitting(
         &mut self,
         field: Field,
         allowed: Allowed,
@@ -181,9 +181,9 @@ impl<'a> Walker<'a> {
     ) -> Result<u32, Fault> {
         let read = self.number(field, 4, &allowed.in_words())?;
         self.after(field, After::Space)?;
-        let station = self.within(field, read, allowed)?;
-        match instead(station) {
-            None => Ok(station),
+        let number = self.within(field, read, allowed)?;
+        match instead(number) {
+            None => Ok(number),
             Some(instead) => Err(self.read_fault(wrong, field, read, instead)),
         }
     }

@@ -4,7 +4,7 @@
 use std::collections::{BTreeMap, BTreeSet};
 
 use gaugeviolet::{time_of_day, Timetable};
-use independent::rules::{free_arrival, lists, Lane};
+use independent::rules::{lists, Lane};
 use independent::Line;
 
 use crate::xml::{well_formed, Element};
@@ -75,6 +75,7 @@ pub fn hold(picture: &str, file: &[u8], timetable: &[u8]) {
     shown.stands(&axes, &heights);
     shown.waits(&axes, &heights);
     shown.bookings(&axes, &heights);
+    shown.dues(&axes);
     shown.train_labels();
     shown.delays();
     shown.lists_and_total();
@@ -100,13 +101,19 @@ pub fn numbers(row: &str) -> Vec<i64> {
 
 /// Where minutes and stations stand, as the picture itself has written it beside its grid.
 struct Axes {
-    /// A labelled minute, where it stands, and the pixels of a minute.
+    /// The first labelled minute, where it stands, and the pixels of a minute.
     minute: (i64, i64),
+    /// The last labelled minute.
+    last: i64,
     pixels: i64,
     stations: BTreeMap<i64, i64>,
 }
 
 impl Axes {
+    fn shows(&self, minute: i64) -> bool {
+        (self.minute.0..=self.last).contains(&minute)
+    }
+
     fn point(&self, minute: i64, station: i64) -> (i64, i64) {
         let x = self.minute.1 + (minute - self.minute.0) * self.pixels;
         (x, self.stations[&station])
@@ -136,6 +143,7 @@ impl Shown<'_> {
         let (&first, &last) = (minutes.keys().min().unwrap(), minutes.keys().max().unwrap());
         let axes = Axes {
             minute: (first, minutes[&first]),
+            last,
             pixels: (minutes[&last] - minutes[&first]) / (last - first),
             stations: self.stations(),
         };
@@ -368,6 +376,61 @@ impl Shown<'_> {
         assert_eq!(told.count(), usize::from(!bookings.is_empty()));
     }
 
+    /// The due minutes that are shown, with their trains, counted from 0: those from the first minute of the
+    /// picture up to an hour after the last arrival.
+    fn shown_dues(&self, axes: &Axes) -> Vec<(usize, i64)> {
+        let last = self.rows.iter().flatten().max().copied().unwrap_or(0);
+        let shown = axes.minute.0..=last + 60;
+        let dues = self.line.used_dues().iter();
+        let dues = dues.map(|due| (usize::from(due.train) - 1, i64::from(due.minute)));
+        // A minute that is further away is shown where the picture goes up to it all the same.
+        let shown = |&(_, minute): &(usize, i64)| shown.contains(&minute) || axes.shows(minute);
+        dues.filter(shown).collect()
+    }
+
+    /// Exactly the due minutes that are shown, each a leader from minute and destination to a round frame
+    /// with the train's number, in its colour; and what that means.
+    fn dues(&self, axes: &Axes) {
+        let dues = self.shown_dues(axes);
+        let (labels, leaders) = (self.of("g", "due"), self.of("line", "due-leader"));
+        assert_eq!((labels.len(), leaders.len()), (dues.len(), dues.len()));
+        let ways = self.of("polyline", "train");
+        for (&(at, minute), (label, leader)) in dues.iter().zip(labels.iter().zip(leaders)) {
+            let station = i64::from(self.line.trains[at].destination);
+            let from = (leader.number("x1"), leader.number("y1"));
+            assert_eq!(from, axes.point(minute, station), "train {}", at + 1);
+            assert_eq!(leader.number("x2"), from.0);
+            let [title, frame, number] = &label.inside[..] else {
+                panic!("a title, a frame and a number");
+            };
+            assert_eq!(title.text, self.due_words(at, minute));
+            assert_eq!(number.text, (at + 1).to_string());
+            assert_eq!(frame.value("stroke"), ways[at].value("stroke"));
+            assert_eq!(frame.number("x") + frame.number("width"), from.0);
+            let height = frame.number("y")..=frame.number("y") + frame.number("height");
+            assert!(height.contains(&leader.number("y2")), "at its frame");
+        }
+        let meanings = self.of("text", "aside").into_iter();
+        let told = meanings.filter(|words| words.text.starts_with("is due "));
+        assert_eq!(told.count(), usize::from(!dues.is_empty()));
+    }
+
+    /// What is said of a train at its due minute.
+    fn due_words(&self, at: usize, due: i64) -> String {
+        let arrival = *self.rows[at].last().expect("an arrival");
+        let kept = match arrival - due {
+            0 => "on time".to_string(),
+            1 => "1 minute late".to_string(),
+            -1 => "1 minute early".to_string(),
+            late if late > 0 => format!("{late} minutes late"),
+            early => format!("{} minutes early", -early),
+        };
+        let [due, arrival] = [due, arrival].map(|minute| time_of_day(minute as u32));
+        let station = self.line.trains[at].destination;
+        let number = at + 1;
+        format!("train {number} is due at station {station} at {due}; it arrives {arrival}, {kept}")
+    }
+
     fn all_waits(&self) -> Vec<Waited> {
         let rows = self.rows.iter().enumerate();
         rows.flat_map(|(at, row)| self.waits_of(at, row)).collect()
@@ -422,19 +485,20 @@ impl Shown<'_> {
         }
     }
 
-    /// The table of delays: arrival, arrival alone, delay, weight and cost of each train.
+    /// The table of delays: arrival, due minute (without due minutes: arrival alone), delay, weight and cost
+    /// of each train.
     fn delays(&self) {
+        let due = ["alone", "due"][usize::from(self.line.due_count > 0)];
+        let heads = self.of("text", "head").into_iter();
+        let heads: Vec<&str> = heads.map(|head| head.text.as_str()).collect();
+        assert_eq!(heads, ["train", "arrives", due, "delay", "weight", "cost"]);
         let mut expected = Vec::new();
         for (at, row) in self.rows.iter().enumerate() {
             let train = &self.line.trains[at];
             let arrival = *row.last().expect("an arrival") as u32;
-            let (free, weight) = (free_arrival(&self.line, at), u32::from(train.weight));
-            let delay = arrival - free;
-            expected.extend([
-                (at + 1).to_string(),
-                time_of_day(arrival),
-                time_of_day(free),
-            ]);
+            let (due, weight) = (self.line.due_minute(at), u32::from(train.weight));
+            let delay = arrival.saturating_sub(due);
+            expected.extend([(at + 1).to_string(), time_of_day(arrival), time_of_day(due)]);
             expected.extend([delay, weight, delay * weight].map(|number| number.to_string()));
         }
         let cells = self.of("text", "delay").into_iter();

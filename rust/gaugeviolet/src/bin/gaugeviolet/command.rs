@@ -61,8 +61,8 @@ impl Failure {
 
     /// The refusal of a line file, or of a timetable for it: the sentence and the explanation.
     pub fn refused(refusal: Refusal, line: &Named, timetable: Option<&Named>) -> Failure {
-        let of_line = refusal.number < Cause::TimetableLength.number();
-        let about = timetable.filter(|_| !of_line).unwrap_or(line);
+        let of_timetable = refusal.cause().is_some_and(Cause::is_of_timetable);
+        let about = timetable.filter(|_| of_timetable).unwrap_or(line);
         let mut words = format!("gaugeviolet: {}: {refusal}\n", in_words(about.name));
         let bytes = timetable.map(|named| &named.bytes[..]);
         if let Some(explanation) = refusal.explanation(&line.bytes, bytes) {

@@ -16,7 +16,8 @@ pub const COMMAND: Command = Command {
 For each segment, and on double track for each lane, the trains in the order in which
 they set out, with direction, departure and arrival as times of day. What falls on
 the second day is marked. Where the departure is booked, the booked time stands at the
-end of the row: the train must not leave before it.
+end of the row: the train must not leave before it. Where the train is at its
+destination then, its due minute stands there if one is listed.
 
 example: gaugeviolet lists samples/saturday.line samples/saturday.timetable
 ",
@@ -54,14 +55,20 @@ fn row(timetable: &Timetable, train: u32, segment: u32) -> String {
     let leg = leg.expect("a train of the segment's list goes there");
     let (direction, departure) = (path.direction(), time_of_day(leg.departure));
     let arrival = time_of_day(leg.arrival);
-    let front = format!("  train {train:>2}  {direction:<8}  departs {departure:<11}  arrives ");
-    let from = if path.outbound() {
-        segment
-    } else {
-        segment + 1
+    let mut row = format!(
+        "  train {train:>2}  {direction:<8}  departs {departure:<11}  arrives {arrival:<11}"
+    );
+    let (from, to) = match path.outbound() {
+        true => (segment, segment + 1),
+        false => (segment + 1, segment),
     };
-    match timetable.line().booked(train, from) {
-        None => format!("{front}{arrival}\n"),
-        Some(booked) => format!("{front}{arrival:<11}  booked {}\n", time_of_day(booked)),
+    let line = timetable.line();
+    if let Some(booked) = line.booked(train, from) {
+        row += &format!("  booked {:<11}", time_of_day(booked));
     }
+    let due = line.listed_due(train);
+    if let Some(due) = due.filter(|_| to == path.destination) {
+        row += &format!("  due {}", time_of_day(due));
+    }
+    row.trim_end().to_string() + "\n"
 }

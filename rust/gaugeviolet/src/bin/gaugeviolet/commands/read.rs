@@ -1,6 +1,6 @@
 //! The line in words.
 
-use gaugeviolet::{counted, time_of_day, Kind, Leg, Line, Segment, Train};
+use gaugeviolet::{counted, punctuality, time_of_day, Kind, Leg, Line, Segment, Train};
 
 use crate::arguments::Arguments;
 use crate::command::{Command, Failure};
@@ -14,9 +14,10 @@ pub const COMMAND: Command = Command {
     summary: "the line in words, or what is wrong with its file",
     help: "\
 Reads a line file and says in words what it describes: the stations with their
-tracks, the segments with their gaps, and the trains with their times of day and
-their bookings. So what was typed can be read over. A file with a mistake is refused;
-standard error then quotes the line, marks the fault and says what is allowed there.
+tracks, the segments with their gaps, and the trains with their times of day, their
+bookings and their due minutes. So what was typed can be read over. A file with a
+mistake is refused; standard error then quotes the line, marks the fault and says
+what is allowed there.
 
 example: gaugeviolet read samples/saturday.line
 ",
@@ -42,16 +43,19 @@ fn in_words(line: &Line) -> String {
     words
 }
 
-/// How much there is of everything; of bookings only where there are any.
+/// How much there is of everything; of bookings and due minutes only where there are any.
 fn counts(line: &Line) -> String {
     let mut counts = vec![
         counted(line.tracks().len() as u32, "station"),
         counted(line.segments().len() as u32, "segment"),
         counted(line.trains().len() as u32, "train"),
     ];
-    if !line.bookings().is_empty() {
-        counts.push(counted(line.bookings().len() as u32, "booking"));
-    }
+    let optional = [
+        (line.bookings().len() as u32, "booking"),
+        (line.dues().len() as u32, "due minute"),
+    ];
+    let there = optional.into_iter().filter(|&(count, _)| count > 0);
+    counts.extend(there.map(|(count, word)| counted(count, word)));
     counts.join(", ") + "\n\n"
 }
 
@@ -80,7 +84,7 @@ fn train_in_words(line: &Line, number: u32) -> String {
     };
     format!(
         "\ntrain {number}, {}, station {} to station {}, weight {}\n  \
-         departs {} or later, arrives {} or earlier\n{}  \
+         departs {} or later, arrives {} or earlier\n{}{}  \
          alone on the line it takes {}, {spare}:\n{}",
         train.direction(),
         train.origin,
@@ -89,6 +93,7 @@ fn train_in_words(line: &Line, number: u32) -> String {
         minute(train.earliest),
         minute(train.latest),
         bookings_in_words(line, number),
+        due_in_words(line, number),
         counted(free - train.earliest, "minute"),
         free_journey(train, &line.free_legs(number))
     )
@@ -105,6 +110,20 @@ fn bookings_in_words(line: &Line, number: u32) -> String {
         ))
     };
     stations.filter_map(row).collect()
+}
+
+/// The due minute of a train that is listed, and how it would keep it alone; nothing of another.
+fn due_in_words(line: &Line, number: u32) -> String {
+    let Some(due) = line.listed_due(number) else {
+        return String::new();
+    };
+    let free = line.free_arrival(number);
+    format!(
+        "  is due at {}; alone it arrives {}, {}\n",
+        minute(due),
+        time_of_day(free),
+        punctuality(free, due)
+    )
 }
 
 /// A time of day with its minute, as the file has it.

@@ -1,9 +1,10 @@
 //! Why a timetable costs what it does, or why there is none.
 
+use std::cmp::Ordering;
 use std::ffi::OsStr;
 use std::time::Duration;
 
-use gaugeviolet::{counted, time_of_day, Timetable};
+use gaugeviolet::{counted, punctuality, time_of_day, Timetable, Wait};
 
 use crate::arguments::Arguments;
 use crate::command::{Command, Failure};
@@ -27,7 +28,9 @@ pub const COMMAND: Command = Command {
     help: "\
 Of a timetable: the delay of each train, and where it waits how long for which
 train or for its booked minute. At its own origin a train waits in the yard, where it
-takes no track. Standing for a booking is no delay in itself.
+takes no track. Standing for a booking is no delay in itself. A train with a due
+minute is late from that minute on; the others are from when they would be there
+alone on the line. To be early costs nothing and gains nothing.
 
 Of a line without a timetable: first the trains that cannot be in time even alone;
 then trains of the others that have no timetable together, and such that without
@@ -79,21 +82,48 @@ fn seconds(value: Option<&OsStr>) -> Result<Duration, Failure> {
 fn delays(timetable: &Timetable) -> String {
     let waits = timetable.waits();
     let mut words = format!("total weighted delay {}\n", timetable.total());
-    for (number, train) in timetable.numbers().zip(timetable.line().trains()) {
-        let delay = timetable.delay(number);
-        let late = match delay {
-            0 => "no delay".to_string(),
-            _ => format!(
-                "delay {}, weight {}: {}",
-                counted(delay, "minute"),
-                train.weight,
-                delay * train.weight
-            ),
-        };
-        let arrival = time_of_day(timetable.last_arrival(number));
-        words += &format!("\ntrain {number} arrives {arrival}, {late}\n");
+    for number in timetable.numbers() {
         let own = waits.iter().filter(|wait| wait.train == number);
-        words.extend(own.map(|wait| format!("  {}\n", wait.sentence())));
+        let own: Vec<&Wait> = own.collect();
+        let arrival = time_of_day(timetable.last_arrival(number));
+        let late = lateness(timetable, number);
+        words += &format!("\ntrain {number} arrives {arrival}, {late}\n");
+        words += &alone(timetable, number, !own.is_empty());
+        words.extend(own.iter().map(|wait| format!("  {}\n", wait.sentence())));
     }
     words
+}
+
+/// How late a train is and what that costs; of a train that is listed with a due minute, from that.
+fn lateness(timetable: &Timetable, number: u32) -> String {
+    let (line, delay) = (timetable.line(), timetable.delay(number));
+    let weight = line.train(number).weight;
+    let due = line.listed_due(number).map(|due| {
+        let kept = punctuality(timetable.last_arrival(number), due);
+        format!("due {}, {kept}", time_of_day(due))
+    });
+    let cost = format!("weight {weight}: {}", delay * weight);
+    match (due, delay) {
+        (None, 0) => "no delay".to_string(),
+        (None, _) => format!("delay {}, {cost}", counted(delay, "minute")),
+        (Some(due), 0) => format!("{due}, no delay"),
+        (Some(due), _) => format!("{due}, {cost}"),
+    }
+}
+
+/// A row on how a train would keep its due minute alone on the line: where it would be late even then, and
+/// where it would be early and so may wait.
+fn alone(timetable: &Timetable, number: u32, waits: bool) -> String {
+    let line = timetable.line();
+    let (free, due) = (line.free_arrival(number), line.due(number));
+    let free_of_cost = match free.cmp(&due) {
+        Ordering::Greater => "",
+        Ordering::Less if waits => ", so it may wait that long at no cost",
+        _ => return String::new(),
+    };
+    format!(
+        "  alone it arrives {}, {}{free_of_cost}\n",
+        time_of_day(free),
+        punctuality(free, due)
+    )
 }

@@ -3,7 +3,7 @@
 
 use gaugeviolet::{time_of_day, Timetable};
 
-use super::drawing::{BASE, BOOKED, ROW, SIGN};
+use super::drawing::{BASE, BOOKED, DUE, ROW, SIGN};
 use super::layout::Layout;
 use super::style::stroke;
 use super::svg::{element, group, line, text, Anchor, Attribute, Point};
@@ -17,6 +17,8 @@ const PIECE: u32 = 48;
 /// Where the columns of the table end. A time of the second day needs some 75 pixels.
 const COLUMNS: [u32; 6] = [72, 162, 252, 302, 362, 418];
 const NAMES: [&str; 6] = ["train", "arrives", "alone", "delay", "weight", "cost"];
+/// The same where due minutes are listed. The others are due when they would be there alone.
+const WITH_DUES: [&str; 6] = ["train", "arrives", "due", "delay", "weight", "cost"];
 
 /// All of it, and where it ends at the bottom.
 pub fn aside(timetable: &Timetable, layout: &Layout) -> (String, u32) {
@@ -32,7 +34,7 @@ pub fn aside(timetable: &Timetable, layout: &Layout) -> (String, u32) {
         &format!("total weighted delay: {}", timetable.total()),
     );
     column.table(timetable);
-    column.legend(timetable);
+    column.legend(timetable, layout.labels.iter().any(|label| label.due));
     column.orders(timetable);
     (column.drawn, column.at.y)
 }
@@ -52,8 +54,13 @@ impl Column {
     /// The delay of each train and what it adds to the total, with a piece of its line.
     fn table(&mut self, timetable: &Timetable) {
         self.at.y += ROW / 2;
-        self.cells("head", &NAMES.map(str::to_string));
         let own = timetable.line();
+        let names = if own.dues().is_empty() {
+            NAMES
+        } else {
+            WITH_DUES
+        };
+        self.cells("head", &names.map(str::to_string));
         for (number, train) in timetable.numbers().zip(own.trains()) {
             let delay = timetable.delay(number);
             let y = self.at.y - BASE;
@@ -72,7 +79,7 @@ impl Column {
                 &[
                     number.to_string(),
                     time_of_day(timetable.last_arrival(number)),
-                    time_of_day(own.free_arrival(number)),
+                    time_of_day(own.due(number)),
                     delay.to_string(),
                     train.weight.to_string(),
                     (delay * train.weight).to_string(),
@@ -93,8 +100,8 @@ impl Column {
         self.at.y += ROW;
     }
 
-    /// What the signs mean. That of a booked departure is there only where there is one.
-    fn legend(&mut self, timetable: &Timetable) {
+    /// What the signs mean. Those of booked departures and due minutes are there only where there are some.
+    fn legend(&mut self, timetable: &Timetable, due_shown: bool) {
         self.sign(SIGN, "waits beyond its stop or its earliest minute");
         let (y, x) = (self.at.y - BASE, self.at.x);
         let dots = line("example", Point { x, y }, Point { x: x + 12, y });
@@ -107,6 +114,9 @@ impl Column {
         self.beside("waits in the yard of its origin, and takes no track there");
         if !timetable.line().bookings().is_empty() {
             self.sign(BOOKED, "is booked, and does not leave before that minute");
+        }
+        if due_shown {
+            self.sign(DUE, "is due at its destination at that minute");
         }
         self.at.y += ROW / 2;
     }

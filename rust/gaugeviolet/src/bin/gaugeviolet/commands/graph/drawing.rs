@@ -1,6 +1,8 @@
-//! The picture of a timetable: grid, stations, trains, their numbers, waits and booked departures.
+//! The picture of a timetable: grid, stations, trains, their numbers, waits, booked departures and due
+//! minutes.
 
-use gaugeviolet::{counted, time_of_day, Booking, Kind, Segment, Timetable, Train};
+use gaugeviolet::{counted, punctuality, time_of_day};
+use gaugeviolet::{Booking, Kind, Segment, Timetable, Train};
 
 use super::aside;
 use super::layout::{Layout, TrainLabel, DAY, LABEL_HEIGHT, LABEL_WIDTH, NAMES_END};
@@ -12,6 +14,8 @@ use super::svg::{element, group, line, page, text, title, Anchor, Attribute, Poi
 pub const SIGN: &str = "M0 -4L4 0L0 4L-4 0Z";
 /// The sign of a booked departure, around that of a wait.
 pub const BOOKED: &str = "M-6 -6H6V6H-6Z";
+/// The sign of a due minute, in which the graph has the train's number.
+pub const DUE: &str = "M-2 -5H2A5 5 0 0 1 2 5H-2A5 5 0 0 1 -2 -5Z";
 /// The height of a line of text, and of the part from the middle of its letters down to its base line.
 pub const ROW: u32 = 18;
 pub const BASE: u32 = 4;
@@ -32,7 +36,7 @@ pub fn picture(timetable: &Timetable) -> String {
         booked_departures(timetable, &layout),
         stands.iter().map(|stand| ends(stand, &layout)).collect(),
         stands.iter().map(|stand| sign(stand, &layout)).collect(),
-        numbers(&layout),
+        numbers(timetable, &layout),
         aside,
     ];
     let width = layout.right() + aside::WIDTH;
@@ -272,28 +276,44 @@ fn sign(stand: &Stand, layout: &Layout) -> String {
     element("path", &attributes, &title(&wait.sentence()))
 }
 
-/// The number of each train at its start and its end. All leaders first, so that none crosses a number.
-fn numbers(layout: &Layout) -> String {
+/// The number of each train at its start and its end, and at its due minute. All leaders first, so that
+/// none crosses a number.
+fn numbers(timetable: &Timetable, layout: &Layout) -> String {
     let mut leaders = String::new();
     let mut labels = String::new();
     for label in &layout.labels {
         let corner = layout.label_corner(label);
         let point = layout.labelled_point(label);
-        let leader = line("leader", point, label.leader_end(corner));
-        leaders += &group(&[("stroke", colour(label.train))], &leader);
-        labels += &train_label(label, corner);
+        leaders += &leader(label, point, label.leader_end(corner));
+        labels += &train_label(timetable, label, corner);
     }
     leaders + &labels
 }
 
-/// A train's number in a frame, whose upper right corner is given.
-fn train_label(label: &TrainLabel, corner: Point) -> String {
+/// The line from a point of a station to a train's number. To that of a due minute it is dashed.
+fn leader(label: &TrainLabel, from: Point, to: Point) -> String {
+    let stroke: Attribute = ("stroke", colour(label.train));
+    match label.due {
+        false => group(&[stroke], &line("leader", from, to)),
+        true => {
+            let dashes: Attribute = ("stroke-dasharray", &"2 2");
+            group(&[stroke, dashes], &line("due-leader", from, to))
+        }
+    }
+}
+
+/// A train's number in a frame, whose upper right corner is given. That of a due minute is round.
+fn train_label(timetable: &Timetable, label: &TrainLabel, corner: Point) -> String {
+    let (class, round, words) = match label.due {
+        false => ("train-label", 2, String::new()),
+        true => ("due", LABEL_HEIGHT / 2, due_title(timetable, label.train)),
+    };
     let frame: [Attribute; 7] = [
         ("x", &(corner.x - LABEL_WIDTH)),
         ("y", &corner.y),
         ("width", &LABEL_WIDTH),
         ("height", &LABEL_HEIGHT),
-        ("rx", &2),
+        ("rx", &round),
         ("fill", &"#ffffff"),
         ("stroke", colour(label.train)),
     ];
@@ -303,10 +323,24 @@ fn train_label(label: &TrainLabel, corner: Point) -> String {
     };
     let number = text("number", middle, Anchor::Middle, &label.train.to_string());
     let attributes: [Attribute; 4] = [
-        ("class", &"train-label"),
+        ("class", &class),
         ("font-size", &11),
         ("font-weight", &"bold"),
         ("fill", &"#111111"),
     ];
-    group(&attributes, &(element("rect", &frame, "") + &number))
+    let drawn = words + &element("rect", &frame, "") + &number;
+    group(&attributes, &drawn)
+}
+
+/// What is read at a due minute.
+fn due_title(timetable: &Timetable, train: u32) -> String {
+    let line = timetable.line();
+    let (due, arrival) = (line.due(train), timetable.last_arrival(train));
+    title(&format!(
+        "train {train} is due at station {} at {}; it arrives {}, {}",
+        line.train(train).destination,
+        time_of_day(due),
+        time_of_day(arrival),
+        punctuality(arrival, due)
+    ))
 }

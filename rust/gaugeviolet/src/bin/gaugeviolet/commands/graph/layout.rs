@@ -4,7 +4,9 @@
 //! on each other then, a short segment has room for its waits too, and a line without trains has an
 //! axis. A minute has a whole number of pixels, so each point is exact.
 
-use gaugeviolet::Timetable;
+use std::ops::RangeInclusive;
+
+use gaugeviolet::{Due, Timetable};
 
 use super::stands::{stands, Stand};
 use super::svg::Point;
@@ -33,6 +35,9 @@ const HEIGHT: u32 = 600;
 const SPACING: (u32, u32) = (64, 140);
 /// The width that the minutes take at most, unless one pixel for each is more.
 const WIDEST: u32 = 1280;
+/// How long after the last arrival a due minute may be to be shown. One that is further away would make
+/// all else small.
+const DUE_SHOWN: u32 = 60;
 
 /// How minutes are shown: pixels for each, minutes from label to label and from line to line.
 #[derive(Clone, Copy)]
@@ -52,8 +57,8 @@ const SCALES: [Scale; 5] = [
     Scale { pixels: 1, label: 60, line: 20 },
 ];
 
-/// A train's number beside the start or the end of its line: on the side that the line does not take,
-/// and in which row there, counted from the station.
+/// A train's number beside the start or the end of its line or at its due minute: on the side that the line
+/// does not take, and in which row there, counted from the station.
 #[derive(Clone, Copy)]
 pub struct TrainLabel {
     pub train: u32,
@@ -63,6 +68,8 @@ pub struct TrainLabel {
     leg: usize,
     above: bool,
     row: u32,
+    /// Whether it is at the due minute.
+    pub due: bool,
 }
 
 /// Where everything stands.
@@ -87,7 +94,7 @@ impl Layout {
             stations,
             spacing: (HEIGHT / (stations - 1)).clamp(SPACING.0, SPACING.1),
             stands: stands(timetable, SIGN_WIDTH.div_ceil(scale.pixels)),
-            labels: labels(timetable, scale),
+            labels: labels(timetable, scale, first..=last),
         };
         let between = |station| layout.extent(station, false) + layout.extent(station + 1, true);
         let needed = (1..stations).map(between).max();
@@ -190,7 +197,7 @@ impl Layout {
         self.bottom() + self.extent(self.stations, false)
     }
 
-    /// The start or the end of a train's line, for which it has a number.
+    /// Where a train's number belongs: the start or the end of its line, or its due minute.
     pub fn labelled_point(&self, label: &TrainLabel) -> Point {
         self.before_leg(label.train, label.leg, label.minute, label.station)
     }
@@ -209,9 +216,14 @@ impl Layout {
 }
 
 impl TrainLabel {
-    /// The end of its leader at the label, whose upper right corner is given.
+    /// The end of its leader at the label, whose upper right corner is given. The round frame of a due
+    /// minute is met at half its height.
     pub fn leader_end(&self, corner: Point) -> Point {
-        let down = if self.above { LABEL_HEIGHT } else { 0 };
+        let down = match (self.due, self.above) {
+            (true, _) => LABEL_HEIGHT / 2,
+            (false, true) => LABEL_HEIGHT,
+            (false, false) => 0,
+        };
         Point {
             x: corner.x,
             y: corner.y + down,
@@ -220,7 +232,7 @@ impl TrainLabel {
 }
 
 /// The scale and the first and last minute shown, both labelled: from the least earliest minute to
-/// the last arrival.
+/// the last arrival or the due minutes soon after it.
 fn minutes_shown(timetable: &Timetable) -> (Scale, u32, u32) {
     let trains = timetable.line().trains().iter();
     let earliest = trains.map(|train| train.earliest).min();
@@ -228,6 +240,9 @@ fn minutes_shown(timetable: &Timetable) -> (Scale, u32, u32) {
         .numbers()
         .map(|train| timetable.last_arrival(train));
     let (from, to) = (earliest.unwrap_or(0), arrivals.max().unwrap_or(60));
+    let dues = timetable.line().dues().iter().map(|due| due.minute);
+    let soon = dues.filter(|&due| due <= to + DUE_SHOWN);
+    let to = soon.fold(to, u32::max);
     let widest = SCALES
         .into_iter()
         .find(|scale| (to - from) * scale.pixels <= WIDEST);
@@ -237,12 +252,16 @@ fn minutes_shown(timetable: &Timetable) -> (Scale, u32, u32) {
     (scale, first, last)
 }
 
-/// Two labels for each train. At a station and side they go by minute.
-fn labels(timetable: &Timetable, scale: Scale) -> Vec<TrainLabel> {
+/// Two labels for each train, and one for each due minute that is shown. At a station and side they go by
+/// minute.
+fn labels(timetable: &Timetable, scale: Scale, shown: RangeInclusive<u32>) -> Vec<TrainLabel> {
     let trains = timetable.numbers();
     let mut labels: Vec<TrainLabel> = trains
         .flat_map(|train| at_both_ends(timetable, train))
         .collect();
+    let dues = timetable.line().dues().iter();
+    let dues = dues.filter(|due| shown.contains(&due.minute));
+    labels.extend(dues.map(|due| at_due(timetable, due)));
     let x = |label: &TrainLabel| label.minute * scale.pixels;
     let mut by_minute: Vec<usize> = (0..labels.len()).collect();
     by_minute.sort_by_key(|&at| x(&labels[at]));
@@ -270,6 +289,7 @@ fn at_both_ends(timetable: &Timetable, train: u32) -> [TrainLabel; 2] {
         leg,
         above,
         row: 0,
+        due: false,
     };
     let start = timetable.legs(train)[0].departure;
     let end = timetable.last_arrival(train);
@@ -277,6 +297,16 @@ fn at_both_ends(timetable: &Timetable, train: u32) -> [TrainLabel; 2] {
         label(path.origin, start, 0, path.outbound()),
         label(path.destination, end, path.legs(), !path.outbound()),
     ]
+}
+
+/// The label of a due minute in its first row, on the side of the one at the end of the train's line.
+fn at_due(timetable: &Timetable, due: &Due) -> TrainLabel {
+    let [_, end] = at_both_ends(timetable, due.train);
+    TrainLabel {
+        minute: due.minute,
+        due: true,
+        ..end
+    }
 }
 
 /// How many rows of train numbers stand above or below a station.

@@ -21,8 +21,9 @@ pub const COMMAND: Command = Command {
 Draws the train graph of a timetable as SVG, for a browser. Time goes from left to
 right, stations from top to bottom. Each train has its colour and its pattern of
 dashes, and its number at both ends. A diamond ends a wait; point at it to read who
-waits how long for what. A square marks a booked departure. Beside the graph are the
-delay of each train and the order of the trains on each segment.
+waits how long for what. A square marks a booked departure, and a round frame with
+the train's number the minute at which it is due at its destination. Beside the graph
+are the delay of each train and the order of the trains on each segment.
 
 example: gaugeviolet graph samples/saturday.line > saturday.svg
 ",
