@@ -60,8 +60,9 @@ fn run(count: u64) -> ExitCode {
     report(count, &numbers)
 }
 
-/// A small line, with bookings or dues or without, and a timetable of it. Half of them have latest arrivals that
-/// are hard to keep, so that some have no timetable; the one beside it is then no timetable of it either.
+/// A small line, with bookings or dues or without, and a timetable of it. Half of them have latest
+/// arrivals that are hard to keep, so that some have no timetable; the one beside it is then no timetable of
+/// it either.
 fn line_to_damage(random: &mut Random) -> Planned {
     let (stations, trains) = (random.within(2, 5), random.within(1, 4));
     let draw = random.one_of(&[planned, booked_planned, due_planned]);

@@ -128,8 +128,8 @@ const COUNTS: Least = Least {
     numbers: &[(2, 5000, 50), (3, 15_000, 30), (6, 2100, 1), (19, 200, 20)],
 };
 
-/// Every count of dues from 0 to one more than the trains and past that, behind bookings and behind none, with
-/// nothing behind it, with bytes that are no due, and with as many dues or more or fewer.
+/// Every count of dues from 0 to one more than the trains and past that, behind bookings and behind none. An
+/// empty section of bookings at the end is among them.
 #[test]
 fn every_count_with_what_may_follow() {
     let mut random = Random::new(311);
@@ -137,33 +137,42 @@ fn every_count_with_what_may_follow() {
     for (stations, trains) in sizes() {
         let line = inputs::line(&mut random, stations, trains, Density::Sparse);
         let booked = with_bookings(&mut random, &line, &[Booked::InAnyCase]);
-        let bare = [&Fields::of(&line).text()[..], b"0\n"].concat();
-        let fronts = [bare, Fields::of(&booked).text()];
-        for front in &fronts[..1 + usize::from(booked.booking_count > 0)] {
+        let mut fronts = vec![[&Fields::of(&line).text()[..], b"0\n"].concat()];
+        if booked.booking_count > 0 {
+            fronts.push(Fields::of(&booked).text());
+        }
+        for front in &fronts {
+            compared.file(front);
             for count in [0, 1, trains.max(1) - 1, trains, trains + 1, 13, 120, 9999] {
-                let listed = (1..=count.min(14)).map(|train| format!("{train} {}\n", 40 * train));
-                let dues: String = listed.collect();
-                let fewer = dues.trim_end().rfind('\n').map_or("", |end| &dues[..=end]);
-                let more = format!("{dues}1 5\n");
-                let others = [
-                    "",
-                    "\n",
-                    "x",
-                    "0\n",
-                    "1",
-                    "1 ",
-                    "1 x\n",
-                    "2 0\n1 x\n",
-                    "0 0\n",
-                ];
-                for behind in others.into_iter().chain([&dues[..], fewer, &more]) {
-                    let section = format!("{count}\n{behind}");
-                    compared.file(&[front, section.as_bytes()].concat());
-                }
+                with_count(&mut compared, front, count);
             }
         }
     }
     compared.seen.ends(&COUNTS);
+}
+
+/// This count of dues behind a file, with nothing behind it, with bytes that are no due, and with as many dues
+/// or one more or fewer.
+fn with_count(compared: &mut Compared, front: &[u8], count: u16) {
+    let listed = (1..=count.min(14)).map(|train| format!("{train} {}\n", 40 * train));
+    let dues: String = listed.collect();
+    let fewer = dues.trim_end().rfind('\n').map_or("", |end| &dues[..=end]);
+    let more = format!("{dues}1 5\n");
+    let others = [
+        "",
+        "\n",
+        "x",
+        "0\n",
+        "1",
+        "1 ",
+        "1 x\n",
+        "2 0\n1 x\n",
+        "0 0\n",
+    ];
+    for behind in others.into_iter().chain([&dues[..], fewer, &more]) {
+        let section = format!("{count}\n{behind}");
+        compared.file(&[front, section.as_bytes()].concat());
+    }
 }
 
 const EVERY_NUMBER: Least = Least {

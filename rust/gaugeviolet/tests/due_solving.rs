@@ -5,11 +5,12 @@ mod lent_solving;
 mod solved;
 mod walked;
 
-use independent::search::search_within;
+use independent::search::{plan_by_search, search_within};
 use independent::walk::solve_within;
 use independent::Line;
 use inputs::{beside_another, beside_walks, due_dense_walk, due_saturday, due_short_walks};
-use inputs::{due_small_walks, saturday, with_some_dues, DueCorners, LineWalk, Random, Style};
+use inputs::{due_small_walks, greatest_delay, saturday, with_some_dues};
+use inputs::{DueCorners, LineWalk, Random, Style};
 use lent_solving::{lend_every_number, refused_by_all};
 use solved::solved;
 use walked::hold_length;
@@ -98,6 +99,15 @@ fn refused_as_reading_is() {
     refused_by_all("0\n1\n1 x\n");
     refused_by_all("1\n1 2 5\n1\n0 5\n");
     refused_by_all("1\n1 2 5\n1\n1 5\n0\n");
+}
+
+/// All twelve trains are in with the last minute of the day and due at the first.
+#[test]
+fn the_greatest_total() {
+    let file = independent::write(&greatest_delay(2878)).expect("a line within the limits");
+    let text = solved(&file).expect("a timetable");
+    assert!(text.starts_with(b"12\n2878 2879\n") && text.ends_with(b"\n3420252\n"));
+    assert_eq!(plan_by_search(&file), Ok(text));
 }
 
 /// The text of the best timetable of file A with these sections.

@@ -7,7 +7,7 @@ mod totals;
 use checked::Compared;
 use independent::rules::{free_arrival, last_arrival, weighted_delay, Minutes};
 use independent::{Line, Train};
-use inputs::{due_planned, due_small_planned, fully_due_planned};
+use inputs::{due_planned, due_small_planned, fully_due_planned, greatest_delay};
 use inputs::{Least, Pair, Planned, Random, Traffic};
 use totals::{near_and_wrapped, with_totals};
 
@@ -250,19 +250,11 @@ const GREATEST_TOTAL: Least = Least {
     numbers: &[(8, 2, 1), (17, 200, 1)],
 };
 
-/// Twelve trains of weight 99, each alone in its lane, due at 0 and in at 2,879: the greatest total of all, and
-/// others that fewer bits would not tell from it.
+/// The greatest total of all, and others that fewer bits would not tell from it.
 #[test]
 fn totals_near_the_greatest() {
     let mut compared = Compared::default();
-    let lanes = (1..=6).flat_map(|p| [(p, p + 1), (p + 1, p)]);
-    let trains: String = lanes
-        .map(|(from, to)| format!("{from} {to} 0 2879 99 1\n"))
-        .collect();
-    let dues: String = (1..=12).map(|train| format!("{train} 0\n")).collect();
-    let track = format!("7\n{}6\n{}", "1\n".repeat(7), "D 1 1\n".repeat(6));
-    let file = format!("{track}12\n{trains}0\n12\n{dues}");
-    let line = independent::read(file.as_bytes()).expect("a line file");
+    let line = greatest_delay(0);
     let minutes = Minutes::of_rows(&line, &vec![vec![2878, 2879]; 12]);
     near_and_wrapped(&mut compared, &Planned { line, minutes }, 3_420_252);
     compared.seen.ends(&GREATEST_TOTAL);

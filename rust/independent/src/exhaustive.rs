@@ -7,8 +7,8 @@
 //! tracks. So each lawful timetable keeps some choice of an order for each segment, and of tracks
 //! with an order on each track for each station. Among the timetables that keep one choice the
 //! least minutes are the best, as each of them is at or below that of any other, and a train that is in
-//! earlier has no more delay. Bookings, like earliest, are floors under departures and
-//! change nothing of this.
+//! earlier has no more delay. Bookings, like earliest, are floors under departures and change nothing of
+//! this.
 //!
 //! The planner therefore goes through every choice, works out its least minutes, and keeps the best.
 //! It puts the trains in one after another, each at every position of every order that it has a part

@@ -111,8 +111,8 @@ impl Limits {
 #[derive(Clone, Copy, Debug, PartialEq, Eq, PartialOrd, Ord)]
 pub struct Refusal {
     /// Of a line file: 1 too long, 2 form, 3 range, 4 destination equals origin, 19 a booking or a due out
-    /// of order, or a booking not at a middle station. 5 no timetable, 6 lent bytes too few. Of a timetable: 7 too
-    /// long, 8 form, 9 range, 10 to 15 and 18 the rule broken, 16 order lists, 17 total.
+    /// of order, or a booking not at a middle station. 5 no timetable, 6 lent bytes too few. Of a
+    /// timetable: 7 too long, 8 form, 9 range, 10 to 15 and 18 the rule broken, 16 order lists, 17 total.
     pub number: u32,
     /// The line of the fault for 2, 3, 4, 8, 9 and 19; the lowest train for 10 to 13 and 18, segment for
     /// 14, station for 15 and list for 16. All of them count from 1; any other number has 0.

@@ -2,7 +2,7 @@
 
 use independent::rules::{free_arrival, last_arrival, weighted_delay, Minutes};
 use independent::walk::solve_within;
-use independent::{Due, Limits, Line, Train};
+use independent::{Limits, Line, SEGMENTS};
 
 use crate::corners::{has_a_tie, PLANS};
 use crate::parts::put_dues;
@@ -26,7 +26,7 @@ pub enum DueCorner {
     ZeroWeight,
     /// Some trains are listed and some are not.
     Some,
-    /// A train that is listed has bookings.
+    /// A train that is listed has a booking after minute 0.
     Booked,
     /// There would be a weighted delay with every train at its free arrival.
     FirstPlanCosts,
@@ -71,27 +71,20 @@ impl DueCorner {
     /// Whether that is so of a line with dues.
     fn is_of(self, known: &Known) -> bool {
         let Known { line, best, .. } = known;
-        let with_delay = |delay: u32| (delay > 0) == (self == DueCorner::TieWithDelay);
+        let last = u32::from(Limits::MINUTE.most);
         match self {
             DueCorner::Before => known.any_due(|minute, free| minute < free),
             DueCorner::Free => known.any_due(|minute, free| minute == free),
             DueCorner::After => known.any_due(|minute, free| minute > free),
             DueCorner::AllFirstMinute => {
-                let first = |due: &&Due| due.minute == Limits::MINUTE.least;
-                line.used_dues().iter().filter(first).count() == line.used_trains().len()
+                (0..line.used_trains().len()).all(|i| line.listed_due(i) == Some(0))
             }
-            DueCorner::LastMinute => {
-                known.any_due(|minute, _| minute == u32::from(Limits::MINUTE.most))
-            }
-            DueCorner::ZeroWeight => known.any_listed(|train, _| train.weight == 0),
+            DueCorner::LastMinute => known.any_due(|minute, _| minute == last),
+            DueCorner::ZeroWeight => known.any_listed(|i| line.trains[i].weight == 0),
             DueCorner::Some => line.due_count < line.train_count,
-            DueCorner::Booked => known.any_listed(|_, number| {
-                let mut bookings = line.used_bookings().iter();
-                bookings.any(|booking| booking.train == number)
-            }),
-            DueCorner::FirstPlanCosts => known.any_listed(|train, number| {
-                let i = usize::from(number) - 1;
-                train.weight > 0 && line.due_minute(i) < free_arrival(line, i)
+            DueCorner::Booked => known.any_listed(|i| line.floors(i) != [0; SEGMENTS]),
+            DueCorner::FirstPlanCosts => known.any_listed(|i| {
+                line.trains[i].weight > 0 && line.due_minute(i) < free_arrival(line, i)
             }),
             DueCorner::EarlyAndLate => {
                 known.any_in(|arrival, due, _| arrival < due)
@@ -102,9 +95,8 @@ impl DueCorner {
             }
             DueCorner::Move => known.moves,
             DueCorner::Tie => known.tie,
-            DueCorner::TieWithoutDelay | DueCorner::TieWithDelay => {
-                known.tie && best.is_some_and(|best| with_delay(weighted_delay(line, best)))
-            }
+            DueCorner::TieWithoutDelay => known.tie && known.delay() == 0,
+            DueCorner::TieWithDelay => known.tie && known.delay() > 0,
             DueCorner::NoTimetable => best.is_none(),
         }
     }
@@ -121,19 +113,20 @@ struct Known<'a> {
 }
 
 impl Known<'_> {
-    /// Whether `hold` holds of a train that is listed and its number, from 1.
-    fn any_listed(&self, hold: impl Fn(&Train, u16) -> bool) -> bool {
+    /// The weighted delay of the best timetable; 0 where there is none.
+    fn delay(&self) -> u32 {
+        self.best.map_or(0, |best| weighted_delay(self.line, best))
+    }
+
+    /// Whether `hold` holds of the number, from 0, of a train that is listed.
+    fn any_listed(&self, hold: impl Fn(usize) -> bool) -> bool {
         let mut dues = self.line.used_dues().iter();
-        dues.any(|due| hold(&self.line.trains[usize::from(due.train) - 1], due.train))
+        dues.any(|due| hold(usize::from(due.train) - 1))
     }
 
     /// Whether `hold` holds of a listed minute and the free arrival of its train.
     fn any_due(&self, hold: impl Fn(u32, u32) -> bool) -> bool {
-        let mut dues = self.line.used_dues().iter();
-        dues.any(|due| {
-            let free = free_arrival(self.line, usize::from(due.train) - 1);
-            hold(u32::from(due.minute), free)
-        })
+        self.any_listed(|i| hold(self.line.due_minute(i), free_arrival(self.line, i)))
     }
 
     /// Whether `hold` holds of the last arrival, the due minute and the free arrival of a train with a weight

@@ -1,9 +1,9 @@
 //! Dues for lines that were drawn without any, and lines that have them from the start.
 
 use independent::rules::free_arrival;
-use independent::{Due, Limits, Line};
+use independent::{Due, Kind, Limits, Line, Segment, Train, TRAINS};
 
-use crate::parts::put_dues;
+use crate::parts::{of_size, put_dues, used_parts};
 use crate::{booked_full_size, booked_saturday, booked_small_line, small_line};
 use crate::{Random, Style};
 
@@ -130,8 +130,39 @@ pub fn due_saturday(random: &mut Random, style: Style) -> Line {
     with_some_dues(random, &line, near)
 }
 
+/// Twelve trains of weight 99, each alone in its lane of a double track, due at 0, with the last minute of the
+/// day for their latest: no timetable has a greater weighted delay than that with all of them in then.
+pub fn greatest_delay(earliest: u16) -> Line {
+    let mut line = of_size(7, TRAINS as u16);
+    let (tracks, segments, trains) = used_parts(&mut line);
+    tracks.fill(1);
+    segments.fill(Segment {
+        kind: Kind::D,
+        following: 1,
+        opposing: 1,
+    });
+    let lanes = (1..=6).flat_map(|p| [(p, p + 1), (p + 1, p)]);
+    for (train, (origin, destination)) in trains.iter_mut().zip(lanes) {
+        *train = Train {
+            origin,
+            destination,
+            earliest,
+            latest: LAST,
+            weight: Limits::WEIGHT.most,
+            ..Train::default()
+        };
+        train.runs[0] = 1;
+    }
+    let dues = (1..=TRAINS as u16).map(|train| Due { train, minute: 0 });
+    put_dues(&mut line, &dues.collect::<Vec<_>>());
+    line
+}
+
 #[cfg(test)]
 mod tests {
+    use independent::rules::weighted_delay;
+    use independent::walk::solve;
+
     use super::*;
     use crate::parts::reads_back;
     use crate::{sizes, with_bookings, Booked, Density, Fields};
@@ -160,6 +191,14 @@ mod tests {
         assert_eq!((line.booking_count, line.due_count), (120, 12));
         assert_eq!(Fields::of(&line).text().len(), 2585);
         reads_back(&line);
+    }
+
+    #[test]
+    fn the_greatest_delay_is_met() {
+        let line = greatest_delay(LAST - 1);
+        reads_back(&line);
+        let best = solve(&line).best.expect("a timetable");
+        assert_eq!(weighted_delay(&line, &best), 12 * 99 * 2879);
     }
 
     #[test]

@@ -39,7 +39,7 @@ pub use damage::{damage_bytes, damage_lines, with_one_byte_damaged};
 pub use due_corners::{DueCorner, DueCorners};
 pub use due_faults::{with_due_fault, DueFault};
 pub use due_planned::{due_planned, due_small_planned, fully_due_planned};
-pub use dues::{due_full_size, due_saturday, due_small_line};
+pub use dues::{due_full_size, due_saturday, due_small_line, greatest_delay};
 pub use dues::{with_all_due, with_dues, with_some_dues, DueAt};
 pub use fields::Fields;
 pub use misbooked::{misbooked, Misbooking};

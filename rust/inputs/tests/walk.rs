@@ -348,7 +348,7 @@ fn small_lines_with_bookings_word_by_word() {
 #[test]
 fn lines_with_dues_word_by_word() {
     let mut random = Random::new(69);
-    let by_shape = compared_by_shape(400, |compared, shape| {
+    let by_shape = compared_by_shape(250, |compared, shape| {
         let (stations, trains) = (random.within(2, 7), random.within(1, 7));
         let line = walk_line(&mut random, stations, trains, shape);
         let line = match random.below(2) {
@@ -358,7 +358,7 @@ fn lines_with_dues_word_by_word() {
         let line = with_some_dues(&mut random, &line, 10);
         compared.word_by_word(&line, 200);
     });
-    assert!(by_shape.iter().all(|compared| compared.files >= 200));
+    assert!(by_shape.iter().all(|compared| compared.files >= 120));
 }
 
 #[test]

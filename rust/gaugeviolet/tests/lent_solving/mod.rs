@@ -6,7 +6,8 @@ use inputs::LineWalk;
 
 use crate::solved::solved;
 
-/// Lends no byte, one, one too few, and just enough. How many of the files have a timetable, and how many none.
+/// Lends no byte, one, one too few, and just enough. Returns how many of the files have a timetable, and how
+/// many have none.
 pub fn lend_every_number(walks: impl Iterator<Item = LineWalk>) -> (usize, usize) {
     let (mut texts, mut without) = (0, 0);
     for walk in walks {
