@@ -15,7 +15,7 @@ use Rattle.line.specs.declared.Line.{Line}
 use Rattle.line.specs.declared.writing.Fault.{Fault}
 use Rattle.line.specs.Record.{noSegment, noTrain, noBooking, noListed}
 use Rattle.line.specs.Within.{TrainArrays, Arrays}
-use Rattle.line.specs.Writing.{numberFault, linesFault, timesFault, segmentFault, pathFault, headFault, trainFault, bookingFault, risingFault, trackFaultOf, trafficFaultOf, bookedFaultOf, faultOf}
+use Rattle.line.specs.Writing.{numberFault, linesFault, timesFault, segmentFault, pathFault, headFault, trainFault, bookingFault, risingFault, trackFaultOf, trafficFaultOf, bookedFaultOf, listedFault, listFault, faultOf}
 use Rattle.line.specs.WithinLaws.{within-of}
 use Rattle.rules.specs.declared.rules.Breach.{Breach}
 use Rattle.rules.specs.Statement.Paths.{segmentBetween}
@@ -73,7 +73,7 @@ arrays-double = line-arrays _ _ _ (train-arrays 1 3 0 100 1 _ _, (train-arrays 3
 unfoldable answerOf : Line → BestSoFar
 unfolding
     first all count sum most gather table padded boundedOf
-    numberFault linesFault timesFault segmentFault pathFault headFault trainFault bookingFault risingFault trackFaultOf trafficFaultOf bookedFaultOf faultOf
+    numberFault linesFault timesFault segmentFault pathFault headFault trainFault bookingFault risingFault trackFaultOf trafficFaultOf bookedFaultOf listedFault listFault faultOf
     segmentBetween middle floorOf freeAfter listedFor due weightedDelay bookedRight endsRight keepsBy usesBetween directionBetween directionEntry directionsOf
     firstConflict keepsAfter neitherFirst clash partnerOf pairOn segmentConflict
     standsIn standingAt earliestCrowd inCrowd crowdMask crowdOn stationConflict conflictOf

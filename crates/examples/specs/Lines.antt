@@ -27,7 +27,7 @@ givenTrain o d e l w rs ss =
 
 -- tracks, segments, trains; no bookings and no dues
 abbrev pub givenLine : List ℕ → List Segment → List Train → Line
-givenLine ts gs rs = lineWith (length ts) (padded 12 0 ts) (padded 11 noSegment gs) (length rs) (padded 12 noTrain rs) []
+givenLine ts gs rs = lineWith (length ts) (padded 12 0 ts) (padded 11 noSegment gs) (length rs) (padded 12 noTrain rs) (record { bookings = []; dues = [] })
 
 -- "departure and arrival for each segment in travel order": those of train i from its leg k on, put among the minutes m
 abbrev rowOf : Line → ℕ → ℕ → List ℕ → List ℕ → List ℕ
