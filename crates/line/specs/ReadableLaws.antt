@@ -6,7 +6,7 @@ use mathlib.Core.List.{List, [], _∷_, map, map-id}
 use native.Mathlib.Omega.{arith}
 use borrow.Author.Tests.{le-ltb, lt-ltb, ne-eqb}
 use lib.Dec.{ltb}
-use lib.ListN.{length, take, length-map, length-append}
+use lib.ListN.{length, length-map}
 use lib.Seq.{length-take-le}
 use Rattle.text.specs.declared.Cursor.{Cursor}
 use Rattle.text.specs.declared.Limits.{Limits}
@@ -17,7 +17,6 @@ use Rattle.text.specs.Elements.EachThen.{eachThen}
 use Rattle.text.specs.Elements.PaddedLaws.{take-padded}
 use Rattle.text.specs.Sections.Chained.{EachAfter, nothing, optionalText}
 use Rattle.text.specs.Sections.ChainedLaws.{each-after-map, chained-reads, optional-reads}
-use Rattle.text.specs.Writing.Digits.{digits}
 use Rattle.finite.specs.DecideLaws.{is-true}
 use Rattle.finite.specs.Each.{Each}
 use Rattle.finite.specs.EachLaws.{each-both, each-take}
@@ -32,13 +31,14 @@ use Rattle.line.specs.declared.Line.{Line}
 use Rattle.line.specs.declared.reading.Letter.{Letter}
 use Rattle.line.specs.declared.reading.Head.{Head}
 use Rattle.line.specs.Ranges.{In, stationCount, tracks, gap, trainCount, trainNumber, bookingCount, listCount, newest, station, time, weight, run, stop}
-use Rattle.line.specs.Record.{noSegment, noTrain, noBooking, noListed, Further, legsOf, runsOf, stopsOf, tracksOf, segmentsOf, trainsOf, bookingsOf, duesOf, furtherOf, tidyTrain, tidyLine}
+use Rattle.line.specs.Record.{noSegment, noTrain, noBooking, noListed, Further, legsOf, runsOf, stopsOf, tracksOf, segmentsOf, trainsOf, bookingsOf, furtherOf, tidyTrain, tidyLine}
 use Rattle.line.specs.Bookings.{bookable}
 use Rattle.line.specs.BookingsLaws.{decides-bookable, within-tidy}
 use Rattle.line.specs.FurtherLaws.{further-text}
 use Rattle.line.specs.File.{number, stationLine, letterOf, kindAt, segmentLine, pathAt, headAt, journeyAt, trainLine, Section, usedIn, sectionAt, stationSection, segmentSection, trainSection, bookingLine, risingAt, null, risingSection, listedLine, furtherAt, joins, lineAt, lineFile}
 use Rattle.line.specs.Spell.{field, stationText, letterByte, segmentText, journeyText, headText, trainText, bookingText, listedText, countedText, furtherText, bookedText, unbooked, duesText, textOf}
 use Rattle.line.specs.Within.{SegmentWithin, TrainWithin, BookingWithin, ListedWithin, FurtherWithin, Within, TrainArrays, Arrays}
+use Rattle.line.specs.SpellLaws.{field-some}
 use Rattle.line.specs.RecordLaws.{train-path}
 
 -- ---- a number
@@ -184,9 +184,6 @@ null-is (x ∷ xs) e = absurd (true≢false (sym e))
 some-long : {A : Type 0} (xs : List A) → null xs && true ≡ false → 1 ≤ length xs
 some-long [] e = absurd (true≢false e)
 some-long (x ∷ xs) e = omega arith
-
-field-some : (n b : ℕ) (rest : List ℕ) → field n b rest ≡ [] → ⊥
-field-some n b rest e = let k = ap length e in omega (arith, length-append (digits n) (b ∷ rest))
 
 -- a section of lines in rising order, each of which is read as its value, before the later ones; written, it has no fewer than its count's least
 module _ {A : Type 0} (r : Limits) (none : A) (line : A → List ℕ → Cursor → Parsed A) (P : A → A → Type 0) (text : A → List ℕ → List ℕ) (s : List ℕ)

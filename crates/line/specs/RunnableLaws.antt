@@ -1,5 +1,5 @@
 -- A law of lines whose trains can be run: a line within the limits is one.
-use Prim.Native.Nat.{ℕ, _≤_}
+use Prim.Native.Nat.{ℕ}
 use native.Mathlib.Omega.{arith}
 use Rattle.text.specs.Sections.ChainedLaws.{each-of-after}
 use Rattle.finite.specs.EachLaws.{each-map}

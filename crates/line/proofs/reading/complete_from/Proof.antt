@@ -1,7 +1,7 @@
 -- `line::reading::complete_from` meets its contract: each `return` is the law of where the file ends: in the track, in the trains, in the sections past them, at
 -- bytes after them, or there. The sections are those of the trains that were read (`further-told`). Assumes nothing.
 use Prim.Native.Nat.{ℕ}
-use mathlib.Core.Path.{_≡_, _∙_, refl, sym, ap, subst}
+use mathlib.Core.Path.{_≡_, _∙_, sym, ap, subst}
 use mathlib.Core.List.{List}
 use native.Mathlib.Omega.{arith}
 use Rattle.text.specs.declared.Cursor.{Cursor}

@@ -11,7 +11,7 @@ use Rattle.text.specs.declared.Ending.{Ending}
 use Rattle.text.specs.declared.Limits.{Limits}
 use Rattle.text.specs.Places.Lines.{Counted, AnyNumber}
 use Rattle.text.specs.Places.LinesLaws.{keeps-counted, stands-got}
-use Rattle.text.specs.Reading.Parsed.{Parsed, mapParsed}
+use Rattle.text.specs.Reading.Parsed.{mapParsed}
 use Rattle.text.specs.Reading.Told.{toldEnding}
 use Rattle.line.specs.declared.Train.{Train}
 use Rattle.line.specs.declared.Traffic.{Traffic}
