@@ -1,10 +1,10 @@
 -- Laws of free arrival and weighted delay, of the tests of rules 10 to 13 and 18 (each test decides its rule), and of who stands by rule 15.
 use Prim.Native.Nat.{ℕ, zero, suc, _+_, _*_, _-_, _≤_, _<_, max}
-use mathlib.Core.Path.{_≡_, refl, sym, _∙_, ap}
+use mathlib.Core.Path.{_≡_, refl, ap}
 use mathlib.Core.Logic.{⊎-elim}
 use mathlib.Core.Bool.{Bool, true}
 use mathlib.Core.List.{List}
-use native.Mathlib.Nat.{mul-zero, mul-le-mul, mul-le-mul-left}
+use native.Mathlib.Nat.{mul-le-mul, mul-le-mul-left}
 use native.Mathlib.Numerals.{add-one}
 use native.Mathlib.Omega.{arith}
 use borrow.Author.Tests.{ne-eqb}
@@ -20,7 +20,7 @@ use Rattle.line.specs.declared.Line.{Line}
 use Rattle.line.specs.Record.{legsOf}
 use Rattle.line.specs.Runnable.{Runnable}
 use Rattle.rules.specs.Statement.Paths.{train, runOf, stopOf, legs, tracksAt, EachTrain}
-use Rattle.rules.specs.Statement.Minutes.{departure, arrival, lastArrival}
+use Rattle.rules.specs.Statement.Minutes.{lastArrival}
 use Rattle.rules.specs.StatementLaws.PathsLaws.{routed-runnable, legs-few, train-or-past, run-most, stop-most, decides-middle}
 use Rattle.rules.specs.Statement.Bookings.{floorOf}
 use Rattle.rules.specs.StatementLaws.BookingsLaws.{floors-kept, kept-floors, booked-leg, floor-most}

@@ -1,9 +1,9 @@
 -- `rules::delay::listed_for` meets its contract. The invariant: the entries from j on have for the train what the whole list has. Assumes nothing.
 use Prim.Native.Nat.{_-_, _≤_}
-use mathlib.Core.Path.{_≡_, refl, _∙_, sym}
+use mathlib.Core.Path.{_≡_, refl, _∙_}
 use native.Mathlib.Omega.{arith}
 use borrow.Author.Needs.{needs}
-use lib.ListN.{length, take, drop, length-map}
+use lib.ListN.{length, take, drop}
 use Rattle.rules.specs.Statement.Delay.{listedFor}
 use Rattle.rules.specs.Check.DuesLaws.{found-here, found-later, found-nowhere}
 use Rattle.rules.proofs.delay.listed_for.Statement.{statement}
