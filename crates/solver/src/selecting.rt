@@ -26,6 +26,9 @@ use rules::stations::crowd_on;
 // A bit for every place, and more.
 const EVERYWHERE: u32 = 4294967295;
 
+// The highest score of a conflict of which two ways out cost nothing.
+const AT_NO_COST: u32 = 2;
+
 // Hints of which nothing is promised. What a scan may leave out: it begins at place `start`, and at places without a bit in `look` there was no conflict at
 // the former minutes. How a search goes: it may look ahead (`long`), it has done so for the conflict to settle (`ahead`), and its scores and prices are
 // varied by a row of drawn numbers, unless that is 0; the plan without choices costs `first`.
@@ -83,6 +86,27 @@ fn next_row(row: usize) -> usize {
     drawn(row) + 1
 }
 
+// The lowest train of a conflict.
+fn lowest_train(x: Conflict) -> usize {
+    match x {
+        Conflict::Nothing => 12,
+        Conflict::OnSegment(pair) => pair.lower,
+        Conflict::AtStation(crowd) => next_bit(crowd.trains, 0),
+    }
+}
+
+// Whether a conflict x with this score is settled before the old one: it has the higher score; or two ways out of either cost nothing, and x is of a lower
+// train: where delay does not decide, the departures of the lowest train do.
+fn settled_before(score: u32, x: Conflict, old_score: u32, old: Conflict) -> bool {
+    if score > AT_NO_COST {
+        return score > old_score;
+    }
+    if old_score > AT_NO_COST {
+        return false;
+    }
+    lowest_train(x) < lowest_train(old)
+}
+
 // The higher scored of conflict x and the old one. The marks are as before.
 fn higher_scored(
     m: &[u16; 352],
@@ -99,7 +123,8 @@ fn higher_scored(
 {
     let n = way_count(x);
     let score = way_score(m, marks, t, ds, cost, cut, x, n);
-    if score <= old.score {
+    let held = old.conflict;
+    if !settled_before(score, x, old.score, held) {
         return old;
     }
     Scored { conflict: x, score }
@@ -404,7 +429,8 @@ fn select_at(
         };
     }
     let score = found_score(found.score, hint.row, place);
-    if score <= old.score {
+    let held = old.conflict;
+    if !settled_before(score, conflict, old.score, held) {
         return old;
     }
     Selected {

@@ -11,6 +11,9 @@ way-count-requires c κs = search needs
 way-score-requires : tie.Need-way-score-requires
 way-score-requires c κs = search needs
 
+settled-before-requires : tie.Need-settled-before-requires
+settled-before-requires c κs = search needs
+
 returns : tie.Need-returns
 returns c = record { marks-same = c .before .before .way-score .ensures .marks-same; pick = inl refl }
 
@@ -18,4 +21,4 @@ returns-2 : tie.Need-returns-2
 returns-2 c = record { marks-same = c .before .before .way-score .ensures .marks-same; pick = inr refl }
 
 pub higher-scored-spec : {M : Type 1} → statement M
-higher-scored-spec = tie.close (tie.spec way-count-requires way-score-requires returns returns-2)
+higher-scored-spec = tie.close (tie.spec way-count-requires way-score-requires settled-before-requires returns returns-2)
