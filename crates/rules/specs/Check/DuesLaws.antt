@@ -13,11 +13,15 @@ use Rattle.line.specs.declared.Train.{Train}
 use Rattle.line.specs.declared.Line.{Line}
 use Rattle.line.specs.declared.Listed.{Listed}
 use Rattle.line.specs.Record.{legsOf, noListed, duesOf}
-use Rattle.rules.specs.Statement.Paths.{pastTrain, train}
+use Rattle.line.specs.Runnable.{Runnable}
+use Rattle.rules.specs.Statement.Paths.{pastTrain, train, legs}
 use Rattle.rules.specs.Statement.Minutes.{lastArrival}
-use Rattle.rules.specs.Statement.Delay.{freeArrival, listedFor, due, weightedDelay}
+use Rattle.rules.specs.Statement.Delay.{listedFor, due, weightedDelay}
 use Rattle.rules.specs.StatementLaws.DueLaws.{listed-here, listed-later}
-use Rattle.rules.specs.Check.Dues.{Dues, costBy}
+use Rattle.rules.specs.StatementLaws.PathsLaws.{routed, legs-few}
+use Rattle.rules.specs.Check.Floors.{Floors}
+use Rattle.rules.specs.Check.FloorsLaws.{arrived-line}
+use Rattle.rules.specs.Check.Dues.{Dues, dueFrom, costBy}
 use Rattle.rules.specs.Check.Tests.{arrivalOf}
 use Rattle.rules.specs.Check.RulesLaws.{cost}
 
@@ -36,10 +40,14 @@ module _ (xs : List Listed) (count i given j : ℕ) (room : count ≤ length xs)
   unfolding listedFor
   found-nowhere e = rw (left-none count xs j (length-take-le count xs room) e) refl
 
--- by the whole list of a line, with the free arrival for a train that is not listed
-pub due-is : (l : Line) (i : ℕ) {r f : ℕ} → f ≡ freeArrival l i → r ≡ listedFor (duesOf l) i f → r ≡ due l i
-unfolding due
-due-is l i e h = h ∙ ap (listedFor (duesOf l) i) e
+-- a line's train i, which has a last leg
+module _ (l : Line) (w : Runnable l) (size : length (l .traffic .trains) ≡ 12) (i : ℕ) (n : i < l .traffic .«train_count») where
+  pub last-leg : legs l i - 1 < legs l i
+  last-leg = omega (arith, legs-few (train l i) (routed l i w size n) .0)
+
+  pub due-from : (t : List ℕ) → Floors l t → dueFrom (l .traffic .trains) (l .dues .listed) (l .dues .count) t i ≡ due l i
+  unfolding due
+  due-from t h = ap (listedFor (duesOf l) i) (arrived-line l w t h i n (legs l i - 1) last-leg)
 
 -- ---- weighted delay
 

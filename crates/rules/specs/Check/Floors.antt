@@ -6,7 +6,8 @@ use lib.ListN.{length, getD}
 use Rattle.line.specs.declared.Train.{Train}
 use Rattle.line.specs.declared.Booking.{Booking}
 use Rattle.line.specs.declared.Line.{Line}
-use Rattle.rules.specs.Statement.Paths.{pastTrain, legFrom}
+use Rattle.line.specs.Runnable.{Runnable}
+use Rattle.rules.specs.Statement.Paths.{pastTrain, train, legs, legFrom}
 use Rattle.rules.specs.Statement.Bookings.{floorBy, floorOf}
 
 -- the entry of train i and leg k
@@ -29,6 +30,19 @@ FloorsBy trains bookings n t = HasFloors (floorBy trains bookings n) t
 unfoldable pub arrivedAfter : ℕ → List ℕ → List ℕ → List ℕ → ℕ → ℕ → ℕ
 arrivedAfter a runs stops t i zero = a
 arrivedAfter a runs stops t i (suc j) = max (arrivedAfter a runs stops t i j + getD stops j 0) (floorIn t i (suc j)) + getD runs (suc j) 0
+
+-- of this train, where it begins at its earliest
+abbrev pub arrivedBy : Train → List ℕ → ℕ → ℕ → ℕ
+arrivedBy x t i k = arrivedAfter (x .earliest + getD (x .runs) 0 0) (x .runs) (x .stops) t i k
+
+-- x is train i of some line that can be run, t has the line's floors, and the train has a leg k
+pub record RunsAlone (x : Train) (t : List ℕ) (i k : ℕ) : Type 0 where
+  pub line : Line
+  pub runnable : Runnable line
+  pub floors : Floors line t
+  pub number : i < line .traffic .«train_count»
+  pub is : train line i ≡ x
+  pub leg : k < legs line i
 
 -- a booking is one of these trains, at a station that it can leave on one of 11 legs
 pub record HasEntry (trains : List Train) (b : Booking) : Type 0 where

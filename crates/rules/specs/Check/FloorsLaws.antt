@@ -1,5 +1,5 @@
 -- Laws of the list of floors: a booking raises the entry of its own leg alone, and each booking of a line has its entry; by the list, rule 18 and the free
--- arrivals are those of the line.
+-- arrivals are those of the line, also where a train comes by itself.
 use Prim.Native.Nat.{ℕ, zero, suc, _+_, _*_, _-_, _≤_, _<_, max}
 use mathlib.Core.Path.{_≡_, refl, sym, ap, _∙_}
 use mathlib.Core.List.{List}
@@ -23,9 +23,9 @@ use Rattle.rules.specs.Statement.Bookings.{bookedMinute, floorOf}
 use Rattle.rules.specs.StatementLaws.PathsLaws.{legs-most}
 use Rattle.rules.specs.StatementLaws.BookingsLaws.{decides-for, booked-leg}
 use Rattle.rules.specs.Statement.Delay.{freeAfter}
-use Rattle.rules.specs.Check.Floors.{floorIn, Floors, FloorsBy, arrivedAfter, HasEntry}
+use Rattle.rules.specs.Check.Floors.{floorIn, Floors, FloorsBy, arrivedAfter, arrivedBy, RunsAlone, HasEntry}
 use Rattle.rules.specs.Check.Tests.{departureOf, bookedRight}
-use Rattle.rules.specs.Check.RulesLaws.{free-next}
+use Rattle.rules.specs.Check.RulesLaws.{free-start, free-next, free-most}
 
 module _ (trains : List Train) (bookings : List Booking) where
   pub floors-none : FloorsBy trains bookings 0 (replicate 176 0)
@@ -112,3 +112,28 @@ has-entry l w trains bookings j b =
     let own : booking l j .train ≡ i + 1 = omega (arith, v .train .0) in
     let used : i < l .traffic .«train_count» = omega (arith, v .train, many, own) in
     record { train = (v .train .0, omega (arith, own, used, w .trains .1)); leg = omega (arith, booked-leg l w i j b own, legs-most l i w used) }
+
+-- train i of some line, alone on it: worked out from the train by itself it is the free arrival, and there is room for it
+module _ (x : Train) (t : List ℕ) (i k : ℕ) (h : RunsAlone x t i k) where
+  pub alone-train : i < 12
+  alone-train = omega (arith, h .number, h .runnable .trains .1)
+
+  pub alone-leg : k < 11
+  alone-leg = omega (arith, h .leg, legs-most (h .line) i (h .runnable) (h .number))
+
+  pub arrived-alone : (j : ℕ) → j ≤ k → arrivedBy x t i j ≡ freeAfter (h .line) i j
+  arrived-alone j b =
+      ap (λ (y : Train). arrivedBy y t i j) (sym (h .is))
+      ∙ arrived-free (h .line) t (h .floors) _ i alone-train (sym (free-start (h .line) i)) j (omega (arith, alone-leg))
+
+  pub arrived-most : (j : ℕ) → j ≤ k → arrivedBy x t i j ≤ 12000
+  arrived-most j b =
+      omega (arith, arrived-alone j b, free-most (h .line) i (h .runnable) (h .number) j (omega (arith, h .leg)), alone-leg)
+
+-- a line's train i
+module _ (l : Line) (w : Runnable l) (t : List ℕ) (h : Floors l t) (i : ℕ) (n : i < l .traffic .«train_count») (k : ℕ) (b : k < legs l i) where
+  abbrev pub runs-alone : RunsAlone (train l i) t i k
+  runs-alone = record { line = l; runnable = w; floors = h; number = n; is = refl; leg = b }
+
+  pub arrived-line : arrivedBy (train l i) t i k ≡ freeAfter l i k
+  arrived-line = arrived-alone (train l i) t i k runs-alone k (omega arith)

@@ -1,25 +1,25 @@
--- `rules::delay::listed_for` meets its contract. The invariant: the entries from j on have for the train what the whole list has. Assumes nothing.
-use Prim.Native.Nat.{_-_, _≤_}
+-- `rules::delay::place_in` meets its contract. The invariant: the entries from j on have for the train what the whole list has. Assumes nothing.
+use Prim.Native.Nat.{ℕ, _-_, _≤_}
 use mathlib.Core.Path.{_≡_, refl, _∙_}
 use native.Mathlib.Omega.{arith}
 use borrow.Author.Needs.{needs}
 use lib.ListN.{length, take, drop}
 use Rattle.rules.specs.Statement.Delay.{listedFor}
 use Rattle.rules.specs.Check.DuesLaws.{found-here, found-later, found-nowhere}
-use Rattle.rules.proofs.delay.listed_for.Statement.{statement}
-use Rattle.rules.proofs.delay.listed_for.Tie as tie
+use Rattle.rules.proofs.delay.place_in.Statement.{statement}
+use Rattle.rules.proofs.delay.place_in.Tie as tie
 
 abbrev Inv-loop : tie.InvT-loop
-Inv-loop count i given listed j₀ j = (j ≤ count) × (listedFor (drop j (take count listed)) i given ≡ listedFor (take count listed) i given)
+Inv-loop count i listed j₀ j = (j ≤ count) × ((given : ℕ) → listedFor (drop j (take count listed)) i given ≡ listedFor (take count listed) i given)
 
 abbrev μ-loop : tie.MeasureT-loop
-μ-loop count i given listed j₀ j = count - j
+μ-loop count i listed j₀ j = count - j
 
 room : (c : tie.Start Inv-loop μ-loop) → c .args .count ≤ length (c .args .t1)
 room c = search needs
 
 loop-holds : tie.Need-loop-holds Inv-loop μ-loop
-loop-holds c = (omega arith, refl)
+loop-holds c = (omega arith, λ given. refl)
 
 mul-entry : tie.Need-mul-entry Inv-loop μ-loop
 mul-entry c = search needs
@@ -37,7 +37,11 @@ returns : tie.Need-returns Inv-loop μ-loop
 returns c =
     let w = c .before .before .before .before in
     let a = w .before in
-    found-here (a .args .t1) _ (a .args .i) _ _ (room a) (c .before .before .before .loop-test .taken) (c .if1 .taken) ∙ w .loop .inv .1
+    let in-list = c .before .before .before .loop-test .taken in
+    record {
+      here = λ _ given. found-here (a .args .t1) _ (a .args .i) given _ (room a) in-list (c .if1 .taken) ∙ w .loop .inv .1 given;
+      nowhere = λ past given. absurd (omega (arith, past, in-list));
+    }
 
 add-j : tie.Need-add-j Inv-loop μ-loop
 add-j c = search needs
@@ -48,18 +52,24 @@ loop-less c = search needs
 loop-again : tie.Need-loop-again Inv-loop μ-loop
 loop-again c =
     let w = c .before .before .before .before in
-    let a = w .before in (
-      omega (arith, c .before .before .before .loop-test .taken),
-      found-later (a .args .t1) _ (a .args .i) _ _ (room a) (c .before .before .before .loop-test .taken) (c .if1 .left) ∙ w .loop .inv .1,
+    let a = w .before in
+    let in-list = c .before .before .before .loop-test .taken in (
+      omega (arith, in-list),
+      λ given. found-later (a .args .t1) _ (a .args .i) given _ (room a) in-list (c .if1 .left) ∙ w .loop .inv .1 given,
     )
 
 returns-2 : tie.Need-returns-2 Inv-loop μ-loop
 returns-2 c =
-    let a = c .before .before in
-    found-nowhere (a .args .t1) (a .args .count) (a .args .i) _ (c .before .loop .j) (room a) (omega (arith, c .before .loop .inv .0, c .loop-test .left)) ∙ c .before .loop .inv .1
+    let w = c .before in
+    let a = w .before in
+    record {
+      here = λ h given. absurd (omega (arith, h));
+      nowhere = λ _ given.
+          found-nowhere (a .args .t1) (a .args .count) (a .args .i) given (w .loop .j) (room a) (omega (arith, w .loop .inv .0, c .loop-test .left)) ∙ w .loop .inv .1 given;
+    }
 
-pub listed-for-spec : {M : Type 1} → statement M
-listed-for-spec =
+pub place-in-spec : {M : Type 1} → statement M
+place-in-spec =
     tie.close
     (tie.spec
     Inv-loop
