@@ -95,9 +95,19 @@ fn lowest_train(x: Conflict) -> usize {
     }
 }
 
-// Whether a conflict x with this score is settled before the old one: it has the higher score; or two ways out of either cost nothing, and x is of a lower
-// train: where delay does not decide, the departures of the lowest train do.
-fn settled_before(score: u32, x: Conflict, old_score: u32, old: Conflict) -> bool {
+// Whether a conflict x with this score is settled before the old one: it has the higher score; or the plan costs what the best so far does, two ways out of
+// either cost nothing, and x is of a lower train: where delay does not decide, the departures of the lowest train do.
+fn settled_before(
+    cost: u32,
+    cut: u32,
+    score: u32,
+    x: Conflict,
+    old_score: u32,
+    old: Conflict,
+) -> bool {
+    if cost < cut {
+        return score > old_score;
+    }
     if score > AT_NO_COST {
         return score > old_score;
     }
@@ -124,7 +134,7 @@ fn higher_scored(
     let n = way_count(x);
     let score = way_score(m, marks, t, ds, cost, cut, x, n);
     let held = old.conflict;
-    if !settled_before(score, x, old.score, held) {
+    if !settled_before(cost, cut, score, x, old.score, held) {
         return old;
     }
     Scored { conflict: x, score }
@@ -430,7 +440,7 @@ fn select_at(
     }
     let score = found_score(found.score, hint.row, place);
     let held = old.conflict;
-    if !settled_before(score, conflict, old.score, held) {
+    if !settled_before(cost, cut, score, conflict, old.score, held) {
         return old;
     }
     Selected {
