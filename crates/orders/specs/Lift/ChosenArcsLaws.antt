@@ -5,6 +5,7 @@ use mathlib.Core.Path.{_≡_, refl, sym, _∙_, ap, ap₂, subst⁻¹}
 use mathlib.Core.Logic.{_⊎_, inl, inr, ⊎-elim}
 use mathlib.Core.Bool.{true}
 use mathlib.Core.List.{List}
+use native.Mathlib.Decide.{ℕ-discrete}
 use native.Mathlib.Omega.{arith}
 use lib.ListN.{length, getD}
 use Rattle.orders.specs.Plan.Bits.{inMask}
@@ -12,7 +13,7 @@ use Rattle.orders.specs.LeastMinutes.NoLater.{_⊑_}
 use Rattle.orders.specs.Raise.Raising.{Graph, Kept, KeepsAll, Nothing, Solves, Reach, NoneFor}
 use Rattle.orders.specs.Raise.RaisingLaws.{le-or-lt, done, first-below}
 use Rattle.orders.specs.Graph.LegGraph.{LegArc, runs, slow, next, depart, arrive, after, gone, stationOf, leaving, comesOn, UsedArc, legGraph}
-use Rattle.orders.specs.Lift.Lifting.{Alive, Asks, Lifted, Choosing, Comes, NoneChosen, Chose}
+use Rattle.orders.specs.Lift.Lifting.{Alive, Asks, Lifted, Choosing, Comes, NoneChosen, Forces, Chose}
 use Rattle.orders.specs.Lift.ServingLaws.{Serves, serves-asks, serves-there, serves-lifted, serves-arrival}
 
 module _ (marks t ds : List ℕ) where
@@ -23,7 +24,7 @@ module _ (marks t ds : List ℕ) where
   pub record Forced (m n : List ℕ) : Type 0 where
     pub size : length n ≡ length m
     pub above : m ⊑ n
-    pub first : (y : List ℕ) → KeepsAll G y → m ⊑ y → n ⊑ y
+    pub first : Forces marks t ds m n
 
   -- no arc is left
   pub chose-all : (m : List ℕ) (e cost cut : ℕ) → Choosing (Nothing G) m marks t ds e cost cut → Chose marks t ds cut m m cost
@@ -39,6 +40,7 @@ module _ (marks t ds : List ℕ) where
           settled = record { cost-is = p .ready .cost-is; cost-in = p .ready .cost-in; limits = p .ready .limits };
         };
         dead = λ q. absurd (omega (arith, p .ready .cost-in, p .ready .cut-in));
+        forces = λ y k up. up;
       }
 
   -- what is chosen from minutes that every solution has is chosen from before
@@ -55,10 +57,11 @@ module _ (marks t ds : List ℕ) where
           settled = c .alive z .settled;
         };
         dead = λ z y i k b. c .dead z y i k (f .first y k b);
+        forces = λ y k b. c .forces y k (f .first y k b);
       }
 
-  pub chose-dead : (m n : List ℕ) (cut : ℕ) → NoneChosen marks t ds cut m → Chose marks t ds cut m n 4294967295
-  chose-dead m n cut h = record { alive = λ z. absurd (z refl); dead = λ _. h }
+  pub chose-dead : (m n : List ℕ) (cut : ℕ) → NoneChosen marks t ds cut m → Forces marks t ds m n → Chose marks t ds cut m n 4294967295
+  chose-dead m n cut h f = record { alive = λ z. absurd (z refl); dead = λ _. h; forces = f }
 
   -- ---- one arc b of the choice; the others are left
 
@@ -95,16 +98,19 @@ module _ (marks t ds : List ℕ) where
 
       pub arc-dead : r ≡ 4294967295 → NoneChosen marks t ds cut m
       unfolding NoneChosen NoneFor
-      arc-dead z y i k up = l .none z y (solves y k up) (asks y k up) i
+      arc-dead z y i k up = l .none z y (solves y k up) (asks y k up) .1 i
+
+      -- whatever the answer
+      pub arc-forces : Forces marks t ds m n
+      unfolding NoneFor
+      arc-forces y k up = elim (ℕ-discrete r 4294967295) [
+        | yes z ↦ l .none z y (solves y k up) (asks y k up) .0
+        | no z ↦ first-below G src m n y (solves y k up) (l .raised z .first y (solves y k up) (asks y k up))
+      ]
 
       module _ (z : Alive r) where
         pub arc-forced : Forced m n
-        arc-forced =
-            record {
-              size = l .raised z .grown .size;
-              above = l .raised z .grown .up;
-              first = λ y k up. first-below G src m n y (solves y k up) (l .raised z .first y (solves y k up) (asks y k up));
-            }
+        arc-forced = record { size = l .raised z .grown .size; above = l .raised z .grown .up; first = arc-forces }
 
         -- what is left starts where it did
         pub arc-next : Choosing (λ a. Left a × (getD n (G .from a) 0 ≡ getD m (G .from a) 0)) n marks t ds e r cut
@@ -150,6 +156,7 @@ module _ (marks t ds : List ℕ) where
           alive = λ z. chose-then m n n cut r (arc-forced Chosen (Nothing G) b part m e cost cut p f v w h src q (λ a u k. absurd k) n r l z)
               (chose-all n e r cut (none-left z)) .alive z;
           dead = arc-dead Chosen (Nothing G) b part m e cost cut p f v w h src q (λ a u k. absurd k) n r l;
+          forces = arc-forces Chosen (Nothing G) b part m e cost cut p f v w h src q (λ a u k. absurd k) n r l;
         }
       where
         none-left : Alive r → Choosing (Nothing G) n marks t ds e r cut

@@ -47,7 +47,7 @@ pub record Lifted (marks t ds : List ℕ) (src cut e v w : ℕ) (m n : List ℕ)
   pub there : Alive r → (v ≤ getD n e 0) × (w ≤ getD n (176 + e) 0)
   pub settled : Alive r → Settled t ds cut n r
   pub legs : Alive r → LegsKept marks t ds n
-  pub none : r ≡ 4294967295 → NoneFor (legGraph marks t ds) (InLimits t ds) (costIn t) cut src (Asks src e v w m) m
+  pub none : r ≡ 4294967295 → NoneFor (legGraph marks t ds) (InLimits t ds) (costIn t) cut src (Asks src e v w m) m n
 
 -- the arc to the next leg of the train of leg e
 abbrev pub ToNext : ℕ → LegArc → Type 0
@@ -84,7 +84,7 @@ pub record Followed (Due : LegArc → Type 0) (marks t ds : List ℕ) (src cut :
   pub raised : Alive r → Raised (legGraph marks t ds) src (Clear (legGraph marks t ds) src Due m) Due (Nothing (legGraph marks t ds)) m n
   pub settled : Alive r → Settled t ds cut n r
   pub legs : Alive r → LegsKept marks t ds n
-  pub none : r ≡ 4294967295 → NoneFor (legGraph marks t ds) (InLimits t ds) (costIn t) cut src (Clear (legGraph marks t ds) src Due m) m
+  pub none : r ≡ 4294967295 → NoneFor (legGraph marks t ds) (InLimits t ds) (costIn t) cut src (Clear (legGraph marks t ds) src Due m) m n
 
 -- ---- raising under way
 
@@ -98,9 +98,9 @@ pub record Going (marks t ds : List ℕ) (src cut : ℕ) (H : List ℕ → Type 
 abbrev pub GoingFor : List ℕ → List ℕ → List ℕ → ℕ → ℕ → (LegArc → Type 0) → (LegArc → Type 0) → List ℕ → List ℕ → ℕ → Type 0
 GoingFor marks t ds src cut D T m n r = Going marks t ds src cut (Clear (legGraph marks t ds) src D m) D T m n r
 
--- no solution from m
-abbrev pub NoWay : List ℕ → List ℕ → List ℕ → ℕ → ℕ → (List ℕ → Type 0) → List ℕ → Type 0
-NoWay marks t ds src cut H m = NoneFor (legGraph marks t ds) (InLimits t ds) (costIn t) cut src H m
+-- no solution from m, as was found when the minutes had risen to n
+abbrev pub NoWay : List ℕ → List ℕ → List ℕ → ℕ → ℕ → (List ℕ → Type 0) → List ℕ → List ℕ → Type 0
+NoWay marks t ds src cut H m n = NoneFor (legGraph marks t ds) (InLimits t ds) (costIn t) cut src H m n
 
 -- after the stores: leg e is where it was asked to be, and T is to do, none of which has to be left for later
 pub record Stepped (marks t ds : List ℕ) (T : LegArc → Type 0) (src cut e v w : ℕ) (m n : List ℕ) (c : ℕ) : Type 0 where
@@ -150,6 +150,12 @@ unfoldable pub NoneChosen : List ℕ → List ℕ → List ℕ → ℕ → List 
 NoneChosen marks t ds cut m =
     (y : List ℕ) → WithinDays y → KeepsAll (legGraph marks t ds) y → m ⊑ y → InLimits t ds y → costIn t y ≤ cut → ⊥
 
+-- whatever keeps all arcs and is at or above m is at or above n
+abbrev pub Forces : List ℕ → List ℕ → List ℕ → List ℕ → List ℕ → Type 0
+Forces marks t ds m n = (y : List ℕ) → KeepsAll (legGraph marks t ds) y → m ⊑ y → n ⊑ y
+
+-- the answer r, with the minutes raised from m to n; these are forced whatever the answer is, so also those that a dead one leaves
 pub record Chose (marks t ds : List ℕ) (cut : ℕ) (m n : List ℕ) (r : ℕ) : Type 0 where
   pub alive : Alive r → LeastChosen marks t ds cut m n r
   pub dead : r ≡ 4294967295 → NoneChosen marks t ds cut m
+  pub forces : Forces marks t ds m n

@@ -29,7 +29,7 @@ module _ (marks t ds : List ℕ) where
 
   -- ---- an answer that is dead
 
-  pub lifted-dead : (src cut e v w : ℕ) (m n : List ℕ) → NoWay marks t ds src cut (Asks src e v w m) m → Lifted marks t ds src cut e v w m n 4294967295
+  pub lifted-dead : (src cut e v w : ℕ) (m n : List ℕ) → NoWay marks t ds src cut (Asks src e v w m) m n → Lifted marks t ds src cut e v w m n 4294967295
   lifted-dead src cut e v w m n h =
       record {
         raised = λ q. absurd (q refl);
@@ -39,7 +39,7 @@ module _ (marks t ds : List ℕ) where
         none = λ _. h;
       }
 
-  pub followed-dead : (D : LegArc → Type 0) (src cut : ℕ) (m n : List ℕ) → NoWay marks t ds src cut (Clear (legGraph marks t ds) src D m) m →
+  pub followed-dead : (D : LegArc → Type 0) (src cut : ℕ) (m n : List ℕ) → NoWay marks t ds src cut (Clear (legGraph marks t ds) src D m) m n →
       Followed D marks t ds src cut m n 4294967295
   followed-dead D src cut m n h =
       record { raised = λ q. absurd (q refl); settled = λ q. absurd (q refl); legs = λ q. absurd (q refl); none = λ _. h }
@@ -93,8 +93,8 @@ module _ (marks t ds : List ℕ) where
             legs = f .legs a;
           }
 
-      pub going-dead : r ≡ 4294967295 → NoWay marks t ds src cut H m
-      going-dead q = none-then (legGraph marks t ds) src H D T m n (g .raised) (InLimits t ds) (costIn t) cut _ (f .none q) clear
+      pub going-dead : r ≡ 4294967295 → NoWay marks t ds src cut H m n′
+      going-dead q = none-then (legGraph marks t ds) src H D T m n (g .raised) (InLimits t ds) (costIn t) cut _ n′ (f .none q) clear
 
   -- of what was due nothing has to be left for later from here on
   pub going-clear : (src cut : ℕ) (D T : LegArc → Type 0) (m n : List ℕ) (c : ℕ) →
@@ -157,8 +157,8 @@ module _ (marks t ds : List ℕ) where
             less = omega (arith, g .less, h .less);
           }
 
-      pub stepped-none : NoWay marks t ds src cut (Asks src x p q n) n → NoWay marks t ds src cut (Asks src e v w m) m
-      stepped-none h = none-then (legGraph marks t ds) src _ _ T m n (g .going .raised) (InLimits t ds) (costIn t) cut _ h
+      pub stepped-none : (n′ : List ℕ) → NoWay marks t ds src cut (Asks src x p q n) n n′ → NoWay marks t ds src cut (Asks src e v w m) m n′
+      stepped-none n′ h = none-then (legGraph marks t ds) src _ _ T m n (g .going .raised) (InLimits t ds) (costIn t) cut _ n′ h
           (λ y s k. asks y (on y s k))
 
     -- a call follows that does all of it, or finds no way

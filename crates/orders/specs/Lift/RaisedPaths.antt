@@ -18,7 +18,7 @@ Outward e a = ToNext e a ⊎ Aside e a
 -- leg e is later and what leaves it is to do; or there are no such minutes
 pub record LegRaised (marks t ds : List ℕ) (src cut e v w : ℕ) (m n : List ℕ) (r : ℕ) : Type 0 where
   pub stepped : Alive r → Stepped marks t ds (Outward e) src cut e v w m n r
-  pub none : r ≡ 4294967295 → NoWay marks t ds src cut (Asks src e v w m) m
+  pub none : r ≡ 4294967295 → NoWay marks t ds src cut (Asks src e v w m) m n
 
 -- what leaves the n legs of a path from e on to other trains
 unfoldable pub AsideOf : List ℕ → ℕ → ℕ → LegArc → Type 0
@@ -28,4 +28,4 @@ AsideOf t (suc n) e a = Aside e a ⊎ AsideOf t n (nextIn t e) a
 -- so many legs from e on are later, the path's own arcs are kept, and what leaves these legs to other trains is to do; or there are no such minutes
 pub record PathRaised (marks t ds : List ℕ) (src cut e v w : ℕ) (m n : List ℕ) (r : Path) : Type 0 where
   pub stepped : Alive (r .cost) → Stepped marks t ds (AsideOf t (r .legs) e) src cut e v w m n (r .cost)
-  pub none : r .cost ≡ 4294967295 → NoWay marks t ds src cut (Asks src e v w m) m
+  pub none : r .cost ≡ 4294967295 → NoWay marks t ds src cut (Asks src e v w m) m n

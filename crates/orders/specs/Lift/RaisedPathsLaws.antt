@@ -73,7 +73,7 @@ pub record AlongPath (marks t ds : List ℕ) (src cut e v w : ℕ) (m n : List �
   pub count : Alive c → legs + slack n ≤ slack m
   pub leg : UsedLeg ds f
   pub next-is : nextIn t f ≡ legAfter t legs e
-  pub none : c ≡ 4294967295 → NoWay marks t ds src cut (Asks src e v w m) m
+  pub none : c ≡ 4294967295 → NoWay marks t ds src cut (Asks src e v w m) m n
 
 module _ (marks t ds : List ℕ) (src cut e v w : ℕ) (m n : List ℕ) (c : ℕ) where
   pub path-start : UsedLeg ds e → LegRaised marks t ds src cut e v w m n c → AlongPath marks t ds src cut e v w m n c e 1
@@ -126,7 +126,7 @@ module _ (marks t ds : List ℕ) (src cut e v w : ℕ) (m n : List ℕ) (c : ℕ
                 count = λ z. omega (arith, l .stepped z .less, p .count alive);
                 leg = onward-leg marks t ds f g (p .leg) g-is s;
                 next-is = rw add-one (ap (λ (x : ℕ). nextIn t x) place ∙ next-after t legs e);
-                none = λ q. stepped-none marks t ds _ src cut e v w m n c (p .stepped alive) g ready 0 asks (l .none q);
+                none = λ q. stepped-none marks t ds _ src cut e v w m n c (p .stepped alive) g ready 0 asks n′ (l .none q);
               }
             where
               place : g ≡ legAfter t legs e

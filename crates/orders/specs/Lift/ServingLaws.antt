@@ -91,8 +91,8 @@ module _ (marks t ds : List ℕ) where
         asks : (y : List ℕ) → Solves G src m y → H y → Asks src f v w n y
         asks y s k = serves-asks src y (solves-on G src H D T m n (g .raised) y s k) (clear y s k)
 
-        pub serves-dead : r ≡ 4294967295 → NoWay marks t ds src cut H m
-        serves-dead q = none-then G src H D T m n (g .raised) (InLimits t ds) (costIn t) cut (Asks src f v w n) (l .none q) asks
+        pub serves-dead : r ≡ 4294967295 → NoWay marks t ds src cut H m n′
+        serves-dead q = none-then G src H D T m n (g .raised) (InLimits t ds) (costIn t) cut (Asks src f v w n) n′ (l .none q) asks
 
         pub serves-raised : (T′ : LegArc → Type 0) → ((a : LegArc) → UsedArc marks t ds a → T a → Here a ⊎ T′ a) → Alive r →
             Going marks t ds src cut H D T′ m n′ r

@@ -44,9 +44,9 @@ module _ (marks t ds : List ℕ) (src cut : ℕ) (D : LegArc → Type 0) (m n : 
           going-then marks t ds src cut _ D _ m n c g (After f) n′ r h clear-after (RestAside t left f)
           (λ a u d. aside-first t left (left - 1) f a (omega arith) d)
 
-      pub spread-after-dead : (n″ : List ℕ) → r ≡ 4294967295 → Followed D marks t ds src cut m n″ 4294967295
-      spread-after-dead n″ q =
-          followed-dead marks t ds D src cut m n″ (going-dead marks t ds src cut _ D _ m n c g (After f) n′ r h clear-after q)
+      pub spread-after-dead : r ≡ 4294967295 → Followed D marks t ds src cut m n′ 4294967295
+      spread-after-dead q =
+          followed-dead marks t ds D src cut m n′ (going-dead marks t ds src cut _ D _ m n c g (After f) n′ r h clear-after q)
 
     -- no leg is left
     pub spread-end : left ≤ 0 → cut < 4294967295 → Followed D marks t ds src cut m n c
@@ -72,5 +72,5 @@ module _ (marks t ds : List ℕ) (src cut : ℕ) (D : LegArc → Type 0) (m n : 
           λ a d. part a (first-aside t left (left - 1) f a (omega arith) (inr (inr d))),
         )
 
-    pub spread-gone-dead : (n″ : List ℕ) → r ≡ 4294967295 → Followed D marks t ds src cut m n″ 4294967295
-    spread-gone-dead n″ q = followed-dead marks t ds D src cut m n″ (going-dead marks t ds src cut _ D _ m n c g (Gone f) n′ r h clear-gone q)
+    pub spread-gone-dead : r ≡ 4294967295 → Followed D marks t ds src cut m n′ 4294967295
+    spread-gone-dead q = followed-dead marks t ds D src cut m n′ (going-dead marks t ds src cut _ D _ m n c g (Gone f) n′ r h clear-gone q)

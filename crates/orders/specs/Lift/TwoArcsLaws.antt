@@ -11,9 +11,9 @@ use Rattle.orders.specs.Plan.Bits.{inMask}
 use Rattle.orders.specs.Raise.Raising.{Graph, Kept}
 use Rattle.orders.specs.Graph.LegGraph.{LegArc, runs, slow, next, depart, arrive, after, gone, beside, doubled, gapIn, UsedLeg, UsedArc, legGraph}
 use Rattle.orders.specs.Raise.LegTimes.{GoesBehind, sourceOf}
-use Rattle.orders.specs.Lift.Lifting.{Alive, Lifted, Choosing, Follows, NoneChosen, Chose}
+use Rattle.orders.specs.Lift.Lifting.{Alive, Lifted, Choosing, Follows, Chose}
 use Rattle.orders.specs.Lift.ServingLaws.{Calls, Serves, serves-departure, serves-arrival, at-pair}
-use Rattle.orders.specs.Lift.ChosenArcsLaws.{Forced, chose-all, chose-then, arc-still, arc-dead, arc-forced, arc-next, one-lifted}
+use Rattle.orders.specs.Lift.ChosenArcsLaws.{Forced, chose-all, chose-then, chose-dead, arc-still, arc-dead, arc-forces, arc-forced, arc-next, one-lifted}
 
 module _ (marks t ds : List ℕ) where
   abbrev G : Graph
@@ -106,9 +106,13 @@ module _ (marks t ds : List ℕ) where
           }
 
       module _ (n : List ℕ) (r : ℕ) (l : Lifted marks t ds src cut f v 0 m n r) where
-        pub departure-dead : r ≡ 4294967295 → NoneChosen marks t ds cut m
-        departure-dead =
-            arc-dead marks t ds (Follows e j) (λ a. a ≡ arrive e j) (first .arc) (first .part) m e cost cut p f v 0 serves src (first .starts) (first .later) n r l
+        pub departure-dead : r ≡ 4294967295 → Chose marks t ds cut m n 4294967295
+        departure-dead z =
+            chose-dead marks t ds m n cut
+            (arc-dead marks t ds (Follows e j) (λ a. a ≡ arrive e j) (first .arc) (first .part) m e cost cut p f v 0 serves src (first .starts)
+            (first .later) n r l z)
+            (arc-forces marks t ds (Follows e j) (λ a. a ≡ arrive e j) (first .arc) (first .part) m e cost cut p f v 0 serves src (first .starts)
+            (first .later) n r l)
 
         pub departure-lifted : Alive r → Halfway e j cut m n r
         departure-lifted z =

@@ -59,6 +59,7 @@ pub record Raised (G : Graph) (src : ℕ) (H : List ℕ → Type 0) (Due Todo : 
   pub source : getD n src 0 ≡ getD m src 0
   pub first : (y : List ℕ) → Solves G src m y → H y → AllReached src m n y
 
--- and of one that is dead: no solution in time costs no more than the cut; `InTime` and `cost` are those of the tables
-unfoldable pub NoneFor : (G : Graph) → (List ℕ → Type 0) → (List ℕ → ℕ) → ℕ → ℕ → (List ℕ → Type 0) → List ℕ → Type 0
-NoneFor G InTime cost cut src H m = (y : List ℕ) → Solves G src m y → H y → WithinDays y → InTime y → cost y ≤ cut → ⊥
+-- and of one that is dead and leaves the minutes n: every solution is at or above them, and none in time costs no more than the cut; `InTime` and `cost` are
+-- those of the tables
+unfoldable pub NoneFor : (G : Graph) → (List ℕ → Type 0) → (List ℕ → ℕ) → ℕ → ℕ → (List ℕ → Type 0) → List ℕ → List ℕ → Type 0
+NoneFor G InTime cost cut src H m n = (y : List ℕ) → Solves G src m y → H y → (n ⊑ y) × (WithinDays y → InTime y → cost y ≤ cut → ⊥)

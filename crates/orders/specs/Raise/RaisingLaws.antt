@@ -132,7 +132,7 @@ module _ (G : Graph) (src : ℕ) (H : List ℕ → Type 0) (D T : G .Arc → Typ
       }
 
   pub none-then :
-      (InTime : List ℕ → Type 0) (cost : List ℕ → ℕ) (cut : ℕ) (H′ : List ℕ → Type 0) →
-      NoneFor G InTime cost cut src H′ n → ((y : List ℕ) → Solves G src m y → H y → H′ y) → NoneFor G InTime cost cut src H m
+      (InTime : List ℕ → Type 0) (cost : List ℕ → ℕ) (cut : ℕ) (H′ : List ℕ → Type 0) (n′ : List ℕ) →
+      NoneFor G InTime cost cut src H′ n n′ → ((y : List ℕ) → Solves G src m y → H y → H′ y) → NoneFor G InTime cost cut src H m n′
   unfolding NoneFor
-  none-then InTime cost cut H′ q f y s h w = q y (solves-on y s h) (f y s h) w
+  none-then InTime cost cut H′ n′ q f y s h = q y (solves-on y s h) (f y s h)

@@ -16,7 +16,7 @@ use Rattle.orders.specs.Raise.Raising.{Graph, Kept, KeepsAll, Solves, Cl
 use Rattle.orders.specs.Raise.RaisingLaws.{first-below}
 use Rattle.orders.specs.Graph.LegGraph.{LegArc, runs, slow, next, depart, arrive, after, gone, UsedArc, legGraph, InLimits}
 use Rattle.orders.specs.Raise.LegTimes.{Departs, Arrives, SourceRises, moreCost}
-use Rattle.orders.specs.Lift.Lifting.{LegsKept, Ready, Asks, NoWay, Stepped}
+use Rattle.orders.specs.Lift.Lifting.{LegsKept, Ready, Asks, Stepped}
 use Rattle.orders.specs.Lift.RaisedPaths.{Outward, LegRaised}
 
 module _ (marks t ds : List ℕ) where
@@ -95,23 +95,24 @@ module _ (marks t ds : List ℕ) where
 
     -- ---- no way: past the limit, back at the source, past the cut
 
-    no-way : (n : List ℕ) → NoWay marks t ds src cut (Asks src e v w m) m → LegRaised marks t ds src cut e v w m n 4294967295
-    no-way n h = record { stepped = λ q. absurd (q refl); none = λ _. h }
-
-    pub store-late : (n : List ℕ) (limit : ℕ) → limit ≡ limitIn t e → limit < a → LegRaised marks t ds src cut e v w m n 4294967295
+    -- nothing is stored then: the minutes are those that every solution is at or above
+    no-way : ((y : List ℕ) → Solves G src m y → Asks src e v w m y → WithinDays y → InLimits t ds y → costIn t y ≤ cut → ⊥) →
+        LegRaised marks t ds src cut e v w m m 4294967295
     unfolding NoneFor
-    store-late n limit q l =
-        no-way n
+    no-way h = record { stepped = λ q. absurd (q refl); none = λ _ y s k. (s .above, h y s k) }
+
+    pub store-late : (limit : ℕ) → limit ≡ limitIn t e → limit < a → LegRaised marks t ds src cut e v w m m 4294967295
+    store-late limit q l =
+        no-way
         (λ y s h within limits cheap. ⊎-elim
         (λ z. omega (arith, r .limits e (r .leg)))
         (λ z. omega (arith, s .above src, limits e (r .leg)))
         (reach-arr y s h))
 
-    pub store-back : (n : List ℕ) (b : Bool) → SourceRises src e (getD m e 0) d (getD m (176 + e) 0) a b → b ≡ true →
-        LegRaised marks t ds src cut e v w m n 4294967295
-    unfolding NoneFor
-    store-back n b k q =
-        no-way n
+    pub store-back : (b : Bool) → SourceRises src e (getD m e 0) d (getD m (176 + e) 0) a b → b ≡ true →
+        LegRaised marks t ds src cut e v w m m 4294967295
+    store-back b k q =
+        no-way
         (λ y s h within limits cheap. ⊎-elim
         (λ o. ⊎-elim (λ z. omega arith) (λ z. omega (arith, ap (λ (i : ℕ). getD y i 0) (o .0), ap (λ (i : ℕ). getD m i 0) (o .0))) (reach-dep y s h))
         (λ o. ⊎-elim (λ z. omega arith) (λ z. omega (arith, ap (λ (i : ℕ). getD y i 0) (o .0), ap (λ (i : ℕ). getD m i 0) (o .0))) (reach-arr y s h))
@@ -127,10 +128,9 @@ module _ (marks t ds : List ℕ) where
       cost-here : c ≡ costIn t m₁
       cost-here = omega (arith, store-cost)
 
-      pub store-dear : (n : List ℕ) → cut < c → LegRaised marks t ds src cut e v w m n 4294967295
-      unfolding NoneFor
-      store-dear n l =
-          no-way n
+      pub store-dear : cut < c → LegRaised marks t ds src cut e v w m m 4294967295
+      store-dear l =
+          no-way
           (λ y s h within limits cheap. omega (arith, cost-here, cost-grows t m₁ y (first-below G src m m₁ y s (store-first y s h))))
 
       -- ---- the store

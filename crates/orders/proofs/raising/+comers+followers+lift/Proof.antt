@@ -806,7 +806,7 @@ lift-returns-2 t c =
     let l = c .before .before .before .before in
     stepped-last _ _ _ _ _ _ _ _ _ _ _ _ (lift-path t (l .before)) _ _
     (spread-after-dead _ _ _ _ _ _ _ _ _ _ _ (l .loop .inv .2) (l .loop .inv .0) (c .before .before .before .loop-test .taken) _ _
-    (c .before .followers .ensures) _ (c .if2 .taken))
+    (c .before .followers .ensures) (c .if2 .taken))
 
 lift-comers-requires : (t : ℕ) → lift-lts.Need-comers-requires (
   raise-path-reads.Asked,
@@ -841,7 +841,7 @@ lift-returns-3 t c =
     let l = c .before .before .before .before .before .before .before in
     stepped-last _ _ _ _ _ _ _ _ _ _ _ _ (lift-path t (l .before)) _ _
     (spread-gone-dead _ _ _ _ _ _ _ _ _ _ _ (l .loop .inv .2) (lift-followed t (c .before .before .before))
-    (c .before .before .before .before .before .before .loop-test .taken) _ _ (c .before .comers .ensures) _ (c .if3 .taken))
+    (c .before .before .before .before .before .before .loop-test .taken) _ _ (c .before .comers .ensures) (c .if3 .taken))
 
 lift-next-at-requires : (t : ℕ) → lift-lts.Need-next-at-requires (
   raise-path-reads.Asked,

@@ -4,7 +4,6 @@ use mathlib.Core.Path.{refl}
 use mathlib.Core.Logic.{inl, inr, ⊎-elim}
 use native.Mathlib.Omega.{arith}
 use borrow.Author.Needs.{needs}
-use Rattle.orders.specs.Lift.ChosenArcsLaws.{chose-dead}
 use Rattle.orders.specs.Lift.TwoArcsLaws.{
   Halfway,
   halfway-as,
@@ -50,9 +49,8 @@ returns : tie.Need-returns
 returns c =
     let b = c .before .before .before .before .before .before in
     let a = b .before .before in
-    chose-dead _ _ _ _ _ _
-    (departure-dead _ _ _ _ _ _ _ _ _ (a .pre .0 .ready .leg) (a .pre .1) (a .pre .2) refl (b .times-behind .ensures .0) _ _ _
-    (c .before .before .before .source-of .ensures) (a .pre .0) _ _ (c .before .lift .ensures) (c .if2 .taken))
+    departure-dead _ _ _ _ _ _ _ _ _ (a .pre .0 .ready .leg) (a .pre .1) (a .pre .2) refl (b .times-behind .ensures .0) _ _ _
+    (c .before .before .before .source-of .ensures) (a .pre .0) _ _ (c .before .lift .ensures) (c .if2 .taken)
 
 -- the departure is seen to
 half : (c : tie.Joined1) →

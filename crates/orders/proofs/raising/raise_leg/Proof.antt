@@ -44,7 +44,7 @@ returns c =
     let a = c .before .before .before .before .before .before .before in
     store-late _ _ _ _ _ _ _ _ _ _ _ _ (a .pre .0)
     (departs-by (a .args .t .now) (a .args .e) (c .before .before .before .before .run-at .ensures) (c .before .before .before .departure-for .ensures))
-    (arrives-by (a .args .t .now) (a .args .e) (c .before .before .before .before .run-at .ensures) (c .before .before .arrival-for .ensures)) _ _
+    (arrives-by (a .args .t .now) (a .args .e) (c .before .before .before .before .run-at .ensures) (c .before .before .arrival-for .ensures)) _
     (c .before .limit-at .ensures) (c .if1 .taken)
 
 source-rises-requires : tie.Need-source-rises-requires
@@ -57,7 +57,7 @@ returns-2 c =
     (departs-by (a .args .t .now) (a .args .e) (c .before .before .before .before .before .before .run-at .ensures)
     (c .before .before .before .before .before .departure-for .ensures))
     (arrives-by (a .args .t .now) (a .args .e) (c .before .before .before .before .before .before .run-at .ensures)
-    (c .before .before .before .before .arrival-for .ensures)) _ _ (c .before .source-rises .ensures) (c .if2 .taken)
+    (c .before .before .before .before .arrival-for .ensures)) _ (c .before .source-rises .ensures) (c .if2 .taken)
 
 more-cost-requires : tie.Need-more-cost-requires
 more-cost-requires c κs =
@@ -84,7 +84,7 @@ returns-3 c =
     (departs-by (a .args .t .now) (a .args .e) (c .before .before .before .before .before .before .before .before .run-at .ensures)
     (c .before .before .before .before .before .before .before .departure-for .ensures))
     (arrives-by (a .args .t .now) (a .args .e) (c .before .before .before .before .before .before .before .before .run-at .ensures)
-    (c .before .before .before .before .before .before .arrival-for .ensures)) _ _ (c .before .more-cost .ensures .0) refl _ (c .if3 .taken)
+    (c .before .before .before .before .before .before .arrival-for .ensures)) _ _ (c .before .more-cost .ensures .0) refl (c .if3 .taken)
 
 mul-m : tie.Need-mul-m
 mul-m c = search needs
