@@ -8,3 +8,4 @@ pub mod Raise
 pub mod Lift
 pub mod Look
 pub mod Outcome
+pub mod Waived

@@ -6,3 +6,4 @@ pub mod prospects;
 pub mod raising;
 pub mod tables;
 pub mod times;
+pub mod waived;

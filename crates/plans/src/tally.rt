@@ -10,11 +10,14 @@ pub struct Tally {
     pub steps: u32,
 }
 
+// A cut that cuts nothing off: no timetable costs as much.
+pub const NO_CUT: u32 = 4294967294;
+
 // The delay that a timetable may have at most to be looked at.
 pub fn cut_of(tally: Tally) -> u32
     ensures { λ r. ⌜ r ≡ cutOf tally ⌝ }
 {
-    if tally.found { tally.delay } else { 4294967294 }
+    if tally.found { tally.delay } else { NO_CUT }
 }
 
 // One plan more.

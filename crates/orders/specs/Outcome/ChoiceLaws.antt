@@ -26,7 +26,7 @@ use Rattle.orders.specs.Plan.TidyPlansLaws.{also-tidy}
 use Rattle.orders.specs.LineTables.Tables.{tablesOf}
 use Rattle.orders.specs.Raise.Raising.{Kept}
 use Rattle.orders.specs.Graph.LegGraph.{LegArc, runs, slow, next, depart, arrive, after, gone, leaving, UsedArc, legGraph}
-use Rattle.orders.specs.Lift.Lifting.{LegsKept, Choosing, Follows, LeastChosen, NoneChosen}
+use Rattle.orders.specs.Lift.Lifting.{LegsKept, Choosing, Follows, LeastChosen, NoneChosen, Forces}
 use Rattle.orders.specs.Graph.LegsLaws.{LegOf, over-leg}
 use Rattle.orders.specs.Graph.LegChoices.{segmentChoice, ByChoice, ArcOf, firstLeg}
 use Rattle.orders.specs.Graph.LegChoicesLaws.{by-choice, leaving-is, leaves-leg, leaves-by}
@@ -116,6 +116,10 @@ module _ (l : Line) (w : Runnable l) (r : Arrays l) where
       h .settled .cost-is ∙ cost-is l w r n,
       h .settled .cost-in,
     )
+
+    -- whatever the answer, no minutes that keep the plan with the choice are before those that raising leaves
+    pub chosen-low : (n : List ℕ) → Forces (also c q) t ds m n → (y : List ℕ) → Keeps l (also c q) y → m ⊑ y → n ⊑ y
+    chosen-low n h y g up = h y (keeps-graph l w r (also c q) tidy y g) up
 
     pub chosen-none : (cut : ℕ) → NoneChosen (also c q) t ds cut m →
         (y : List ℕ) → Fit 352 y → Keeps l (also c q) y → m ⊑ y → EachTrain l (NotLate l y) → weightedDelay l y ≤ cut → ⊥

@@ -6,20 +6,22 @@ use mathlib.Core.Bool.{true}
 use mathlib.Core.List.{List}
 use Rattle.line.specs.declared.Line.{Line}
 use Rattle.line.specs.Within.{Within, Arrays}
+use Rattle.line.specs.Runnable.{Runnable}
 use Rattle.rules.specs.declared.conflicts.Layout.{Layout}
 use Rattle.rules.specs.Statement.Delay.{weightedDelay}
 use Rattle.rules.specs.Conflict.Directions.{directionsOf}
 use Rattle.rules.specs.Conflict.Conflicts.{layoutOf}
 use Rattle.orders.specs.LeastMinutes.NoLater.{_⊑_}
-use Rattle.orders.specs.LeastMinutes.Least.{Fit, IsLeast}
+use Rattle.orders.specs.LeastMinutes.Least.{Fit}
 use Rattle.orders.specs.Plan.Choices.{Choice, KeepsChoice}
 use Rattle.orders.specs.Plan.Marks.{Plan, also}
 use Rattle.orders.specs.Plan.Plans.{Keeps}
 use Rattle.orders.specs.Plan.TidyPlans.{Fitting, Tidy}
 use Rattle.orders.specs.LineTables.Tables.{tablesOf}
 use Rattle.orders.specs.Lift.Lifting.{Alive}
-use Rattle.plans.specs.Instance.Planning.{start, inTime}
+use Rattle.plans.specs.Instance.Planning.{inTime}
 use Rattle.plans.specs.Contracts.Keys.{keyOf}
+use Rattle.plans.specs.Contracts.Carried.{Carried}
 use Rattle.plans.specs.Contracts.Tallies.{Tallied}
 use Rattle.plans.specs.Contracts.WaysTold.{Tells}
 use Rattle.plans.specs.declared.tally.Tally.{Tally}
@@ -34,13 +36,18 @@ pub record Tabled (l : Line) (t ds : List ℕ) : Type 0 where
   pub tables : t ≡ tablesOf l
   pub directions : ds ≡ directionsOf l
 
--- a plan, "a set of .. choices with the least minutes that meet them and rules 10 to 12": the least of all from 0 on, whatever plan it was made from. These
--- are in time and have this cost
+-- what raising reads: its line may be any whose trains can be run
+pub record Raisable (l : Line) (t ds : List ℕ) : Type 0 where
+  pub runnable : Runnable l
+  pub arrays : Arrays l
+  pub tables : t ≡ tablesOf l
+  pub directions : ds ≡ directionsOf l
+
+-- a plan to go on with: its marks fit the line, and its least minutes are in time and have this cost
 pub record Planned (l : Line) (marks m : List ℕ) (cost : ℕ) : Type 0 where
-  pub least : IsLeast 352 (Keeps l marks) start m
+  pub carried : Carried l marks m cost
   pub tidy : Tidy l marks
   pub timely : inTime l m ≡ true
-  pub cost-is : cost ≡ weightedDelay l m
 
 pub record Given (l : Line) (m marks best t ds key : List ℕ) (layout : Layout) (cost : ℕ) (y : Tally) : Type 0 where
   pub tabled : Tabled l t ds
@@ -53,7 +60,7 @@ pub record Given (l : Line) (m marks best t ds key : List ℕ) (layout : Layout)
 
 -- the marks are those of the plan p with the choice c, which the way tells; m and the cost are the plan's
 pub record Chooses (l : Line) (c : Choice) (p : Plan) (m marks t ds : List ℕ) (way : Way) (cost : ℕ) : Type 0 where
-  pub tabled : Tabled l t ds
+  pub raisable : Raisable l t ds
   pub planned : Planned l p m cost
   pub fitting : Fitting l c
   pub marks-are : marks ≡ also c p
@@ -70,12 +77,13 @@ pub record CanRaise (m marks t ds : List ℕ) (way : Way) (cost cut : ℕ) : Typ
 unfoldable pub NoRaise : Line → Choice → Plan → List ℕ → ℕ → Type 0
 NoRaise l c p m cut = (m′ : List ℕ) → Fit 352 m′ → Keeps l (also c p) m′ → m ⊑ m′ → inTime l m′ ≡ true → weightedDelay l m′ ≤ cut → ⊥
 
--- n has the least minutes of the plan with the choice, or there are none
+-- n has the least minutes of the plan with the choice, and r what they cost; or there are none in time within the cut. Whatever the answer, n is not after any
+-- minutes that keep this plan: where raising ended early, so does what it had carried until then cost no more than they do (`dropped-low` in `NextPlansLaws`).
 pub record Raises (l : Line) (c : Choice) (p : Plan) (m : List ℕ) (cut : ℕ) (n : List ℕ) (r : ℕ) : Type 0 where
-  pub least : Alive r → IsLeast 352 (Keeps l (also c p)) m n
+  pub carried : Alive r → Carried l (also c p) n r
   pub timely : Alive r → inTime l n ≡ true
-  pub cost-is : Alive r → r ≡ weightedDelay l n
   pub none : r ≡ 4294967295 → NoRaise l c p m cut
+  pub low : (m′ : List ℕ) → Fit 352 m′ → Keeps l (also c p) m′ → n ⊑ m′
 
 -- there are none, as a first look shows
 abbrev pub Fails : List ℕ → List ℕ → List ℕ → List ℕ → Way → ℕ → ℕ → Type 0

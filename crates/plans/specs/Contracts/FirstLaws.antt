@@ -46,10 +46,9 @@ module _ (l : Line) (w : Within l) (a : Arrays l) where
           keys = keys;
           layout-is = layout-is;
           planned = record {
-            least = from-start;
+            carried = record { least = from-start; cost-is = cost-is };
             tidy = free-tidy l;
             timely = is-true (decides-inTime l m) late;
-            cost-is = cost-is;
           };
           tallied = record {
             size = length-replicate {A = ℕ} 352 0;

@@ -34,4 +34,4 @@ module _ (l : Line) (m marks best t ds key : List ℕ) (layout : Layout) (cost :
   pub told : (r : Bool) → r ≡ betterBy key m cost best y → improves (planning l) m (bestOf y best) ≡ r
   told r r-is =
       sym (r-is ∙ ap (λ (k : List ℕ). betterBy k m cost best y) (g .keys) ∙
-      better-improves l (g .tabled .within) m cost (g .planned .cost-is) best y (g .tallied))
+      better-improves l (g .tabled .within) m cost (g .planned .carried .cost-is) best y (g .tallied))

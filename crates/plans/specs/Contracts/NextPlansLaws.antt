@@ -10,17 +10,15 @@ use Rattle.line.specs.declared.Line.{Line}
 use Rattle.line.specs.Within.{Within, Arrays}
 use Rattle.line.specs.RunnableLaws.{within-runnable}
 use Rattle.rules.specs.Statement.Delay.{weightedDelay}
-use Rattle.rules.specs.Check.RulesLaws.{cost-most}
 use Rattle.orders.specs.LeastMinutes.NoLater.{slack}
 use Rattle.orders.specs.LeastMinutes.NoLaterLaws.{slack-falls}
 use Rattle.orders.specs.LeastMinutes.Least.{Fit, IsLeast}
-use Rattle.orders.specs.LeastMinutes.LeastLaws.{least-afresh}
+use Rattle.orders.specs.LeastMinutes.LeastLaws.{least-onward}
 use Rattle.orders.specs.Plan.Bits.{withBit}
 use Rattle.orders.specs.Plan.Choices.{Choice, KeepsChoice}
 use Rattle.orders.specs.Plan.Marks.{Plan, also}
 use Rattle.orders.specs.Plan.Plans.{Keeps}
 use Rattle.orders.specs.Plan.PlansLaws.{keeps-rest, keeps-chosen}
-use Rattle.orders.specs.LeastMinutes.PlanArcs.{departsAt, arrivesAt}
 use Rattle.orders.specs.Plan.TidyPlans.{Fitting}
 use Rattle.orders.specs.Plan.TidyPlansLaws.{also-tidy}
 use Rattle.orders.specs.Lift.Lifting.{Alive}
@@ -30,9 +28,11 @@ use Rattle.plans.specs.Theory.BestSoFar.{nothing, found, Improves}
 use Rattle.plans.specs.Theory.Search.{Under, NoneBetter}
 use Rattle.plans.specs.Theory.SearchLaws.{under-also}
 use Rattle.plans.specs.Instance.Planning.{start, inTime, planning}
+use Rattle.plans.specs.Instance.PlanningLaws.{delay-up}
 use Rattle.plans.specs.Instance.LineSearchedLaws.{planning-laws}
+use Rattle.plans.specs.Contracts.CarriedLaws.{delay-low}
 use Rattle.plans.specs.Contracts.Tallies.{bestOf, cutOf, Tallied}
-use Rattle.plans.specs.Contracts.Choosing.{Tabled, Planned, Chooses, NoRaise, RaisesChoice, Raises, IsWay}
+use Rattle.plans.specs.Contracts.Choosing.{Tabled, Raisable, Planned, Chooses, NoRaise, RaisesChoice, Raises, IsWay}
 use Rattle.plans.specs.Contracts.TryingLaws.{row-low, second-low, marks-added}
 use Rattle.plans.specs.declared.tally.Tally.{Tally}
 use Rattle.plans.specs.declared.ways.Way.{Way}
@@ -59,10 +59,6 @@ module _ (l : Line) (best : List ℕ) (y b : Tally) (found-is : b .found ≡ y .
   recounted-best = rw found-is refl
 
 module _ (l : Line) (w : Within l) (a : Arrays l) where
-  -- no timetable costs as much as the answer that there is none
-  pub delay-low : (m : List ℕ) → Fit 352 m → weightedDelay l m < 4294967295
-  delay-low m z = omega (arith, cost-most l m (within-runnable l w) (λ i _ k _. (z .within (departsAt l i k), z .within (arrivesAt l i k))), w .trains .1)
-
   -- what is better than the best so far costs no more than the cut
   pub improves-cheap : (best : List ℕ) (y : Tally) (n : List ℕ) → Tallied l best y → Fit 352 n → Improves (planning l) n (bestOf y best) →
       weightedDelay l n ≤ cutOf y
@@ -74,7 +70,7 @@ module _ (l : Line) (w : Within l) (a : Arrays l) where
 
       go : (b : Bool) → y .found ≡ b → Improves (planning l) n (cond b (found best) nothing) → weightedDelay l n ≤ cond b (y .delay) 4294967294
       go true e h = omega (arith, t .delay-is e, first (h .place) h refl)
-      go false e h = omega (arith, delay-low n z)
+      go false e h = omega (arith, delay-low l (within-runnable l w) n z)
 
   -- ---- a choice more
 
@@ -83,12 +79,18 @@ module _ (l : Line) (w : Within l) (a : Arrays l) where
     pub child-planned : (cost : ℕ) → Planned l p m cost → Fitting l c → (cut : ℕ) (n : List ℕ) (r : ℕ) →
         Raises l c p m cut n r → Alive r → Planned l (also c p) n r
     child-planned cost q f cut n r h v =
-        record {
-          least = least-afresh 352 (Keeps l p) (Keeps l (also c p)) (keeps-rest l c p) start m (q .least) n (h .least v);
-          tidy = also-tidy l (within-runnable l w) c p f (q .tidy);
-          timely = h .timely v;
-          cost-is = h .cost-is v;
-        }
+        record { carried = h .carried v; tidy = also-tidy l (within-runnable l w) c p f (q .tidy); timely = h .timely v }
+
+    -- the minutes are the least at or above those of the plan, too
+    pub child-least : (cost : ℕ) → Planned l p m cost → (cut : ℕ) (n : List ℕ) (r : ℕ) → Raises l c p m cut n r → Alive r →
+        IsLeast 352 (Keeps l (also c p)) m n
+    child-least cost q cut n r h v =
+        least-onward 352 (Keeps l p) (Keeps l (also c p)) (keeps-rest l c p) start m (q .carried .least) n (h .carried v .least)
+
+    -- where raising ended early, what it had carried until then is no more than any minutes that keep the plan with the choice cost
+    pub dropped-low : (cut : ℕ) (n : List ℕ) (r : ℕ) → Raises l c p m cut n r → (m′ : List ℕ) → Fit 352 m′ → Keeps l (also c p) m′ →
+        weightedDelay l n ≤ weightedDelay l m′
+    dropped-low cut n r h m′ z k = delay-up l n m′ (h .low m′ z k)
 
     pub child-falls : Fitting l c → (KeepsChoice l m c → ⊥) → (n : List ℕ) → IsLeast 352 (Keeps l (also c p)) m n → slack n < slack m
     child-falls f not-yet n h =
@@ -122,6 +124,9 @@ module _ (l : Line) (w : Within l) (m ds : List ℕ) (c : Choice) (way : Way) (i
   pub second-there : way .second < 16
   second-there = omega (arith, i .told .second, second-low l w c (i .fitting))
 
+pub tabled-raisable : (l : Line) (t ds : List ℕ) → Tabled l t ds → Raisable l t ds
+tabled-raisable l t ds h = record { runnable = within-runnable l (h .within); arrays = h .arrays; tables = h .tables; directions = h .directions }
+
 module _ (l : Line) (m marks t ds : List ℕ) (cost : ℕ) (tabled : Tabled l t ds) (planned : Planned l marks m cost)
     (c : Choice) (way : Way) (i : IsWay l m ds c way) (v : ℕ) (v-is : v ≡ withBit (way .second) (getD marks (way .row) 0)) where
   pub way-added : set marks (way .row) v ≡ also c marks
@@ -132,7 +137,7 @@ module _ (l : Line) (m marks t ds : List ℕ) (cost : ℕ) (tabled : Tabled l t 
   pub way-chooses : (q : List ℕ) → q ≡ m → Chooses l c marks q (set marks (way .row) v) t ds way cost
   way-chooses q same =
       record {
-        tabled = tabled;
+        raisable = tabled-raisable l t ds tabled;
         planned = subst (λ (x : List ℕ). Planned l marks x cost) (sym same) planned;
         fitting = i .fitting;
         marks-are = way-added;
@@ -143,11 +148,14 @@ module _ (l : Line) (m marks t ds : List ℕ) (cost : ℕ) (tabled : Tabled l t 
     pub way-raises : Raises l c marks m cut n r
     way-raises = subst (λ (x : List ℕ). Raises l c marks x cut n r) same (h l c marks (way-chooses q same))
 
+    pub way-least : Alive r → IsLeast 352 (Keeps l (also c marks)) m n
+    way-least = child-least l (tabled .within) (tabled .arrays) c marks m (planned .carried .least .fit) cost planned cut n r way-raises
+
     pub next-planned : Alive r → Planned l (set marks (way .row) v) n r
     next-planned alive =
         subst (λ (x : List ℕ). Planned l x n r) (sym way-added)
-        (child-planned l (tabled .within) (tabled .arrays) c marks m (planned .least .fit) cost planned (i .fitting) cut n r way-raises alive)
+        (child-planned l (tabled .within) (tabled .arrays) c marks m (planned .carried .least .fit) cost planned (i .fitting) cut n r way-raises alive)
 
     pub next-falls : Alive r → slack n < slack m
     next-falls alive =
-        child-falls l (tabled .within) (tabled .arrays) c marks m (planned .least .fit) (i .fitting) (i .open-yet) n (way-raises .least alive)
+        child-falls l (tabled .within) (tabled .arrays) c marks m (planned .carried .least .fit) (i .fitting) (i .open-yet) n (way-least alive)

@@ -16,6 +16,7 @@ use Rattle.rules.specs.Conflict.Conflicts.{conflictOf}
 use Rattle.rules.specs.Statement.Delay.{Same, Best}
 use Rattle.rules.specs.Check.ExactLaws.{clear-of}
 use Rattle.rules.specs.StatementLaws.SameLaws.{same-sym, same-trans, lawful-same}
+use Rattle.orders.specs.LeastMinutes.NoLater.{_⊑_}
 use Rattle.orders.specs.LeastMinutes.Least.{Fit}
 use Rattle.orders.specs.Plan.Marks.{Plan, free}
 use Rattle.orders.specs.Plan.MarksLaws.{zeros, free-marked}
@@ -43,7 +44,10 @@ start-zero : (e : ℕ) → getD start e 0 ≡ 0
 unfolding start
 start-zero e = zeros 352 e
 
-start-fit : Fit 352 start
+pub start-below : (m : List ℕ) → start ⊑ m
+start-below m e = omega (arith, start-zero e)
+
+pub start-fit : Fit 352 start
 start-fit = record { size = unfold start in length-replicate {A = ℕ} 352 0; within = λ e. omega (arith, start-zero e) }
 
 module _ (l : Line) (w : Within l) (a : Arrays l) where
@@ -67,7 +71,7 @@ module _ (l : Line) (w : Within l) (a : Arrays l) where
   pub planning-laws : Laws (planning l)
   planning-laws = record {
     start-fit = start-fit;
-    start-low = λ m _ e. omega (arith, start-zero e);
+    start-low = λ m _. start-below m;
     least-is = λ p s m z e. least-is l (within-runnable l w) a p s m z e;
     least-none = λ p s z e. least-none l (within-runnable l w) a p s z e;
     cost-up = delay-up l;

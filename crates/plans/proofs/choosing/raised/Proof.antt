@@ -5,7 +5,7 @@ use Rattle.plans.proofs.choosing.raised.Statement.{statement}
 use Rattle.plans.proofs.choosing.raised.Tie as tie
 
 returns : tie.Need-returns
-returns c l x p h = dear-raises l p _ _ _ _ _ _ _ x h (c .if1 .taken) _
+returns c l x p h = dear-raises l p _ _ _ _ _ _ _ x h (c .if1 .taken)
 
 come-after-requires : tie.Need-come-after-requires
 come-after-requires c κs =
