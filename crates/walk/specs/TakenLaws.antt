@@ -25,7 +25,7 @@ use Rattle.walk.specs.ScanningLaws.{clear-told}
 use Rattle.plans.specs.Contracts.Choosing.{Planned, Given, NoRaise, Fails, RaisesChoice, Raises, IsWay}
 use Rattle.walk.specs.Taking.{Tries, TriesFirst, Walks, planPart, wayPart, waysPart}
 use Rattle.plans.specs.Contracts.TryingLaws.{way-there, way-absent, is-way, put-back}
-use Rattle.plans.specs.Contracts.NextPlansLaws.{cut-low, way-added, way-chooses, way-raises, next-planned, next-falls}
+use Rattle.plans.specs.Contracts.NextPlansLaws.{cut-low, way-added, way-chooses, way-raises, way-least, next-planned, next-falls}
 use Rattle.plans.specs.Contracts.GivenLaws.{conflict-known, told}
 use Rattle.walk.specs.WalksLaws.{walks-cut, walks-clear, walks-split, counted-tallied, walks-dead, walks-alive, walks-skip, walks-more}
 use Rattle.plans.specs.declared.tally.Tally.{Tally}
@@ -128,7 +128,7 @@ module _ (l : Line) (m marks best t ds key : List ℕ) (layout : Layout) (cost :
             Walks l m marks y (wayPart l m marks best y c) (set marks₂ (way .row) (getD marks (way .row) 0)) best₂ z
         given-alive alive marks₂ best₂ z k =
             walks-alive l (g .tabled .within) (g .tabled .arrays) m marks best cost y (g .planned) (g .tallied) c b (counted .0) (counted .1) (counted .2)
-            n (raises .least alive) (next-falls l m marks t ds cost (g .tabled) (g .planned) c way i v v-is q q-is cut n r h alive)
+            n (way-least l m marks t ds cost (g .tabled) (g .planned) c way i v v-is q q-is cut n r h alive) (next-falls l m marks t ds cost (g .tabled) (g .planned) c way i v v-is q q-is cut n r h alive)
             (set marks (way .row) v) (way-added l m marks t ds cost (g .tabled) (g .planned) c way i v v-is) marks₂ best₂ z k _
             (ap (λ (x : List ℕ). set x (way .row) (getD marks (way .row) 0)) (k .marks-same) ∙ put-back marks (way .row) v)
 

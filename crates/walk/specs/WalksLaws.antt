@@ -8,6 +8,7 @@ use Rattle.finite.specs.Below.{gather}
 use Rattle.finite.specs.LoopLaws.{gather-more}
 use Rattle.line.specs.declared.Line.{Line}
 use Rattle.line.specs.Within.{Within, Arrays}
+use Rattle.line.specs.RunnableLaws.{within-runnable}
 use Rattle.rules.specs.declared.conflicts.Conflict.{Conflict}
 use Rattle.rules.specs.Conflict.Conflicts.{conflictOf}
 use Rattle.orders.specs.LeastMinutes.NoLater.{slack}
@@ -25,7 +26,8 @@ use Rattle.plans.specs.Contracts.Tallies.{bestOf, cutOf, cutOff, Tallied}
 use Rattle.plans.specs.Contracts.Choosing.{Planned, NoRaise}
 use Rattle.walk.specs.Taking.{takenUp, Walks, planPart, wayPart, waysPart}
 use Rattle.walk.specs.TakingLaws.{taken-up, taken-none, taken-some, taken-cut, taken-clear, taken-split, none-more, more-best, more-steps}
-use Rattle.plans.specs.Contracts.NextPlansLaws.{recounted, recounted-best, delay-low, raise-none}
+use Rattle.plans.specs.Contracts.CarriedLaws.{delay-low}
+use Rattle.plans.specs.Contracts.NextPlansLaws.{recounted, recounted-best, raise-none}
 use Rattle.walk.specs.ProblemLaws.{least-found}
 use Rattle.plans.specs.Instance.LineSearchedLaws.{planning-laws}
 use Rattle.plans.specs.declared.tally.Tally.{Tally}
@@ -75,9 +77,9 @@ module _ (l : Line) (w : Within l) (a : Arrays l) (m marks best : List ℕ) (cos
   walks-clear e conflict is n n-is empty best′ same = record {
     marks-same = refl;
     tallied = record {
-      size = rw same (g .least .fit .size);
-      delay-is = λ _. rw same (g .cost-is);
-      delay-low = λ _. omega (arith, g .cost-is, delay-low l w a m (g .least .fit));
+      size = rw same (g .carried .least .fit .size);
+      delay-is = λ _. rw same (g .carried .cost-is);
+      delay-low = λ _. omega (arith, g .carried .cost-is, delay-low l (within-runnable l w) m (g .carried .least .fit));
       steps-low = t .steps-low;
     };
     best-is = λ fuel h. ap found same ∙ sym (ap (λ (x : Walked). x .best) (taken fuel));
@@ -138,7 +140,7 @@ module _ (l : Line) (w : Within l) (a : Arrays l) (m marks best : List ℕ) (cos
     }
       where
         taken : (fuel : ℕ) → takeUp (planning l) (suc fuel) (also c marks) m (bestOf y best) ≡ record { best = bestOf y best; steps = 1 }
-        taken fuel = rw (← same-best) (child-none l w a c marks m (g .least .fit) fuel best b counted-tallied h)
+        taken fuel = rw (← same-best) (child-none l w a c marks m (g .carried .least .fit) fuel best b counted-tallied h)
 
         go-best : (fuel : ℕ) → slack m < fuel → bestOf b best ≡ takeUp (planning l) fuel (also c marks) m (bestOf y best) .best
         go-best zero s = absurd (omega arith)
@@ -161,7 +163,7 @@ module _ (l : Line) (w : Within l) (a : Arrays l) (m marks best : List ℕ) (cos
         taken : (fuel : ℕ) → takenUp (planning l) fuel marks₁ n (bestOf b best) ≡ takeUp (planning l) (suc fuel) (also c marks) m (bestOf y best)
         taken fuel =
             ap₂ (λ (q : Plan) (x : BestSoFar). takenUp (planning l) fuel q n x) added same-best ∙
-            sym (child-least l w a c marks m (g .least .fit) fuel n (bestOf y best) least)
+            sym (child-least l w a c marks m (g .carried .least .fit) fuel n (bestOf y best) least)
 
         go-best : (fuel : ℕ) → slack m < fuel → bestOf r best₂ ≡ takeUp (planning l) fuel (also c marks) m (bestOf y best) .best
         go-best zero s = absurd (omega arith)

@@ -30,7 +30,7 @@ use Rattle.plans.specs.Contracts.Keys.{betterBy}
 use Rattle.plans.specs.Contracts.Tallies.{bestOf, cutOf}
 use Rattle.plans.specs.Contracts.Choosing.{Tabled, Planned, Given, NoRaise, Raises, IsWay}
 use Rattle.plans.specs.Contracts.TryingLaws.{way-there, way-absent, way-of-real}
-use Rattle.plans.specs.Contracts.NextPlansLaws.{none-raised, child-planned}
+use Rattle.plans.specs.Contracts.NextPlansLaws.{none-raised, child-planned, child-least}
 use Rattle.plans.specs.Contracts.GivenLaws.{told}
 use Rattle.plans.specs.declared.tally.Tally.{Tally}
 use Rattle.plans.specs.declared.ways.Way.{Way}
@@ -171,11 +171,12 @@ module _ (l : Line) (p : Plan) (m marks best t ds key : List ℕ) (layout : Layo
               keys = g .keys;
               layout-is = g .layout-is;
               planned =
-                  child-planned l (g .tabled .within) (g .tabled .arrays) c marks m (g .planned .least .fit) cost (g .planned) (i .fitting) cut m′ r (settled .0) alive;
+                  child-planned l (g .tabled .within) (g .tabled .arrays) c marks m (g .planned .carried .least .fit) cost (g .planned) (i .fitting) cut m′ r (settled .0) alive;
               tallied = g .tallied;
             };
             under =
-                under-least (planning l) L (also c marks) m m′ (under-also (planning l) L c marks m (h .under)) (settled .0 .least alive);
+                under-least (planning l) L (also c marks) m m′ (under-also (planning l) L c marks m (h .under))
+                (child-least l (g .tabled .within) (g .tabled .arrays) c marks m (g .planned .carried .least .fit) cost (g .planned) cut m′ r (settled .0) alive);
           })
 
       followed-choice : Narrowed l p m′ marks′ best t ds key layout r y

@@ -27,7 +27,7 @@ use Rattle.plans.specs.Instance.Planning.{planning}
 use Rattle.plans.specs.Instance.LineSearchedLaws.{planning-laws}
 use Rattle.plans.specs.Contracts.Choosing.{Chooses, RaisesChoice}
 use Rattle.plans.specs.Contracts.TryingLaws.{row-low, second-low, marks-added}
-use Rattle.plans.specs.Contracts.NextPlansLaws.{child-planned}
+use Rattle.plans.specs.Contracts.NextPlansLaws.{child-planned, child-least, tabled-raisable}
 use Rattle.solver.specs.Search.Neighbourhood.{Searchable, CanKeep, Leads, WithChoice, OnSegment, OnSegments, OnLayout, wayFor, OrderToKeep}
 
 -- ---- steps
@@ -72,7 +72,7 @@ module _ (t ds : List ℕ) (p i j : ℕ) where
         Chooses l (onSegment p i j) marks m (set marks (16 * p + i) v) t ds (wayFor (16 * p + i) j) cost
     chooses-first l h s =
         record {
-          tabled = h .tabled;
+          raisable = tabled-raisable l t ds (h .tabled);
           planned = s .planned;
           fitting = h .fitting;
           marks-are = added l h s;
@@ -91,8 +91,9 @@ module _ (t ds : List ℕ) (p i j : ℕ) where
             let L = planning-laws l w (a .tabled .arrays) in
             let k = h l c marks (chooses-first l a s) in
             record {
-              planned = child-planned l w (a .tabled .arrays) c marks m (s .planned .least .fit) cost (s .planned) (a .fitting) cut n r k alive;
-              under = under-least (planning l) L (also c marks) m n (under-also (planning l) L c marks m (s .under)) (k .least alive);
+              planned = child-planned l w (a .tabled .arrays) c marks m (s .planned .carried .least .fit) cost (s .planned) (a .fitting) cut n r k alive;
+              under = under-least (planning l) L (also c marks) m n (under-also (planning l) L c marks m (s .under))
+                  (child-least l w (a .tabled .arrays) c marks m (s .planned .carried .least .fit) cost (s .planned) cut n r k alive);
             }
 
 -- ---- an order to keep fits the line

@@ -8,6 +8,7 @@ use native.Mathlib.Omega.{arith}
 use borrow.Author.Tests.{not-true, not-false}
 use lib.ListN.{getD, set}
 use Rattle.line.specs.declared.Line.{Line}
+use Rattle.line.specs.RunnableLaws.{within-runnable}
 use Rattle.rules.specs.declared.conflicts.Conflict.{Conflict}
 use Rattle.rules.specs.declared.conflicts.Layout.{Layout}
 use Rattle.orders.specs.Plan.Bits.{withBit}
@@ -28,7 +29,8 @@ use Rattle.plans.specs.Contracts.Keys.{betterBy}
 use Rattle.plans.specs.Contracts.Tallies.{bestOf, cutOf, cutOff, Tallied}
 use Rattle.plans.specs.Contracts.Choosing.{Planned, Given, NoRaise, RaisesChoice, IsWay}
 use Rattle.plans.specs.Contracts.TryingLaws.{put-back}
-use Rattle.plans.specs.Contracts.NextPlansLaws.{cut-low, recounted, recounted-best, delay-low, none-raised, way-added, way-raises, next-planned}
+use Rattle.plans.specs.Contracts.CarriedLaws.{delay-low}
+use Rattle.plans.specs.Contracts.NextPlansLaws.{cut-low, recounted, recounted-best, none-raised, way-added, way-raises, way-least, next-planned}
 use Rattle.plans.specs.Contracts.GivenLaws.{told}
 use Rattle.plans.specs.declared.tally.Tally.{Tally}
 use Rattle.plans.specs.declared.ways.Way.{Way}
@@ -89,15 +91,15 @@ module _ (l : Line) (m marks best t ds key : List ℕ) (layout : Layout) (cost l
         let w = g .tabled .within in
         let a = g .tabled .arrays in
         let c = chosen l w a (g .layout-is) (g .tabled .directions) in
-        let lawful = clear-lawful l w a marks m (p .least .fit) (p .least .keeps) (p .timely) (c .none (nothing-of conflict (sym n-is ∙ none))) in
+        let lawful = clear-lawful l w a marks m (p .carried .least .fit) (p .carried .least .keeps) (p .timely) (c .none (nothing-of conflict (sym n-is ∙ none))) in
         let i = improves-true (planning l) m (bestOf y best) (told l m marks best t ds key layout cost y g r r-is ∙ not-false r better) in
         let s = searched-clear (planning l) L marks m (bestOf y best) (h .under) lawful i in
         record {
           marks-same = refl;
           tallied = record {
-            size = rw same (p .least .fit .size);
-            delay-is = λ _. rw same (p .cost-is);
-            delay-low = λ _. omega (arith, p .cost-is, delay-low l w a m (p .least .fit));
+            size = rw same (p .carried .least .fit .size);
+            delay-is = λ _. rw same (p .carried .cost-is);
+            delay-low = λ _. omega (arith, p .carried .cost-is, delay-low l (within-runnable l w) m (p .carried .least .fit));
             steps-low = g .tallied .steps-low;
           };
           steps-rise = omega arith;
@@ -157,7 +159,7 @@ module _ (l : Line) (m marks best t ds key : List ℕ) (layout : Layout) (cost l
     -- there are: the plan with the choice is one to search
     pub next-held : Alive r → Held l n (set marks (way .row) v) best t ds key layout r b
     next-held alive =
-        let least = way-raises l m marks t ds cost (g .tabled) (g .planned) c way i v v-is q same cut n r raised .least alive in
+        let least = way-least l m marks t ds cost (g .tabled) (g .planned) c way i v v-is q same cut n r raised alive in
         record {
           given = record {
             tabled = g .tabled;

@@ -42,7 +42,7 @@ select-scans m marks t ds layout cost cut h =
     record {
       laid-out = (rw (h .layout-is) (w .stations .0), rw (h .layout-is) (w .stations .1), rw (h .layout-is) (w .trains .1));
       directions = directions-size _ _ (h .tabled .directions);
-      size = h .planned .least .fit .size;
+      size = h .planned .carried .least .fit .size;
     }
 
 pub can-select-after : (m marks t ds : List ℕ) (layout : Layout) (cost cut : ℕ) → CanSelect m marks t ds layout cost cut → (marks′ : List ℕ) →

@@ -12,7 +12,7 @@ afresh-requires : tie.Need-afresh-requires
 afresh-requires c κs = search needs
 
 copy-minutes-requires : tie.Need-copy-minutes-requires
-copy-minutes-requires c κs = (c .before .before .pre .first .given .planned .least .fit .size, length-replicate {A = ℕ} 352 0)
+copy-minutes-requires c κs = (c .before .before .pre .first .given .planned .carried .least .fit .size, length-replicate {A = ℕ} 352 0)
 
 cut-of-requires : tie.Need-cut-of-requires
 cut-of-requires c κs = search needs
@@ -55,7 +55,7 @@ take-up-requires c κs =
     record {
       line = p .line;
       held = near-held (p .line) _ _ _ (a .afresh .ensures) _ _ _ _ _ _ (p .first) _ _ _ near;
-      former-size = g .planned .least .fit .size;
+      former-size = g .planned .carried .least .fit .size;
     }
 
 returns-2 : tie.Need-returns-2

@@ -16,7 +16,7 @@ take-up-requires c κs =
     record {
       line = p .line;
       held = afresh-held (p .line) _ _ _ (a .afresh .ensures) _ _ _ _ _ _ _ (p .first);
-      former-size = p .first .given .planned .least .fit .size;
+      former-size = p .first .given .planned .carried .least .fit .size;
     }
 
 returns : tie.Need-returns

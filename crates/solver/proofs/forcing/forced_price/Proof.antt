@@ -74,18 +74,18 @@ copy-marks-requires : tie.Need-copy-marks-requires Inv-loop μ-loop
 copy-marks-requires c κs = (c .before .before .pre .held .given .planned .tidy .size, length-replicate {A = ℕ} 368 0)
 
 copy-minutes-requires : tie.Need-copy-minutes-requires Inv-loop μ-loop
-copy-minutes-requires c κs = (c .before .before .before .before .pre .held .given .planned .least .fit .size, length-replicate {A = ℕ} 352 0)
+copy-minutes-requires c κs = (c .before .before .before .before .pre .held .given .planned .carried .least .fit .size, length-replicate {A = ℕ} 352 0)
 
 copy-minutes-requires-2 : tie.Need-copy-minutes-requires-2 Inv-loop μ-loop
 copy-minutes-requires-2 c κs =
-    (c .before .before .before .before .before .before .pre .held .given .planned .least .fit .size, length-replicate {A = ℕ} 352 0)
+    (c .before .before .before .before .before .before .pre .held .given .planned .carried .least .fit .size, length-replicate {A = ℕ} 352 0)
 
 settle-requires : tie.Need-settle-requires Inv-loop μ-loop
 settle-requires c κs =
     can-settle _ _ _ _ _ _ _ _ _ _ (c .before .before .before .before .before .before .before .before .before .pre) _ (c .before .before .before .before .before .before .before .before .cut-of .ensures) _ _ (c .before .before .before .before .copy-minutes .ensures) (c .before .before .before .before .before .before .copy-marks .ensures)
 
 loop-holds : tie.Need-loop-holds Inv-loop μ-loop
-loop-holds c = ((λ l p f. f), ap length (c .before .before .before .copy-minutes2 .ensures) ∙ begun c .pre .held .given .planned .least .fit .size)
+loop-holds c = ((λ l p f. f), ap length (c .before .before .before .copy-minutes2 .ensures) ∙ begun c .pre .held .given .planned .carried .least .fit .size)
 
 returns : tie.Need-returns Inv-loop μ-loop
 returns c l x h i _ =
@@ -95,7 +95,7 @@ returns c l x h i _ =
 improves-requires : tie.Need-improves-requires Inv-loop μ-loop
 improves-requires c κs =
     let g = held (c .before) .given in
-    (g .planned .least .fit .size, g .tallied .size, key-long (begun (entered (c .before)) .pre .line) _ _ _ _ _ _ _ _ _ g)
+    (g .planned .carried .least .fit .size, g .tallied .size, key-long (begun (entered (c .before)) .pre .line) _ _ _ _ _ _ _ _ _ g)
 
 returns-2 : tie.Need-returns-2 Inv-loop μ-loop
 returns-2 c l x h i _ =
@@ -130,7 +130,7 @@ returns-4 c l x h i _ =
 copy-minutes-requires-3 : tie.Need-copy-minutes-requires-3 Inv-loop μ-loop
 copy-minutes-requires-3 c κs =
     let o = c .before .before .before .before .before .before .before .before .before .before .before .before .before .before in
-    (held o .given .planned .least .fit .size, o .before .before .loop .inv .1)
+    (held o .given .planned .carried .least .fit .size, o .before .before .loop .inv .1)
 
 settle-requires-2 : tie.Need-settle-requires-2 Inv-loop μ-loop
 settle-requires-2 c κs =
@@ -161,7 +161,7 @@ loop-again c =
           let (g, in-it) = followed-alive l _ _ _ _ _ _ _ _ _ _ (o .if1 .left) (o .before .before .loop .inv .0 l p h) in
           let one = f .one (c .before .before .before .before .before .before .before .before .before .before .if3 .left) (not-false _ (c .before .before .before .before .before .before .before .if4 .left)) l (g .given .tabled) (g .given .planned) (g .given .layout-is) in
           followed-more l _ _ _ _ _ _ _ _ _ _ g in-it _ (entered o .before .before .before .before .before .before .before .before .before .cut-of .ensures) _ one _ (f .marks-same) _ _ _ (c .settle2 .ensures)),
-      ap length (c .before .before .before .copy-minutes3 .ensures) ∙ held o .given .planned .least .fit .size,
+      ap length (c .before .before .before .copy-minutes3 .ensures) ∙ held o .given .planned .carried .least .fit .size,
     )
 
 returns-5 : tie.Need-returns-5 Inv-loop μ-loop

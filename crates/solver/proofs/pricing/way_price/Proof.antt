@@ -24,7 +24,7 @@ element-write-marks : tie.Need-element-write-marks
 element-write-marks c = let p = c .before .before .pre in row-few (p .line) (p .tabled .within) _ _ (p .choice) _ (p .is-way)
 
 copy-minutes-requires : tie.Need-copy-minutes-requires
-copy-minutes-requires c κs = (c .before .before .before .pre .planned .least .fit .size, length-replicate {A = ℕ} 352 0)
+copy-minutes-requires c κs = (c .before .before .before .pre .planned .carried .least .fit .size, length-replicate {A = ℕ} 352 0)
 
 raised-requires : tie.Need-raised-requires
 raised-requires c κs =

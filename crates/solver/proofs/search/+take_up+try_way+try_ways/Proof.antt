@@ -123,7 +123,7 @@ take-up-improves-requires : (t : ℕ) → take-up-lts.Need-improves-requires (
 take-up-improves-requires t c κs =
     let p = c .before .before .before .pre .1 in
     let g = p .held .given in
-    (g .planned .least .fit .size, g .tallied .size, key-long (p .line) _ _ _ _ _ _ _ _ _ g)
+    (g .planned .carried .least .fit .size, g .tallied .size, key-long (p .line) _ _ _ _ _ _ _ _ _ g)
 
 take-up-returns-2 : (t : ℕ) → take-up-lts.Need-returns-2 (
   spent-reads.Asked,
@@ -189,7 +189,7 @@ take-up-copy-minutes-requires : (t : ℕ) → take-up-lts.Need-copy-minutes-requ
 ) (take-up-at t) take-up.Post
 take-up-copy-minutes-requires t c κs =
     let g = c .before .before .before .before .before .before .before .before .before .before .before .pre .1 .held .given in
-    (g .planned .least .fit .size, g .tallied .size)
+    (g .planned .carried .least .fit .size, g .tallied .size)
 
 take-up-returns-3 : (t : ℕ) → take-up-lts.Need-returns-3 (
   spent-reads.Asked,
@@ -400,7 +400,7 @@ try-way-copy-minutes-requires : (t : ℕ) → try-way-lts.Need-copy-minutes-requ
   take-up-below t,
   take-up.Post,
 ) (try-way-at t) try-way.Post
-try-way-copy-minutes-requires t c κs = (c .before .before .before .before .before .pre .1 .held .given .planned .least .fit .size, length-replicate {A = ℕ} 352 0)
+try-way-copy-minutes-requires t c κs = (c .before .before .before .before .before .pre .1 .held .given .planned .carried .least .fit .size, length-replicate {A = ℕ} 352 0)
 
 try-way-raised-requires : (t : ℕ) → try-way-lts.Need-raised-requires (
   counted-reads.Asked,
@@ -517,7 +517,7 @@ try-way-take-up-requires t c κs =
     (r .raised .ensures) alive in
     let held = next-held (p .line) _ _ _ _ _ _ _ _ 0 _ (p .held) (p .choice) _ (p .is-way) _ (k .before .counted .ensures) _ (v .with-bit .ensures) _
     (q .copy-minutes .ensures) _ (k .cut-of .ensures) _ _ (r .raised .ensures) alive in
-    (omega (arith, a .0, falls), record { line = p .line; held = held; former-size = g .planned .least .fit .size })
+    (omega (arith, a .0, falls), record { line = p .line; held = held; former-size = g .planned .carried .least .fit .size })
 
 try-way-mul-marks-3 : (t : ℕ) → try-way-lts.Need-mul-marks-3 (
   counted-reads.Asked,

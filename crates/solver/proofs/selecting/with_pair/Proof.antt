@@ -11,7 +11,7 @@ in-conflict-requires c κs =
     let a = c .pre in
     let low = on-low _ _ _ _ _ _ _ _ _ (a .0) in (
       directions-size _ _ (a .0 .tabled .directions),
-      a .0 .planned .least .fit .size,
+      a .0 .planned .carried .least .fit .size,
       low .0,
       omega (arith, a .1, low .1),
       omega (arith, a .2, low .1),

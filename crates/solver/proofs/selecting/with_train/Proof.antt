@@ -20,7 +20,7 @@ near-requires : tie.Need-near-requires Inv-loop μ-loop
 near-requires c κs =
     let a = c .before .pre in
     let low = on-low _ _ _ _ _ _ _ _ _ (a .0) in
-    (a .0 .planned .least .fit .size, low .0, omega (arith, a .1, low .1))
+    (a .0 .planned .carried .least .fit .size, low .0, omega (arith, a .1, low .1))
 
 add-next-bit : tie.Need-add-next-bit Inv-loop μ-loop
 add-next-bit c = let a = c .before .before .pre in omega (arith, a .1, on-low _ _ _ _ _ _ _ _ _ (a .0) .1)

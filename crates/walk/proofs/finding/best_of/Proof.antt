@@ -67,7 +67,7 @@ given c =
 
 take-up-requires : tie.Need-take-up-requires
 take-up-requires c κs =
-    record { line = first c .before .args .line; given = given c; former-size = given c .planned .least .fit .size; known = clear-none _ _ _ }
+    record { line = first c .before .args .line; given = given c; former-size = given c .planned .carried .least .fit .size; known = clear-none _ _ _ }
 
 found-of-requires-2 : tie.Need-found-of-requires-2
 found-of-requires-2 c κs = search needs

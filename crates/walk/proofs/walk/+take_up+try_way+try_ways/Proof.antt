@@ -85,7 +85,7 @@ take-up-improves-requires : (t : ℕ) → take-up-lts.Need-improves-requires (
 ) (take-up-at t) take-up.Post
 take-up-improves-requires t c κs =
     let g = c .before .pre .1 in
-    (g .given .planned .least .fit .size, g .given .tallied .size, key-long (g .line) _ _ _ _ _ _ _ _ _ (g .given))
+    (g .given .planned .carried .least .fit .size, g .given .tallied .size, key-long (g .line) _ _ _ _ _ _ _ _ _ (g .given))
 
 take-up-returns : (t : ℕ) → take-up-lts.Need-returns (
   improves-reads.Asked,
@@ -119,7 +119,7 @@ take-up-lowest-conflict-requires t c κs =
       scans = record {
         laid-out = laid-out (a .line) _ _ _ _ _ _ _ _ _ (a .given);
         directions = directions-size _ _ (a .given .tabled .directions);
-        size = a .given .planned .least .fit .size;
+        size = a .given .planned .carried .least .fit .size;
       };
       former-size = a .former-size;
       known = a .known;
@@ -153,7 +153,7 @@ take-up-copy-minutes-requires : (t : ℕ) → take-up-lts.Need-copy-minutes-requ
 ) (take-up-at t) take-up.Post
 take-up-copy-minutes-requires t c κs =
     let g = c .before .before .before .before .before .before .before .before .before .before .pre .1 .given in
-    (g .planned .least .fit .size, g .tallied .size)
+    (g .planned .carried .least .fit .size, g .tallied .size)
 
 take-up-returns-2 : (t : ℕ) → take-up-lts.Need-returns-2 (
   improves-reads.Asked,
@@ -462,7 +462,7 @@ try-way-copy-minutes-requires : (t : ℕ) → try-way-lts.Need-copy-minutes-requ
 ) (try-way-at t) try-way.Post
 try-way-copy-minutes-requires t c κs =
     let p = c .before .before .before .before .before .before .before .before .pre .1 in
-    (p .given .planned .least .fit .size, length-replicate {A = ℕ} 352 0)
+    (p .given .planned .carried .least .fit .size, length-replicate {A = ℕ} 352 0)
 
 try-way-cut-of-requires-2 : (t : ℕ) → try-way-lts.Need-cut-of-requires-2 (
   counted-reads.Asked,
@@ -606,7 +606,7 @@ try-way-take-up-requires t c κs =
     (q .copy-minutes .ensures) _ _ _ (r .raised .ensures) alive in
     let given = next-given (p .line) _ _ _ _ _ _ _ _ _ (p .given) (p .choice) _ (p .is-way) _ (v .with-bit .ensures) _ (b .counted .ensures) _
     (q .copy-minutes .ensures) _ (r .before .cut-of2 .ensures) _ _ (r .raised .ensures) alive in
-    (omega (arith, a .0, falls), record { line = p .line; given = given; former-size = p .given .planned .least .fit .size; known = p .known })
+    (omega (arith, a .0, falls), record { line = p .line; given = given; former-size = p .given .planned .carried .least .fit .size; known = p .known })
 
 try-way-mul-marks-4 : (t : ℕ) → try-way-lts.Need-mul-marks-4 (
   counted-reads.Asked,
