@@ -33,12 +33,13 @@ use Rattle.orders.specs.LeastMinutes.SettleLaws.{within-true}
 use Rattle.orders.specs.LeastMinutes.Arcs.{pull, pullAll}
 use Rattle.orders.specs.Plan.Bits.{bit, withBit, change}
 use Rattle.orders.specs.Plan.Marks.{free, also, marked}
+use Rattle.orders.specs.LeastMinutes.Carried.{start}
 use Rattle.orders.specs.LeastMinutes.PlanArcs.{departsAt, arrivesAt, trainArcs, chosenArcs, arcs, rounds, least}
 use Rattle.plans.specs.Theory.Ranking.{aheadFrom, ahead}
 use Rattle.plans.specs.Theory.BestSoFar.{BestSoFar, found, improves}
 use Rattle.walk.specs.Walk.{inOrder, lookWays, lookLeast, look, follow, takeUp, plenty, walk}
 use Rattle.plans.specs.Conflict.Ways.{wayOf, waysOf, ways}
-use Rattle.plans.specs.Instance.Planning.{start, isLeg, departures, inTime, planning}
+use Rattle.plans.specs.Instance.Planning.{isLeg, departures, inTime, planning}
 use Rattle.walk.specs.WalkBestLaws.{walk-best, walk-nothing}
 use Rattle.examples.specs.Lines.{givenTrain, givenLine, minutesOf, fileA, twoStations, doubleLine, ExampleAnswer, Costs, Examples}
 

@@ -1,13 +1,11 @@
 -- The contracts of the code that both searches use: the key by which minutes are compared (`Keys`), the best so far (`Tallies`), a way out as the code has it
--- (`WaysTold`), a plan with what it costs (`Carried`), raising for a choice (`Choosing`) and what it costs in time or
+-- (`WaysTold`), raising for a choice (`Choosing`) and what it costs in time or
 -- not (`WayCosts`), what a search found (`FoundBest`), each with its laws.
 pub mod Keys
 pub mod Tallies
 pub mod KeysLaws
 pub mod WaysTold
 pub mod WaysToldLaws
-pub mod Carried
-pub mod CarriedLaws
 pub mod Choosing
 pub mod ChoosingLaws
 pub mod WayCosts

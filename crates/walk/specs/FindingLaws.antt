@@ -4,7 +4,6 @@ use mathlib.Core.Path.{_≡_, refl, sym, ap, _∙_}
 use mathlib.Core.Bool.{false, false≢true}
 use mathlib.Core.List.{List}
 use native.Mathlib.Omega.{arith}
-use lib.ListN.{replicate}
 use Rattle.finite.specs.DecideLaws.{is-false}
 use Rattle.line.specs.declared.Line.{Line}
 use Rattle.line.specs.Within.{Within, Arrays}
@@ -13,15 +12,16 @@ use Rattle.rules.specs.Statement.Rules.{NotLate}
 use Rattle.orders.specs.LeastMinutes.NoLater.{slack}
 use Rattle.orders.specs.LeastMinutes.NoLaterLaws.{slack-most}
 use Rattle.orders.specs.LeastMinutes.Least.{Least, minutes, none, Fit, IsLeast}
+use Rattle.orders.specs.LeastMinutes.Carried.{start}
 use Rattle.orders.specs.Plan.Marks.{free}
 use Rattle.orders.specs.Plan.Plans.{Keeps}
 use Rattle.plans.specs.declared.tally.Tally.{Tally}
 use Rattle.plans.specs.Theory.BestSoFar.{BestSoFar, nothing, found}
 use Rattle.walk.specs.Walk.{Walked, walk, plenty, takeUp}
 use Rattle.walk.specs.ProblemLaws.{least-found}
-use Rattle.plans.specs.Instance.Planning.{start, inTime, planning}
+use Rattle.plans.specs.Instance.Planning.{inTime, planning}
 use Rattle.plans.specs.Instance.PlanningLaws.{decides-inTime}
-use Rattle.plans.specs.Instance.LineSearchedLaws.{starts, planning-laws}
+use Rattle.plans.specs.Instance.LineSearchedLaws.{planning-laws}
 use Rattle.walk.specs.WalkBestLaws.{walk-best, walk-nothing}
 use Rattle.plans.specs.Contracts.Tallies.{bestOf, cutOff}
 use Rattle.walk.specs.Taking.{takenUp, planPart, Walks}
@@ -40,9 +40,9 @@ module _ (l : Line) (w : Within l) (a : Arrays l) where
 
   -- ---- the first plan has the minutes m
 
-  module _ (m : List ℕ) (least : IsLeast 352 (Keeps l free) (replicate 352 0) m) where
+  module _ (m : List ℕ) (least : IsLeast 352 (Keeps l free) start m) where
     first-least : planning l .least free start ≡ minutes m
-    first-least = least-found (planning l) (planning-laws l w a) free start start-here m (rw (sym starts) least)
+    first-least = least-found (planning l) (planning-laws l w a) free start start-here m least
 
     walk-is : walk (planning l) ≡ takenUp (planning l) fuel free m nothing
     unfolding walk plenty

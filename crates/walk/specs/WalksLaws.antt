@@ -26,7 +26,7 @@ use Rattle.plans.specs.Contracts.Tallies.{bestOf, cutOf, cutOff, Tallied}
 use Rattle.plans.specs.Contracts.Choosing.{Planned, NoRaise}
 use Rattle.walk.specs.Taking.{takenUp, Walks, planPart, wayPart, waysPart}
 use Rattle.walk.specs.TakingLaws.{taken-up, taken-none, taken-some, taken-cut, taken-clear, taken-split, none-more, more-best, more-steps}
-use Rattle.plans.specs.Contracts.CarriedLaws.{delay-low}
+use Rattle.orders.specs.LeastMinutes.CarriedLaws.{delay-low}
 use Rattle.plans.specs.Contracts.NextPlansLaws.{recounted, recounted-best, raise-none}
 use Rattle.walk.specs.ProblemLaws.{least-found}
 use Rattle.plans.specs.Instance.LineSearchedLaws.{planning-laws}

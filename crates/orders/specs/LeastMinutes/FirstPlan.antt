@@ -3,15 +3,16 @@ use Prim.Native.Nat.{ℕ, _-_, _%_, _≤_}
 use mathlib.Core.Path.{_≡_}
 use mathlib.Core.Bool.{true, false, cond}
 use mathlib.Core.List.{List}
-use lib.ListN.{replicate}
 use lib.Dec.{ltb}
 use Rattle.finite.specs.Below.{table}
 use Rattle.line.specs.declared.Line.{Line}
 use Rattle.rules.specs.Statement.Paths.{train, runOf, EachTrain}
 use Rattle.rules.specs.Statement.Rules.{NotLate}
-use Rattle.rules.specs.Statement.Delay.{freeAfter, freeArrival, weightedDelay}
+use Rattle.rules.specs.Statement.Delay.{freeAfter, freeArrival}
 use Rattle.orders.specs.declared.first.FirstPlan.{FirstPlan}
-use Rattle.orders.specs.LeastMinutes.Least.{Fit, IsLeast}
+use Rattle.orders.specs.LeastMinutes.NoLater.{_⊑_, WithinDays}
+use Rattle.orders.specs.LeastMinutes.Least.{Fit}
+use Rattle.orders.specs.LeastMinutes.Carried.{Carried}
 use Rattle.orders.specs.Plan.Marks.{free}
 use Rattle.orders.specs.Plan.Plans.{Keeps}
 use Rattle.orders.specs.LineTables.Tables.{onLeg}
@@ -31,9 +32,10 @@ freeMinutes l = table (freeEntry l) 352
 abbrev pub FreeInTime : Line → Type 0
 FreeInTime l = EachTrain l (λ i. freeArrival l i ≤ train l i .latest)
 
--- the first plan: its minutes are the least from 0 on, end in time, and what they cost; or no minutes end in time
+-- the first plan: no minutes that keep it are before these, so they are its least where they are up to 2,879, and else it has none. They are in time, or none
+-- are.
 pub record IsFirstPlan (l : Line) (r : FirstPlan) : Type 0 where
-  pub least : r .«in_time» ≡ true → IsLeast 352 (Keeps l free) (replicate 352 0) (r .minutes)
-  pub rule13 : r .«in_time» ≡ true → EachTrain l (NotLate l (r .minutes))
-  pub cost-is : r .cost ≡ weightedDelay l (r .minutes)
-  pub none : r .«in_time» ≡ false → (m′ : List ℕ) → Fit 352 m′ → Keeps l free m′ → EachTrain l (NotLate l m′) → ⊥
+  pub carried : WithinDays (r .minutes) → Carried l free (r .minutes) (r .cost)
+  pub low : (m′ : List ℕ) → Keeps l free m′ → r .minutes ⊑ m′
+  pub timely : r .«in_time» ≡ true → WithinDays (r .minutes) × EachTrain l (NotLate l (r .minutes))
+  pub late : r .«in_time» ≡ false → (m′ : List ℕ) → Fit 352 m′ → Keeps l free m′ → EachTrain l (NotLate l m′) → ⊥

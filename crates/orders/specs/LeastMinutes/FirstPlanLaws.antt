@@ -1,12 +1,12 @@
 -- No minutes that keep rules 10 to 12 and 18 are before those of the trains alone on the line, and these keep them; so they are the least.
 use Prim.Native.Nat.{ℕ, zero, suc, _+_, _-_, _/_, _%_, _≤_, _<_}
-use mathlib.Core.Path.{_≡_, refl, sym, _∙_, ap}
+use mathlib.Core.Path.{_≡_, refl, sym, _∙_, ap, subst}
 use mathlib.Core.Bool.{true, false, true≢false, false≢true}
 use mathlib.Core.List.{List}
 use native.Mathlib.Decide.{decLt}
 use native.Mathlib.Numerals.{add-one}
 use native.Mathlib.Omega.{arith}
-use lib.ListN.{length, getD, replicate}
+use lib.ListN.{length, getD}
 use borrow.Author.Tests.{lt-ltb, le-ltb}
 use Rattle.finite.specs.Decide.{Decides}
 use Rattle.finite.specs.DecideLaws.{by-test, is-true}
@@ -23,9 +23,12 @@ use Rattle.rules.specs.StatementLaws.FreeArrivalLaws.{free-kept}
 use Rattle.rules.specs.Check.RulesLaws.{free-next}
 use Rattle.rules.specs.Statement.Delay.{freeAfter, freeArrival, weightedDelay}
 use Rattle.orders.specs.declared.first.FirstPlan.{FirstPlan}
-use Rattle.orders.specs.LeastMinutes.Least.{Fit, IsLeast}
+use Rattle.orders.specs.LeastMinutes.NoLater.{_⊑_, WithinDays}
+use Rattle.orders.specs.LeastMinutes.Least.{IsLeast}
+use Rattle.orders.specs.LeastMinutes.Carried.{start}
+use Rattle.orders.specs.LeastMinutes.CarriedLaws.{start-below}
 use Rattle.orders.specs.Plan.Marks.{free}
-use Rattle.orders.specs.Plan.MarksLaws.{zeros, free-marked}
+use Rattle.orders.specs.Plan.MarksLaws.{free-marked}
 use Rattle.orders.specs.Plan.Plans.{Keeps}
 use Rattle.orders.specs.LineTables.Tables.{onLeg}
 use Rattle.finite.specs.FillLaws.{Begun, begun-all}
@@ -125,32 +128,35 @@ module _ (l : Line) (w : Runnable l) (size : length (l .traffic .trains) ≡ 12)
   last-free : (i : ℕ) (h : i < l .traffic .«train_count») → arrival l (freeMinutes l) i (legs l i - 1) ≡ freeArrival l i
   last-free i h = arrives-free i (legs l i - 1) h (omega (arith, legs-few (train l i) (path i h) .0))
 
-  module _ (ends : FreeInTime l) where
-    free-fit : Fit 352 (freeMinutes l)
-    free-fit = record { size = minutes-size l; within = bounded (λ _. 2879) (λ i k h b. omega (arith, days i k h b)) days }
-      where
-        days : (i k : ℕ) → i < l .traffic .«train_count» → k < legs l i → freeAfter l i k ≤ 2879
-        days i k h b = omega (arith, free-last l i k b, ends i h, train-runnable l i w size h .latest .1)
+  -- where they are in time they are up to 2,879
+  free-within : FreeInTime l → WithinDays (freeMinutes l)
+  free-within ends = bounded (λ _. 2879) (λ i k h b. omega (arith, days i k h b)) days
+    where
+      days : (i k : ℕ) → i < l .traffic .«train_count» → k < legs l i → freeAfter l i k ≤ 2879
+      days i k h b = omega (arith, free-last l i k b, ends i h, train-runnable l i w size h .latest .1)
 
-    free-least : IsLeast 352 (Keeps l free) (replicate 352 0) (freeMinutes l)
-    free-least =
-        record {
-          fit = free-fit;
-          keeps = free-keeps;
-          above = λ e. rw (zeros 352 e) (omega arith);
-          first = λ m′ f k s.
-              let at : (i j : ℕ) → i < l .traffic .«train_count» → j < legs l i → freeAfter l i j ≤ arrival l m′ i j =
-              λ i j h b. no-earlier l m′ i (k .trains i h) j b in
-              bounded (λ x. getD m′ x 0) (λ i j h b. omega (arith, at i j h b, k .trains i h .rule11 j b)) at;
-        }
+  free-low : (m′ : List ℕ) → Keeps l free m′ → freeMinutes l ⊑ m′
+  free-low m′ k =
+      let at : (i j : ℕ) → i < l .traffic .«train_count» → j < legs l i → freeAfter l i j ≤ arrival l m′ i j =
+      λ i j h b. no-earlier l m′ i (k .trains i h) j b in
+      bounded (λ x. getD m′ x 0) (λ i j h b. omega (arith, at i j h b, k .trains i h .rule11 j b)) at
+
+  free-least : WithinDays (freeMinutes l) → IsLeast 352 (Keeps l free) start (freeMinutes l)
+  free-least within =
+      record {
+        fit = record { size = minutes-size l; within = within };
+        keeps = free-keeps;
+        above = start-below (freeMinutes l);
+        first = λ m′ f k s. free-low m′ k;
+      }
 
   pub first-plan : (r : FirstPlan) → r .minutes ≡ freeMinutes l → Decides (FreeInTime l) (r .«in_time») → r .cost ≡ weightedDelay l (r .minutes) → IsFirstPlan l r
   first-plan r e d cost-is =
       record {
-        least = λ t. rw e (free-least (d .yea t));
-        rule13 = λ t i h. rw e (omega (arith, last-free i h, d .yea t i h));
-        cost-is = cost-is;
-        none = λ t m′ f k n. d .nay t (λ i h.
+        carried = λ h. record { least = subst (λ (m : List ℕ). IsLeast 352 (Keeps l free) start m) (sym e) (free-least (rw e at h)); cost-is = cost-is };
+        low = λ m′ k. rw e (free-low m′ k);
+        timely = λ t. (rw e (free-within (d .yea t)), λ i h. rw e (omega (arith, last-free i h, d .yea t i h)));
+        late = λ t m′ f k n. d .nay t (λ i h.
             omega (
               arith,
               n i h,

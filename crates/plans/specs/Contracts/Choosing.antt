@@ -21,7 +21,7 @@ use Rattle.orders.specs.LineTables.Tables.{tablesOf}
 use Rattle.orders.specs.Lift.Lifting.{Alive}
 use Rattle.plans.specs.Instance.Planning.{inTime}
 use Rattle.plans.specs.Contracts.Keys.{keyOf}
-use Rattle.plans.specs.Contracts.Carried.{Carried}
+use Rattle.orders.specs.LeastMinutes.Carried.{Carried}
 use Rattle.plans.specs.Contracts.Tallies.{Tallied}
 use Rattle.plans.specs.Contracts.WaysTold.{Tells}
 use Rattle.plans.specs.declared.tally.Tally.{Tally}

@@ -17,6 +17,8 @@ use Rattle.rules.specs.Conflict.Directions.{directionsOf}
 use Rattle.orders.specs.LeastMinutes.NoLater.{_⊑_}
 use Rattle.orders.specs.LeastMinutes.Least.{Fit, IsLeast}
 use Rattle.orders.specs.LeastMinutes.LeastLaws.{least-afresh}
+use Rattle.orders.specs.LeastMinutes.Carried.{start}
+use Rattle.orders.specs.LeastMinutes.CarriedLaws.{start-below, delay-up}
 use Rattle.orders.specs.Plan.Bits.{inMask}
 use Rattle.orders.specs.Plan.Choices.{Choice, onSegment, atStation}
 use Rattle.orders.specs.Plan.Marks.{Plan, also}
@@ -27,9 +29,7 @@ use Rattle.orders.specs.Graph.LegGraph.{leaving}
 use Rattle.orders.specs.Lift.Lifting.{Alive, Choosing, Follows, Comes, Chose, NoneChosen}
 use Rattle.orders.specs.Graph.LegsLaws.{out-over}
 use Rattle.orders.specs.Outcome.ChoiceLaws.{segment-mark, station-mark, choosing, chosen-least, chosen-low, chosen-none}
-use Rattle.plans.specs.Instance.Planning.{start}
-use Rattle.plans.specs.Instance.PlanningLaws.{delay-up, decides-inTime}
-use Rattle.plans.specs.Instance.LineSearchedLaws.{start-below}
+use Rattle.plans.specs.Instance.PlanningLaws.{decides-inTime}
 use Rattle.plans.specs.Contracts.WaysTold.{legOut}
 use Rattle.plans.specs.Contracts.Choosing.{Chooses, NoRaise, Raises}
 use Rattle.plans.specs.declared.ways.Way.{Way}

@@ -14,6 +14,8 @@ use Rattle.orders.specs.LeastMinutes.NoLater.{slack}
 use Rattle.orders.specs.LeastMinutes.NoLaterLaws.{slack-falls}
 use Rattle.orders.specs.LeastMinutes.Least.{Fit, IsLeast}
 use Rattle.orders.specs.LeastMinutes.LeastLaws.{least-onward}
+use Rattle.orders.specs.LeastMinutes.Carried.{start}
+use Rattle.orders.specs.LeastMinutes.CarriedLaws.{delay-up, delay-low}
 use Rattle.orders.specs.Plan.Bits.{withBit}
 use Rattle.orders.specs.Plan.Choices.{Choice, KeepsChoice}
 use Rattle.orders.specs.Plan.Marks.{Plan, also}
@@ -27,10 +29,8 @@ use Rattle.plans.specs.Theory.Problem.{rank}
 use Rattle.plans.specs.Theory.BestSoFar.{nothing, found, Improves}
 use Rattle.plans.specs.Theory.Search.{Under, NoneBetter}
 use Rattle.plans.specs.Theory.SearchLaws.{under-also}
-use Rattle.plans.specs.Instance.Planning.{start, inTime, planning}
-use Rattle.plans.specs.Instance.PlanningLaws.{delay-up}
+use Rattle.plans.specs.Instance.Planning.{inTime, planning}
 use Rattle.plans.specs.Instance.LineSearchedLaws.{planning-laws}
-use Rattle.plans.specs.Contracts.CarriedLaws.{delay-low}
 use Rattle.plans.specs.Contracts.Tallies.{bestOf, cutOf, Tallied}
 use Rattle.plans.specs.Contracts.Choosing.{Tabled, Raisable, Planned, Chooses, NoRaise, RaisesChoice, Raises, IsWay}
 use Rattle.plans.specs.Contracts.TryingLaws.{row-low, second-low, marks-added}

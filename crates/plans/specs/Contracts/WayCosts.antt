@@ -12,7 +12,7 @@ use Rattle.orders.specs.Plan.Marks.{Plan, also}
 use Rattle.orders.specs.Plan.TidyPlans.{Fitting, Tidy}
 use Rattle.orders.specs.LineTables.Tables.{tablesOf}
 use Rattle.orders.specs.Waived.WaivedLine.{waived}
-use Rattle.plans.specs.Contracts.Carried.{Carried, TellsCost}
+use Rattle.orders.specs.LeastMinutes.Carried.{Carried, TellsCost}
 use Rattle.plans.specs.Contracts.WaysTold.{Tells}
 use Rattle.plans.specs.declared.ways.Way.{Way}
 

@@ -1,29 +1,25 @@
 -- Raising over the tables of a line with every latest waived tells what a plan of the line costs: the same minutes keep it, they cost the same, and none are late.
 use Prim.Native.Nat.{ℕ}
-use mathlib.Core.Path.{_≡_, sym, _∙_, subst}
-use mathlib.Core.Bool.{true, false}
+use mathlib.Core.Path.{_≡_, sym, _∙_}
+use mathlib.Core.Bool.{true}
 use mathlib.Core.List.{List}
 use native.Mathlib.Omega.{arith}
 use Rattle.finite.specs.DecideLaws.{is-true}
 use Rattle.line.specs.declared.Line.{Line}
 use Rattle.line.specs.Within.{Arrays}
 use Rattle.line.specs.Runnable.{Runnable}
-use Rattle.orders.specs.declared.first.FirstPlan.{FirstPlan}
-use Rattle.orders.specs.LeastMinutes.Least.{Fit, IsLeast, NoneKeeps}
+use Rattle.orders.specs.LeastMinutes.Least.{Fit, NoneKeeps}
 use Rattle.orders.specs.LeastMinutes.LeastLaws.{least-alike}
-use Rattle.orders.specs.LeastMinutes.FirstPlan.{IsFirstPlan}
 use Rattle.orders.specs.Plan.Choices.{Choice}
-use Rattle.orders.specs.Plan.Marks.{Plan, free, also}
+use Rattle.orders.specs.Plan.Marks.{Plan, also}
 use Rattle.orders.specs.Plan.Plans.{Keeps}
 use Rattle.orders.specs.Plan.PlansLaws.{keeps-rest}
-use Rattle.orders.specs.Lift.Lifting.{Alive}
 use Rattle.orders.specs.Waived.WaivedLine.{waived}
 use Rattle.orders.specs.Waived.WaivedLaws.{waived-runnable, waived-arrays, waived-timely, waived-directions, waived-delay, keeps-waived, waived-keeps, fitting-waived, tidy-waived}
-use Rattle.plans.specs.Instance.Planning.{start, inTime}
+use Rattle.plans.specs.Instance.Planning.{inTime}
 use Rattle.plans.specs.Instance.PlanningLaws.{decides-inTime}
-use Rattle.plans.specs.Instance.LineSearchedLaws.{starts, start-below}
-use Rattle.plans.specs.Contracts.Carried.{Carried, TellsCost}
-use Rattle.plans.specs.Contracts.CarriedLaws.{delay-low, tells-cost}
+use Rattle.orders.specs.LeastMinutes.Carried.{start, Carried, TellsCost}
+use Rattle.orders.specs.LeastMinutes.CarriedLaws.{start-below, delay-low, tells-cost}
 use Rattle.plans.specs.Contracts.Choosing.{Chooses, NoRaise, Raises}
 use Rattle.plans.specs.Contracts.WayCosts.{ChoosesWaived}
 use Rattle.plans.specs.declared.ways.Way.{Way}
@@ -45,20 +41,6 @@ module _ (l : Line) (w : Runnable l) (a : Arrays l) where
         least = least-alike 352 (Keeps (waived l) p) (Keeps l p) (waived-keeps l w a p) (keeps-waived l w a p) start m (h .least);
         cost-is = h .cost-is ∙ waived-delay l w a m;
       }
-
-  -- ---- the plan without choices
-
-  -- it has least minutes up to 2,879 exactly where the first plan of the waived line is in time; "their weighted delay" is its own, and not 0
-  module _ (r : FirstPlan) (h : IsFirstPlan (waived l) r) where
-    pub first-carried : r .«in_time» ≡ true → Carried l free (r .minutes) (r .cost)
-    first-carried e =
-        waived-carried free (r .minutes) (r .cost)
-        (record { least = subst (λ (s : List ℕ). IsLeast 352 (Keeps (waived l) free) s (r .minutes)) starts (h .least e); cost-is = h .cost-is })
-
-    pub first-none : r .«in_time» ≡ false → NoneKeeps 352 (Keeps l free) start
-    first-none e m′ z k up = h .none e m′ z (keeps-waived l w a free m′ k) (waived-timely l w a m′ (z .within))
-
--- ---- the plan with a choice more
 
 module _ (l : Line) (c : Choice) (p : Plan) (m marks t ds : List ℕ) (way : Way) (cost : ℕ) (h : ChoosesWaived l c p m marks t ds way cost) where
   pub waived-chooses : Chooses (waived l) c p m marks t ds way cost

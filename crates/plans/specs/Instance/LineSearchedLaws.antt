@@ -1,11 +1,9 @@
 -- The timetables of a line within the limits have the laws that a search relies on; so what a search of everything finds is the timetable that demand 3
 -- asks for, and where it finds nothing there is none.
 use Prim.Native.Nat.{ℕ}
-use mathlib.Core.Path.{_≡_, refl}
+use mathlib.Core.Path.{_≡_}
 use mathlib.Core.Bool.{true}
 use mathlib.Core.List.{List}
-use native.Mathlib.Omega.{arith}
-use lib.ListN.{getD, replicate, length-replicate}
 use Rattle.finite.specs.DecideLaws.{is-true}
 use Rattle.line.specs.declared.Line.{Line}
 use Rattle.line.specs.Within.{Within, Arrays}
@@ -16,39 +14,25 @@ use Rattle.rules.specs.Conflict.Conflicts.{conflictOf}
 use Rattle.rules.specs.Statement.Delay.{Same, Best}
 use Rattle.rules.specs.Check.ExactLaws.{clear-of}
 use Rattle.rules.specs.StatementLaws.SameLaws.{same-sym, same-trans, lawful-same}
-use Rattle.orders.specs.LeastMinutes.NoLater.{_⊑_}
 use Rattle.orders.specs.LeastMinutes.Least.{Fit}
 use Rattle.orders.specs.Plan.Marks.{Plan, free}
-use Rattle.orders.specs.Plan.MarksLaws.{zeros, free-marked}
+use Rattle.orders.specs.Plan.MarksLaws.{free-marked}
 use Rattle.orders.specs.Plan.Plans.{Keeps}
 use Rattle.orders.specs.Plan.PlansLaws.{keeps-rest}
 use Rattle.orders.specs.LeastMinutes.PlanArcs.{departsAt, arrivesAt}
 use Rattle.orders.specs.LeastMinutes.PlanArcsLaws.{least-is, least-none}
+use Rattle.orders.specs.LeastMinutes.CarriedLaws.{start-below, start-fit, delay-up}
 use Rattle.plans.specs.Theory.Problem.{Laws}
 use Rattle.plans.specs.Theory.BestSoFar.{nothing, found}
 use Rattle.plans.specs.Theory.Search.{Searched}
 use Rattle.plans.specs.Theory.SearchLaws.{searched-whole, answer-only}
 use Rattle.plans.specs.Conflict.WaysLaws.{ways-none}
 use Rattle.plans.specs.Conflict.SplitsLaws.{lowest-splits}
-use Rattle.plans.specs.Instance.Planning.{start, inTime, planning}
-use Rattle.plans.specs.Instance.PlanningLaws.{delay-up, departures-up, decides-inTime, inTime-down, told-apart, better-preferred}
+use Rattle.plans.specs.Instance.Planning.{inTime, planning}
+use Rattle.plans.specs.Instance.PlanningLaws.{departures-up, decides-inTime, inTime-down, told-apart, better-preferred}
 use Rattle.plans.specs.Instance.PreferredLaws.{preferred-same}
 use Rattle.plans.specs.Instance.TidyMinutes.{tidyMinutes}
 use Rattle.plans.specs.Instance.TidyMinutesLaws.{tidy-same, tidy-fit}
-
-pub starts : replicate 352 0 ≡ start
-unfolding start
-starts = refl
-
-start-zero : (e : ℕ) → getD start e 0 ≡ 0
-unfolding start
-start-zero e = zeros 352 e
-
-pub start-below : (m : List ℕ) → start ⊑ m
-start-below m e = omega (arith, start-zero e)
-
-pub start-fit : Fit 352 start
-start-fit = record { size = unfold start in length-replicate {A = ℕ} 352 0; within = λ e. omega (arith, start-zero e) }
 
 module _ (l : Line) (w : Within l) (a : Arrays l) where
   lawful-keeps : (m : List ℕ) → Lawful l m → Keeps l free m

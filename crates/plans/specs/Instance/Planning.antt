@@ -2,7 +2,6 @@
 use Prim.Native.Nat.{ℕ, _/_, _%_}
 use mathlib.Core.Bool.{Bool, cond, _&&_}
 use mathlib.Core.List.{List}
-use lib.ListN.{replicate}
 use lib.Dec.{ltb}
 use Rattle.finite.specs.Below.{all, table}
 use Rattle.line.specs.declared.Line.{Line}
@@ -14,12 +13,9 @@ use Rattle.orders.specs.Plan.Choices.{Choice}
 use Rattle.orders.specs.Plan.Marks.{Plan, free, also}
 use Rattle.orders.specs.Plan.Plans.{Keeps}
 use Rattle.orders.specs.LeastMinutes.PlanArcs.{least}
+use Rattle.orders.specs.LeastMinutes.Carried.{start}
 use Rattle.plans.specs.Theory.Problem.{Problem}
 use Rattle.plans.specs.Conflict.Ways.{ways}
-
--- all minutes 0
-unfoldable pub start : List ℕ
-start = replicate 352 0
 
 -- number k of train i is compared
 unfoldable pub isLeg : Line → ℕ → ℕ → Bool

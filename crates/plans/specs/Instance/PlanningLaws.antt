@@ -1,4 +1,4 @@
--- The laws of weighted delay, departures and rule 13 as minutes rise, and what it is to be better in the words of document 01.
+-- The laws of departures and rule 13 as minutes rise, and what it is to be better in the words of document 01.
 use Prim.Native.Nat.{ℕ, zero, suc, _+_, _*_, _-_, _/_, _%_, _≤_, _<_}
 use mathlib.Core.Path.{_≡_, refl, sym, _∙_, ap}
 use mathlib.Core.Logic.{inl, inr, ⊎-elim}
@@ -17,9 +17,9 @@ use Rattle.line.specs.RunnableLaws.{within-runnable}
 use Rattle.rules.specs.Statement.Paths.{train, legs, EachTrain}
 use Rattle.rules.specs.Statement.Minutes.{departure}
 use Rattle.rules.specs.Statement.Rules.{NotLate}
-use Rattle.rules.specs.Statement.Delay.{weightedDelay, Same, compared, Earlier, Preferred}
+use Rattle.rules.specs.Statement.Delay.{Same, compared, Earlier, Preferred}
 use Rattle.rules.specs.StatementLaws.PathsLaws.{legs-few, routed}
-use Rattle.rules.specs.Check.RulesLaws.{delay-grows, decides-13}
+use Rattle.rules.specs.Check.RulesLaws.{decides-13}
 use Rattle.orders.specs.LeastMinutes.NoLater.{_⊑_}
 use Rattle.orders.specs.LeastMinutes.PlanArcs.{departsAt, arrivesAt}
 use Rattle.plans.specs.Theory.Ranking.{Ahead}
@@ -30,9 +30,6 @@ use Rattle.plans.specs.Instance.Planning.{isLeg, departures, inTime, pla
 -- ---- as minutes rise
 
 module _ (l : Line) where
-  pub delay-up : (m m′ : List ℕ) → m ⊑ m′ → weightedDelay l m ≤ weightedDelay l m′
-  delay-up m m′ h = delay-grows l m m′ (λ i _. h (arrivesAt l i (legs l i - 1)))
-
   entry-up : (b : Bool) (x y : ℕ) → x ≤ y → cond b x 0 ≤ cond b y 0
   entry-up true x y h = h
   entry-up false x y h = omega arith

@@ -29,7 +29,7 @@ use Rattle.plans.specs.Contracts.Keys.{betterBy}
 use Rattle.plans.specs.Contracts.Tallies.{bestOf, cutOf, cutOff, Tallied}
 use Rattle.plans.specs.Contracts.Choosing.{Planned, Given, NoRaise, RaisesChoice, IsWay}
 use Rattle.plans.specs.Contracts.TryingLaws.{put-back}
-use Rattle.plans.specs.Contracts.CarriedLaws.{delay-low}
+use Rattle.orders.specs.LeastMinutes.CarriedLaws.{delay-low}
 use Rattle.plans.specs.Contracts.NextPlansLaws.{cut-low, recounted, recounted-best, none-raised, way-added, way-raises, way-least, next-planned}
 use Rattle.plans.specs.Contracts.GivenLaws.{told}
 use Rattle.plans.specs.declared.tally.Tally.{Tally}

@@ -7,9 +7,11 @@ use borrow.Author.Needs.{needs}
 use borrow.Author.Tests.{not-true, not-false}
 use lib.ListN.{replicate}
 use Rattle.line.specs.RunnableLaws.{within-runnable}
-use Rattle.orders.specs.LeastMinutes.Least.{IsLeast}
+use Rattle.rules.specs.Statement.Paths.{EachTrain}
+use Rattle.rules.specs.Statement.Rules.{NotLate}
+use Rattle.orders.specs.LeastMinutes.NoLater.{WithinDays}
+use Rattle.orders.specs.LeastMinutes.Carried.{Carried}
 use Rattle.orders.specs.Plan.Marks.{free}
-use Rattle.orders.specs.Plan.Plans.{Keeps}
 use Rattle.plans.specs.declared.found.Found.{Found}
 use Rattle.plans.specs.Contracts.FoundBest.{Finds}
 use Rattle.plans.specs.Contracts.FirstLaws.{first-given, first-under}
@@ -27,7 +29,7 @@ found-of-requires c κs = search needs
 returns : tie.Need-returns
 returns c =
     let a = c .before .before .before .before in
-    let late = c .before .before .before .first-minutes .ensures .none (not-true _ (c .before .if1 .taken)) in
+    let late = c .before .before .before .first-minutes .ensures .late (not-true _ (c .before .if1 .taken)) in
     let nothing = finds-nothing (a .args .line) (a .pre .0) (a .pre .1) late (record { found = false; delay = 0; steps = 0 }) (replicate 352 0) refl in
     subst (λ (r : Found). Finds (a .args .line) r × (r .steps ≡ 0)) (sym (c .found-of .ensures)) (nothing, refl)
 
@@ -50,9 +52,12 @@ laid c = c .before .before .before .before .before
 abbrev firstly : tie.After-key → tie.After-first-minutes
 firstly c = laid c .before .before .before .before .before .before .before
 
-least : (c : tie.After-key) →
-    IsLeast 352 (Keeps (firstly c .before .args .line) free) (replicate 352 0) (firstly c .first-minutes .result .minutes)
-least c = firstly c .first-minutes .ensures .least (not-false _ (laid c .before .before .before .before .before .if1 .left))
+timely : (c : tie.After-key) →
+    WithinDays (firstly c .first-minutes .result .minutes) × EachTrain (firstly c .before .args .line) (NotLate (firstly c .before .args .line) (firstly c .first-minutes .result .minutes))
+timely c = firstly c .first-minutes .ensures .timely (not-false _ (laid c .before .before .before .before .before .if1 .left))
+
+carried : (c : tie.After-key) → Carried (firstly c .before .args .line) free (firstly c .first-minutes .result .minutes) (firstly c .first-minutes .result .cost)
+carried c = firstly c .first-minutes .ensures .carried (timely c .0)
 
 first : (c : tie.After-key) →
     FirstHeld (firstly c .before .args .line) (firstly c .first-minutes .result .minutes) (replicate 352 0)
@@ -60,13 +65,11 @@ first : (c : tie.After-key) →
     (laid c .layout-of .result) (firstly c .first-minutes .result .cost) (record { found = false; delay = 0; steps = 0 })
 first c =
     let a = firstly c .before in
-    let timely = not-false _ (laid c .before .before .before .before .before .if1 .left) in
     record {
       given =
-          first-given (a .args .line) (a .pre .0) (a .pre .1) _ (least c) (firstly c .first-minutes .ensures .rule13 timely)
-          _ (firstly c .first-minutes .ensures .cost-is) _ _ _ _ (laid c .before .before .before .tables-of .ensures)
+          first-given (a .args .line) (a .pre .0) (a .pre .1) _ _ (carried c) (timely c .1) _ _ _ _ (laid c .before .before .before .tables-of .ensures)
           (laid c .before .before .directions-of .ensures) (laid c .before .key-of .ensures) (laid c .layout-of .ensures) _ refl (omega arith);
-      under = first-under (a .args .line) (a .pre .0) (a .pre .1) _ (least c);
+      under = first-under (a .args .line) (a .pre .0) (a .pre .1) _ _ (carried c);
     }
 
 search-whole-requires : tie.Need-search-whole-requires

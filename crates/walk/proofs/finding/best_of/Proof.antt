@@ -6,9 +6,11 @@ use borrow.Author.Needs.{needs}
 use borrow.Author.Tests.{not-true, not-false}
 use lib.ListN.{replicate}
 use Rattle.line.specs.RunnableLaws.{within-runnable}
-use Rattle.orders.specs.LeastMinutes.Least.{IsLeast}
+use Rattle.rules.specs.Statement.Paths.{EachTrain}
+use Rattle.rules.specs.Statement.Rules.{NotLate}
+use Rattle.orders.specs.LeastMinutes.NoLater.{WithinDays}
+use Rattle.orders.specs.LeastMinutes.Carried.{Carried}
 use Rattle.orders.specs.Plan.Marks.{free}
-use Rattle.orders.specs.Plan.Plans.{Keeps}
 use Rattle.walk.specs.ScanningLaws.{clear-none}
 use Rattle.plans.specs.Contracts.Choosing.{Given}
 use Rattle.plans.specs.Contracts.FirstLaws.{first-given}
@@ -27,7 +29,7 @@ returns : tie.Need-returns
 returns c =
     let a = c .before .before .before .before in
     subst (FindsWalked (a .args .line)) (sym (c .found-of .ensures))
-    (finds-nothing (a .args .line) (a .pre .0) (a .pre .1) (c .before .before .before .first-minutes .ensures .none (not-true _ (c .before .if1 .taken)))
+    (finds-nothing (a .args .line) (a .pre .0) (a .pre .1) (c .before .before .before .first-minutes .ensures .late (not-true _ (c .before .if1 .taken)))
     (record { found = false; delay = 0; steps = 1 }) (replicate 352 0) refl refl)
 
 tables-of-requires : tie.Need-tables-of-requires
@@ -49,9 +51,12 @@ laid c = c .before .before .before .before .before .before .before
 abbrev first : tie.After-key → tie.After-first-minutes
 first c = laid c .before .before .before .before .before .before .before
 
-least : (c : tie.After-key) →
-    IsLeast 352 (Keeps (first c .before .args .line) free) (replicate 352 0) (first c .first-minutes .result .minutes)
-least c = first c .first-minutes .ensures .least (not-false _ (laid c .before .before .before .before .before .if1 .left))
+timely : (c : tie.After-key) →
+    WithinDays (first c .first-minutes .result .minutes) × EachTrain (first c .before .args .line) (NotLate (first c .before .args .line) (first c .first-minutes .result .minutes))
+timely c = first c .first-minutes .ensures .timely (not-false _ (laid c .before .before .before .before .before .if1 .left))
+
+carried : (c : tie.After-key) → Carried (first c .before .args .line) free (first c .first-minutes .result .minutes) (first c .first-minutes .result .cost)
+carried c = first c .first-minutes .ensures .carried (timely c .0)
 
 given : (c : tie.After-key) →
     Given (first c .before .args .line) (first c .first-minutes .result .minutes) (replicate 368 0) (replicate 352 0)
@@ -60,9 +65,7 @@ given : (c : tie.After-key) →
 unfolding free
 given c =
     let a = first c .before in
-    let timely = not-false _ (laid c .before .before .before .before .before .if1 .left) in
-    first-given (a .args .line) (a .pre .0) (a .pre .1) _ (least c) (first c .first-minutes .ensures .rule13 timely)
-    _ (first c .first-minutes .ensures .cost-is) _ _ _ _ (laid c .before .before .before .tables-of .ensures)
+    first-given (a .args .line) (a .pre .0) (a .pre .1) _ _ (carried c) (timely c .1) _ _ _ _ (laid c .before .before .before .tables-of .ensures)
     (laid c .before .before .directions-of .ensures) (laid c .before .key-of .ensures) (laid c .layout-of .ensures) _ refl (omega arith)
 
 take-up-requires : tie.Need-take-up-requires
@@ -78,7 +81,7 @@ returns-2 c =
     let b = c .before .before in
     let a = first b .before in
     subst (FindsWalked (a .args .line)) (sym (c .found-of2 .ensures))
-    (finds-walked (a .args .line) (a .pre .0) (a .pre .1) (first b .first-minutes .result .minutes) (least b) (replicate 352 0) refl refl
+    (finds-walked (a .args .line) (a .pre .0) (a .pre .1) (first b .first-minutes .result .minutes) (carried b .least) (replicate 352 0) refl refl
     (c .before .take-up .ensures (a .args .line) (given b)))
 
 pub best-of-spec : {M : Type 1} → statement M

@@ -1,31 +1,52 @@
 -- Laws of what is carried along with a plan: it is what the plan costs, and a lower bound of what any minutes that keep the plan cost.
-use Prim.Native.Nat.{ℕ, _≤_, _<_}
+use Prim.Native.Nat.{ℕ, _-_, _≤_, _<_}
 use mathlib.Core.Path.{_≡_, refl, sym, _∙_, ap}
 use mathlib.Core.List.{List}
 use native.Mathlib.Decide.{ℕ-discrete}
 use native.Mathlib.Omega.{arith}
+use lib.ListN.{getD, length-replicate}
 use Rattle.line.specs.declared.Line.{Line}
 use Rattle.line.specs.Within.{Arrays}
 use Rattle.line.specs.Runnable.{Runnable}
+use Rattle.rules.specs.Statement.Paths.{legs}
 use Rattle.rules.specs.Statement.Delay.{weightedDelay}
-use Rattle.rules.specs.Check.RulesLaws.{cost-most}
+use Rattle.rules.specs.Check.RulesLaws.{cost-most, delay-grows}
+use Rattle.orders.specs.LeastMinutes.NoLater.{_⊑_}
 use Rattle.orders.specs.LeastMinutes.Least.{Least, minutes, none, Fit, IsLeast, NoneKeeps}
 use Rattle.orders.specs.LeastMinutes.LeastLaws.{least-one}
 use Rattle.orders.specs.LeastMinutes.PlanArcs.{departsAt, arrivesAt, least}
 use Rattle.orders.specs.LeastMinutes.PlanArcsLaws.{least-is, least-none}
 use Rattle.orders.specs.Plan.Choices.{Choice}
 use Rattle.orders.specs.Plan.Marks.{Plan, also}
+use Rattle.orders.specs.Plan.MarksLaws.{zeros}
 use Rattle.orders.specs.Plan.Plans.{Keeps}
 use Rattle.orders.specs.Plan.PlansLaws.{keeps-rest}
 use Rattle.orders.specs.Lift.Lifting.{Alive}
-use Rattle.plans.specs.Instance.Planning.{start}
-use Rattle.plans.specs.Instance.PlanningLaws.{delay-up}
-use Rattle.plans.specs.Instance.LineSearchedLaws.{start-below, start-fit}
-use Rattle.plans.specs.Contracts.Carried.{Carried, costOf, planCost, TellsCost}
+use Rattle.orders.specs.LeastMinutes.Carried.{start, Carried, costOf, planCost, TellsCost}
+
+-- ---- where least minutes are sought from
+
+start-zero : (e : ℕ) → getD start e 0 ≡ 0
+unfolding start
+start-zero e = zeros 352 e
+
+pub start-below : (m : List ℕ) → start ⊑ m
+start-below m e = omega (arith, start-zero e)
+
+pub start-fit : Fit 352 start
+start-fit = record { size = unfold start in length-replicate {A = ℕ} 352 0; within = λ e. omega (arith, start-zero e) }
+
+-- ---- weighted delay
+
+-- it does not fall as minutes rise
+pub delay-up : (l : Line) (m m′ : List ℕ) → m ⊑ m′ → weightedDelay l m ≤ weightedDelay l m′
+delay-up l m m′ h = delay-grows l m m′ (λ i _. h (arrivesAt l i (legs l i - 1)))
 
 -- no minutes cost as much as the answer that there are none
 pub delay-low : (l : Line) → Runnable l → (m : List ℕ) → Fit 352 m → weightedDelay l m < 4294967295
 delay-low l w m z = omega (arith, cost-most l m w (λ i _ k _. (z .within (departsAt l i k), z .within (arrivesAt l i k))), w .trains .1)
+
+-- ---- what is carried
 
 module _ (l : Line) (p : Plan) (m : List ℕ) (cost : ℕ) (h : Carried l p m cost) where
   -- whatever keeps the plan costs as much or more

@@ -2,14 +2,18 @@
 use Prim.Native.Nat.{ℕ}
 use mathlib.Core.Path.{_≡_}
 use mathlib.Core.List.{List}
+use lib.ListN.{replicate}
 use Rattle.line.specs.declared.Line.{Line}
 use Rattle.rules.specs.Statement.Delay.{weightedDelay}
 use Rattle.orders.specs.LeastMinutes.Least.{Least, minutes, none, IsLeast}
 use Rattle.orders.specs.LeastMinutes.PlanArcs.{least}
 use Rattle.orders.specs.Plan.Marks.{Plan}
 use Rattle.orders.specs.Plan.Plans.{Keeps}
 use Rattle.orders.specs.Lift.Lifting.{Alive}
-use Rattle.plans.specs.Instance.Planning.{start}
+
+-- all minutes 0, from which on the least are sought
+unfoldable pub start : List ℕ
+start = replicate 352 0
 
 -- "A plan is a set of .. choices with the least minutes that meet them and rules 10 to 12": the least of all from 0 on, whatever plan it was made from. "At every
 -- plan with least minutes up to 2,879 the carried sum is shown to be their weighted delay", also where they break rule 13 or cost more than the best so far.
