@@ -26,7 +26,7 @@ use Rattle.plans.specs.Contracts.Tallies.{bestOf, cutOf, cutOff, Tallied}
 use Rattle.plans.specs.Contracts.Choosing.{Planned, NoRaise}
 use Rattle.walk.specs.Taking.{takenUp, Walks, planPart, wayPart, waysPart}
 use Rattle.walk.specs.TakingLaws.{taken-up, taken-none, taken-some, taken-cut, taken-clear, taken-split, none-more, more-best, more-steps}
-use Rattle.orders.specs.LeastMinutes.CarriedLaws.{delay-low}
+use Rattle.orders.specs.LeastMinutes.CarriedLaws.{delay-most}
 use Rattle.plans.specs.Contracts.NextPlansLaws.{recounted, recounted-best, raise-none}
 use Rattle.walk.specs.ProblemLaws.{least-found}
 use Rattle.plans.specs.Instance.LineSearchedLaws.{planning-laws}
@@ -79,7 +79,7 @@ module _ (l : Line) (w : Within l) (a : Arrays l) (m marks best : List ℕ) (cos
     tallied = record {
       size = rw same (g .carried .least .fit .size);
       delay-is = λ _. rw same (g .carried .cost-is);
-      delay-low = λ _. omega (arith, g .carried .cost-is, delay-low l (within-runnable l w) m (g .carried .least .fit));
+      delay-low = λ _. omega (arith, g .carried .cost-is, delay-most l (within-runnable l w) m (g .carried .least .fit));
       steps-low = t .steps-low;
     };
     best-is = λ fuel h. ap found same ∙ sym (ap (λ (x : Walked). x .best) (taken fuel));

@@ -1,5 +1,5 @@
 -- Laws of what is carried along with a plan: it is what the plan costs, and a lower bound of what any minutes that keep the plan cost.
-use Prim.Native.Nat.{ℕ, _-_, _≤_, _<_}
+use Prim.Native.Nat.{ℕ, _-_, _≤_}
 use mathlib.Core.Path.{_≡_, refl, sym, _∙_, ap}
 use mathlib.Core.List.{List}
 use native.Mathlib.Decide.{ℕ-discrete}
@@ -42,9 +42,9 @@ start-fit = record { size = unfold start in length-replicate {A = ℕ} 352 0; wi
 pub delay-up : (l : Line) (m m′ : List ℕ) → m ⊑ m′ → weightedDelay l m ≤ weightedDelay l m′
 delay-up l m m′ h = delay-grows l m m′ (λ i _. h (arrivesAt l i (legs l i - 1)))
 
--- no minutes cost as much as the answer that there are none
-pub delay-low : (l : Line) → Runnable l → (m : List ℕ) → Fit 352 m → weightedDelay l m < 4294967295
-delay-low l w m z = omega (arith, cost-most l m w (λ i _ k _. (z .within (departsAt l i k), z .within (arrivesAt l i k))), w .trains .1)
+-- no minutes cost more than 12 trains of weight 99 that are 2,879 minutes late
+pub delay-most : (l : Line) → Runnable l → (m : List ℕ) → Fit 352 m → weightedDelay l m ≤ 3420252
+delay-most l w m z = omega (arith, cost-most l m w (λ i _ k _. (z .within (departsAt l i k), z .within (arrivesAt l i k))), w .trains .1)
 
 -- ---- what is carried
 
@@ -95,5 +95,5 @@ module _ (l : Line) (w : Runnable l) (a : Arrays l) (p : Plan) where
         go : (x : Least) → least l p start ≡ x → NoneKeeps 352 (Keeps l p) start
         go (minutes n′) q =
             let told : weightedDelay l n′ ≡ 4294967295 = sym (ap (costOf l) q) ∙ sym (h .cost-is) ∙ e in
-            absurd (omega (arith, delay-low l w n′ (least-is l w a p start n′ start-fit q .fit), told))
+            absurd (omega (arith, delay-most l w n′ (least-is l w a p start n′ start-fit q .fit), told))
         go none q = least-none l w a p start start-fit q

@@ -15,7 +15,7 @@ use Rattle.orders.specs.LeastMinutes.NoLaterLaws.{slack-falls}
 use Rattle.orders.specs.LeastMinutes.Least.{Fit, IsLeast}
 use Rattle.orders.specs.LeastMinutes.LeastLaws.{least-onward}
 use Rattle.orders.specs.LeastMinutes.Carried.{start}
-use Rattle.orders.specs.LeastMinutes.CarriedLaws.{delay-up, delay-low}
+use Rattle.orders.specs.LeastMinutes.CarriedLaws.{delay-up, delay-most}
 use Rattle.orders.specs.Plan.Bits.{withBit}
 use Rattle.orders.specs.Plan.Choices.{Choice, KeepsChoice}
 use Rattle.orders.specs.Plan.Marks.{Plan, also}
@@ -70,7 +70,7 @@ module _ (l : Line) (w : Within l) (a : Arrays l) where
 
       go : (b : Bool) → y .found ≡ b → Improves (planning l) n (cond b (found best) nothing) → weightedDelay l n ≤ cond b (y .delay) 4294967294
       go true e h = omega (arith, t .delay-is e, first (h .place) h refl)
-      go false e h = omega (arith, delay-low l (within-runnable l w) n z)
+      go false e h = omega (arith, delay-most l (within-runnable l w) n z)
 
   -- ---- a choice more
 

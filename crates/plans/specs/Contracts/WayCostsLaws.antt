@@ -1,5 +1,5 @@
 -- Raising over the tables of a line with every latest waived tells what a plan of the line costs: the same minutes keep it, they cost the same, and none are late.
-use Prim.Native.Nat.{ℕ}
+use Prim.Native.Nat.{ℕ, _≤_}
 use mathlib.Core.Path.{_≡_, sym, _∙_}
 use mathlib.Core.Bool.{true}
 use mathlib.Core.List.{List}
@@ -8,6 +8,7 @@ use Rattle.finite.specs.DecideLaws.{is-true}
 use Rattle.line.specs.declared.Line.{Line}
 use Rattle.line.specs.Within.{Arrays}
 use Rattle.line.specs.Runnable.{Runnable}
+use Rattle.rules.specs.Statement.Delay.{weightedDelay}
 use Rattle.orders.specs.LeastMinutes.Least.{Fit, NoneKeeps}
 use Rattle.orders.specs.LeastMinutes.LeastLaws.{least-alike}
 use Rattle.orders.specs.Plan.Choices.{Choice}
@@ -19,7 +20,7 @@ use Rattle.orders.specs.Waived.WaivedLaws.{waived-runnable, waived-arrays, waiv
 use Rattle.plans.specs.Instance.Planning.{inTime}
 use Rattle.plans.specs.Instance.PlanningLaws.{decides-inTime}
 use Rattle.orders.specs.LeastMinutes.Carried.{start, Carried, TellsCost}
-use Rattle.orders.specs.LeastMinutes.CarriedLaws.{start-below, delay-low, tells-cost}
+use Rattle.orders.specs.LeastMinutes.CarriedLaws.{start-below, tells-cost}
 use Rattle.plans.specs.Contracts.Choosing.{Chooses, NoRaise, Raises}
 use Rattle.plans.specs.Contracts.WayCosts.{ChoosesWaived}
 use Rattle.plans.specs.declared.ways.Way.{Way}
@@ -64,9 +65,11 @@ module _ (l : Line) (c : Choice) (p : Plan) (m marks t ds : List ℕ) (way : Way
         told = h .told;
       }
 
-  pub raises-tells : (n : List ℕ) (r : ℕ) → Raises (waived l) c p m 4294967294 n r → TellsCost l (also c p) n r
+  -- where the cut cuts nothing off
+  pub raises-tells : (cut : ℕ) → ((m′ : List ℕ) → Fit 352 m′ → weightedDelay l m′ ≤ cut) → (n : List ℕ) (r : ℕ) → Raises (waived l) c p m cut n r →
+      TellsCost l (also c p) n r
   unfolding NoRaise
-  raises-tells n r k =
+  raises-tells cut all n r k =
       tells-cost l (h .runnable) (h .arrays) (also c p) n r (λ v. waived-carried l (h .runnable) (h .arrays) (also c p) n r (k .carried v)) none
     where
       none : r ≡ 4294967295 → NoneKeeps 352 (Keeps l (also c p)) start
@@ -74,4 +77,4 @@ module _ (l : Line) (c : Choice) (p : Plan) (m marks t ds : List ℕ) (way : Way
           k .none e m′ z (keeps-waived l (h .runnable) (h .arrays) (also c p) m′ q)
           (h .carried .least .first m′ z (keeps-rest l c p m′ q) (start-below m′))
           (in-time l (h .runnable) (h .arrays) m′ z)
-          (omega (arith, waived-delay l (h .runnable) (h .arrays) m′, delay-low l (h .runnable) m′ z))
+          (omega (arith, waived-delay l (h .runnable) (h .arrays) m′, all m′ z))

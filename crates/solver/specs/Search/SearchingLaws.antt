@@ -29,7 +29,7 @@ use Rattle.plans.specs.Contracts.Keys.{betterBy}
 use Rattle.plans.specs.Contracts.Tallies.{bestOf, cutOf, cutOff, Tallied}
 use Rattle.plans.specs.Contracts.Choosing.{Planned, Given, NoRaise, RaisesChoice, IsWay}
 use Rattle.plans.specs.Contracts.TryingLaws.{put-back}
-use Rattle.orders.specs.LeastMinutes.CarriedLaws.{delay-low}
+use Rattle.orders.specs.LeastMinutes.CarriedLaws.{delay-most}
 use Rattle.plans.specs.Contracts.NextPlansLaws.{cut-low, recounted, recounted-best, none-raised, way-added, way-raises, way-least, next-planned}
 use Rattle.plans.specs.Contracts.GivenLaws.{told}
 use Rattle.plans.specs.declared.tally.Tally.{Tally}
@@ -99,7 +99,7 @@ module _ (l : Line) (m marks best t ds key : List ℕ) (layout : Layout) (cost l
           tallied = record {
             size = rw same (p .carried .least .fit .size);
             delay-is = λ _. rw same (p .carried .cost-is);
-            delay-low = λ _. omega (arith, p .carried .cost-is, delay-low l (within-runnable l w) m (p .carried .least .fit));
+            delay-low = λ _. omega (arith, p .carried .cost-is, delay-most l (within-runnable l w) m (p .carried .least .fit));
             steps-low = g .tallied .steps-low;
           };
           steps-rise = omega arith;
