@@ -35,6 +35,8 @@ mod booking_examples;
 #[cfg(test)]
 mod booking_readings;
 #[cfg(test)]
+mod carried_examples;
+#[cfg(test)]
 mod due_examples;
 #[cfg(test)]
 mod due_readings;
