@@ -2,8 +2,8 @@
 
 use crate::rules::free_arrival;
 use crate::test_texts::{a_and, has_none, line, minutes_checked, planned_refused, plans};
-use crate::test_texts::{refused, with, ROWS_A, TIMETABLE_A};
-use crate::walk::{plan_by_walk, solve};
+use crate::test_texts::{refused, walked, with, ROWS_A, TIMETABLE_A};
+use crate::walk::plan_by_walk;
 use crate::{check, Refusal};
 
 #[test]
@@ -148,7 +148,7 @@ fn a_refused_section_comes_before_the_timetable() {
 /// Worked by hand: the plan without choices, and the ways out of each conflict.
 #[test]
 fn the_lengths_of_the_walks() {
-    let length = |section: &str| solve(&line(a_and(section))).plans;
+    let length = |section: &str| walked(a_and(section)).plans;
     // As file A, or with the crossing booked away: train 2 stays at station 2 until train 1 is through.
     assert_eq!(length("1\n1 2 20\n"), 3);
     assert_eq!(length("1\n2 2 24\n"), 1);

@@ -2,8 +2,7 @@
 
 use crate::rules::{free_arrival, weighted_delay};
 use crate::test_texts::{a_and, has_none, line, minutes, minutes_checked, planned_refused, plans};
-use crate::test_texts::{refused, with, FILE_A, ROWS_A, TIMETABLE_A};
-use crate::walk::solve;
+use crate::test_texts::{refused, walked, with, FILE_A, ROWS_A, TIMETABLE_A};
 use crate::{check, timetable, Refusal};
 
 /// The other timetable of file A: train 2 goes through, and train 1 waits for it at station 1.
@@ -166,7 +165,7 @@ fn the_greatest_total() {
     let file = format!("{track}12\n{trains}{}", due(&dues));
     let row: &[u16] = &[2878, 2879];
     plans(&file, 3_420_252, &[row; 12]);
-    assert_eq!(solve(&line(&file)).plans, 1);
+    assert_eq!(walked(&file).plans, 1);
 }
 
 #[test]
@@ -183,7 +182,7 @@ fn a_refused_section_comes_before_the_timetable() {
 /// Worked by hand: the plan without choices, and both ways out of its conflict.
 #[test]
 fn the_lengths_of_the_walks() {
-    let length = |dues: &[(u16, u16)]| solve(&line(a_due(dues))).plans;
+    let length = |dues: &[(u16, u16)]| walked(a_due(dues)).plans;
     for dues in [&[(1, 0)][..], &[(1, 74)], &[(2, 39)], &[(1, 0), (2, 0)]] {
         assert_eq!(length(dues), 3);
     }
@@ -192,5 +191,5 @@ fn the_lengths_of_the_walks() {
     let alike = "2\n1\n1\n1\nS 1 1\n3\n".to_string() + &"1 2 0 99 1 5\n".repeat(3);
     let late = format!("{alike}{}", due(&[(1, 99), (2, 99), (3, 99)]));
     plans(&late, 0, &[&[0, 5], &[6, 11], &[12, 17]]);
-    assert_eq!(solve(&line(&late)).plans, 7);
+    assert_eq!(walked(&late).plans, 7);
 }

@@ -4,8 +4,8 @@
 use crate::exhaustive::{best, plan, Unplanned, WorkLimit};
 use crate::rules::{first_breach, weighted_delay};
 use crate::search::{plan_by_search, search};
-use crate::test_texts::{line, minutes, minutes_checked, refused};
-use crate::walk::{plan_by_walk, solve};
+use crate::test_texts::{line, minutes, minutes_checked, refused, walked};
+use crate::walk::plan_by_walk;
 use crate::{check, timetable, Refusal, FILE_BYTES};
 
 const WORK: u64 = 1_000_000;
@@ -26,7 +26,7 @@ fn plans(file: &[u8], sample: &[u8], total: u32, rows: &[&[u16]]) {
     assert_eq!(best(&line(file), WORK), Ok(Some(expected)));
     assert_eq!(weighted_delay(&line(file), &expected), total);
     assert_eq!(plan(file, WORK).as_deref(), Ok(sample));
-    assert_eq!(solve(&line(file)).best, Some(expected));
+    assert_eq!(walked(file).best, Some(expected));
     assert_eq!(plan_by_walk(file).as_deref(), Ok(sample));
     assert_eq!(search(&line(file)).best, Some(expected));
     assert_eq!(plan_by_search(file).as_deref(), Ok(sample));
@@ -42,7 +42,7 @@ fn has_none(file: &[u8], sample: &[u8]) {
     };
     assert_eq!(best(&line(file), WORK), Ok(None));
     assert_eq!(plan(file, WORK), Err(Unplanned::Refused(refusal)));
-    assert_eq!(solve(&line(file)).best, None);
+    assert_eq!(walked(file).best, None);
     assert_eq!(plan_by_walk(file), Err(refusal));
     assert_eq!(search(&line(file)).best, None);
     assert_eq!(plan_by_search(file), Err(refusal));
@@ -181,7 +181,7 @@ fn document_003() {
 /// Worked by hand: the plan without choices, and the ways out of each conflict.
 #[test]
 fn the_lengths_of_the_walks() {
-    let length = |file| solve(&line(file)).plans;
+    let length = |file| walked(file).plans;
     assert_eq!(length(FILE_A), 3);
     // Train 1 first on segment 1 (2). There train 1 leaves station 2 before train 2 arrives (3), with
     // its two orders on segment 2 (4, and 5 without least minutes), or train 2 leaves before train 1

@@ -1,18 +1,19 @@
 //! Line files and timetables in plain Rust, from the scope document and the change requests alone:
 //! reading and writing, the rules, the check, a planner that tries every order, one that walks through
-//! plans, and one that searches through them.
+//! plans, the same walk with each plan worked out afresh, and one that searches through plans.
 //!
 //! Nothing here comes from the proved crates or calls them: the tests compare the two, so a mistake
 //! has to be made twice to pass. The readers, the writers and the check allocate nothing (only
 //! [`write()`] and [`timetable::write`] hand out a vector), so the benchmark can compare times as well.
-//! The planner of [`exhaustive`] is made to be believed, not to be fast. Those of [`walk`] and [`search`]
-//! are made to be fast; the walk takes up the same plans as the proved one.
+//! The planners of [`exhaustive`] and [`afresh`] are made to be believed, not to be fast. Those of [`walk`] and
+//! [`search`] are made to be fast. Both walks take up the same plans as the proved one.
 
 #![forbid(unsafe_code)]
 
 use std::fmt;
 use std::ops::Range;
 
+pub mod afresh;
 pub mod exhaustive;
 pub mod plans;
 pub mod rules;
@@ -33,6 +34,8 @@ mod writer;
 mod booking_examples;
 #[cfg(test)]
 mod booking_readings;
+#[cfg(test)]
+mod carried_examples;
 #[cfg(test)]
 mod due_examples;
 #[cfg(test)]

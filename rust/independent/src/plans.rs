@@ -100,10 +100,14 @@ impl Plans {
         }
     }
 
-    /// What was found by now.
+    /// What was found by now. The delay that was carried to the best is held to that of its minutes.
     pub(crate) fn found(&self, line: &Line) -> Found {
+        let best = self.best.as_ref().map(|best| minutes(line, best));
+        if let Some(best) = &best {
+            assert_eq!(self.best_delay, weighted_delay(line, best));
+        }
         Found {
-            best: self.best.as_ref().map(|best| minutes(line, best)),
+            best,
             plans: self.taken_up,
         }
     }

@@ -1,7 +1,9 @@
 //! What the tests of this crate share: file A and the longest file, refusals, texts with a line replaced,
 //! minutes put to the check, what the planners find, records that are not written.
 
+use crate::afresh::walk_within;
 use crate::exhaustive::{best, plan, Unplanned};
+use crate::plans::Found;
 use crate::rules::{weighted_delay, Minutes};
 use crate::search::{plan_by_search, search};
 use crate::walk::{plan_by_walk, solve};
@@ -59,11 +61,20 @@ pub(crate) fn minutes_checked(file: impl AsRef<[u8]>, rows: &[&[u16]]) -> Result
     check(file, &text)
 }
 
+/// What the walk finds, and how many plans it takes up. The walk afresh does the same.
+pub(crate) fn walked(file: impl AsRef<[u8]>) -> Found {
+    let line = line(file);
+    let walked = solve(&line);
+    let afresh = walk_within(&line, walked.plans).expect("a walk as long");
+    assert_eq!((walked.best, walked.plans), (afresh.best, afresh.plans()));
+    walked
+}
+
 /// Holds that all three planners find `rows`, at this total, and that the check passes them.
 pub(crate) fn plans(file: &str, total: u32, rows: &[&[u16]]) {
     let expected = minutes(file, rows);
     assert_eq!(best(&line(file), WORK), Ok(Some(expected)));
-    assert_eq!(solve(&line(file)).best, Some(expected));
+    assert_eq!(walked(file).best, Some(expected));
     assert_eq!(search(&line(file)).best, Some(expected));
     assert_eq!(weighted_delay(&line(file), &expected), total);
     let text = timetable::write(&line(file), &expected);
