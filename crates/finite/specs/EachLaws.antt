@@ -1,6 +1,6 @@
--- Laws of what holds of each element of a list.
+-- Laws of what holds of each element of a list, and of the list of what a function makes of each.
 use Prim.Native.Nat.{ℕ, zero, suc, _<_, _≤_}
-use mathlib.Core.Path.{_≡_, refl, sym, subst}
+use mathlib.Core.Path.{_≡_, refl, sym, ap, subst}
 use mathlib.Core.Logic.{_⊎_, inl, inr, ⊎-elim}
 use mathlib.Core.List.{List, [], _∷_, _++_, map, List·Memᴰ, List·Memᴰ·cases-cons, List·Memᴰ·not-nil}
 use native.Mathlib.Omega.{arith}
@@ -27,6 +27,17 @@ each-map P Q f (x ∷ xs) v = (f x (v .0), each-map P Q f xs (v .1))
 pub each-image : {A B : Type 0} (P : B → Type 0) (f : A → B) (xs : List A) → Each (λ x. P (f x)) xs → Each P (map f xs)
 each-image P f [] v = tt
 each-image P f (x ∷ xs) v = (v .0, each-image P f xs (v .1))
+
+-- its element i, if there is one, whatever stands past the last
+pub map-at : {A B : Type 0} (f : A → B) (xs : List A) (i : ℕ) (d : A) (e : B) → i < length xs → getD (map f xs) i e ≡ f (getD xs i d)
+map-at f [] i d e h = absurd (omega arith)
+map-at f (x ∷ xs) zero d e h = refl
+map-at f (x ∷ xs) (suc i) d e h = map-at f xs i d e (omega arith)
+
+pub take-map : {A B : Type 0} (f : A → B) (n : ℕ) (xs : List A) → take n (map f xs) ≡ map f (take n xs)
+take-map f zero xs = refl
+take-map f (suc n) [] = refl
+take-map {B = B} f (suc n) (x ∷ xs) = ap (λ (ys : List B). f x ∷ ys) (take-map f n xs)
 
 pub each-append : {A : Type 0} (P : A → Type 0) (xs ys : List A) → Each P xs → Each P ys → Each P (xs ++ ys)
 each-append P [] ys v w = w

@@ -45,19 +45,19 @@ module _ (l : Line) (m marks best t ds key : List ℕ) (layout : Layout) (cost :
     better-told = told l m marks best t ds key layout cost y g r r-is
 
     pub given-cut : not r ≡ true → Walks l m marks y (planPart l m marks best y) marks best y
-    given-cut n = walks-cut l (g .tabled .within) (g .tabled .arrays) m marks best cost y (g .planned) (g .tallied) (better-told ∙ not-true r n)
+    given-cut n = walks-cut l (g .tabled .within) (g .tabled .raisable .arrays) m marks best cost y (g .planned) (g .tallied) (better-told ∙ not-true r n)
 
     module _ (better : not r ≡ false) (conflict : Conflict) (is : conflict ≡ conflictIn layout ds m) (n : ℕ) (n-is : n ≡ wayCount conflict) where
       pub given-clear : n ≡ 0 → (best′ : List ℕ) → best′ ≡ m →
           Walks l m marks y (planPart l m marks best y) marks best′ (record { found = true; delay = cost; steps = y .steps })
       given-clear none best′ same =
-          walks-clear l (g .tabled .within) (g .tabled .arrays) m marks best cost y (g .planned) (g .tallied) (better-told ∙ not-false r better)
+          walks-clear l (g .tabled .within) (g .tabled .raisable .arrays) m marks best cost y (g .planned) (g .tallied) (better-told ∙ not-false r better)
           conflict (conflict-known l m marks best t ds key layout cost y g conflict is) n n-is none best′ same
 
       pub given-split : (n ≡ 0 → ⊥) → (marks′ best′ : List ℕ) (r : Tally) → Walks l m marks y (waysPart l m marks best y conflict n) marks′ best′ r →
           Walks l m marks y (planPart l m marks best y) marks′ best′ r
       given-split some =
-          walks-split l (g .tabled .within) (g .tabled .arrays) m marks best cost y (g .planned) (g .tallied) (better-told ∙ not-false r better)
+          walks-split l (g .tabled .within) (g .tabled .raisable .arrays) m marks best cost y (g .planned) (g .tallied) (better-told ∙ not-false r better)
           conflict (conflict-known l m marks best t ds key layout cost y g conflict is) n n-is some
 
   -- ---- trying the ways: the same is given after some of them
@@ -79,7 +79,7 @@ module _ (l : Line) (m marks best t ds key : List ℕ) (layout : Layout) (cost :
     pub counted-low : (b : Tally) → (b .found ≡ y .found) × (b .delay ≡ y .delay) × (b .steps ≡ cutOff (y .steps + 1)) → (cut : ℕ) → cut ≡ cutOf b →
         cut < 4294967295
     counted-low b counted cut is =
-        let b-tallied = counted-tallied l (g .tabled .within) (g .tabled .arrays) m marks best cost y (g .planned) (g .tallied) c b
+        let b-tallied = counted-tallied l (g .tabled .within) (g .tabled .raisable .arrays) m marks best cost y (g .planned) (g .tallied) c b
         (counted .0) (counted .1) (counted .2) in
         omega (arith, cut-low l best b b-tallied)
 
@@ -87,12 +87,12 @@ module _ (l : Line) (m marks best t ds key : List ℕ) (layout : Layout) (cost :
       module _ (b : Tally) (counted : (b .found ≡ y .found) × (b .delay ≡ y .delay) × (b .steps ≡ cutOff (y .steps + 1))) where
         tallied : Tallied l best b
         tallied =
-            counted-tallied l (g .tabled .within) (g .tabled .arrays) m marks best cost y (g .planned) (g .tallied) c b (counted .0) (counted .1) (counted .2)
+            counted-tallied l (g .tabled .within) (g .tabled .raisable .arrays) m marks best cost y (g .planned) (g .tallied) c b (counted .0) (counted .1) (counted .2)
 
         no-raise : NoRaise l c marks m (cutOf b) →
             Walks l m marks y (wayPart l m marks best y c) (set (set marks (way .row) v) (way .row) (getD marks (way .row) 0)) best b
         no-raise none =
-            walks-dead l (g .tabled .within) (g .tabled .arrays) m marks best cost y (g .planned) (g .tallied) c b (counted .0) (counted .1) (counted .2)
+            walks-dead l (g .tabled .within) (g .tabled .raisable .arrays) m marks best cost y (g .planned) (g .tallied) c b (counted .0) (counted .1) (counted .2)
             none _ (put-back marks (way .row) v)
 
         -- there are no minutes: as a first look shows, or as raising finds
@@ -127,8 +127,9 @@ module _ (l : Line) (m marks best t ds key : List ℕ) (layout : Layout) (cost :
             Walks l n (set marks (way .row) v) b (planPart l n (set marks (way .row) v) best b) marks₂ best₂ z →
             Walks l m marks y (wayPart l m marks best y c) (set marks₂ (way .row) (getD marks (way .row) 0)) best₂ z
         given-alive alive marks₂ best₂ z k =
-            walks-alive l (g .tabled .within) (g .tabled .arrays) m marks best cost y (g .planned) (g .tallied) c b (counted .0) (counted .1) (counted .2)
-            n (way-least l m marks t ds cost (g .tabled) (g .planned) c way i v v-is q q-is cut n r h alive) (next-falls l m marks t ds cost (g .tabled) (g .planned) c way i v v-is q q-is cut n r h alive)
+            walks-alive l (g .tabled .within) (g .tabled .raisable .arrays) m marks best cost y (g .planned) (g .tallied) c b (counted .0) (counted .1) (counted .2)
+            n (way-least l m marks t ds cost (g .tabled) (g .planned) c way i v v-is q q-is cut n r h alive)
+            (next-falls l m marks t ds cost (g .tabled) (g .planned) c way i v v-is q q-is cut n r h alive)
             (set marks (way .row) v) (way-added l m marks t ds cost (g .tabled) (g .planned) c way i v v-is) marks₂ best₂ z k _
             (ap (λ (x : List ℕ). set x (way .row) (getD marks (way .row) 0)) (k .marks-same) ∙ put-back marks (way .row) v)
 
@@ -149,7 +150,7 @@ module _ (m marks best t ds key : List ℕ) (layout : Layout) (cost : ℕ) (y : 
   tries-more some marks′ best′ r′ h e f i l g is =
       let (c, one, tells) = way-there ds way (wayOf conflict k) told some in
       let before = inv l g is in
-      let there = is-way l (g .tabled .within) (g .tabled .arrays) m conflict is ds way n k count-is low c one tells in
+      let there = is-way l (g .tabled .within) (g .tabled .raisable .arrays) m conflict is ds way n k count-is low c one tells in
       let again = given-after l m marks best t ds key layout cost y g _ marks₁ best₁ r₁ before in
       rw (e, f, i) (on-to l marks′ best′ r′ (walks-more l m marks best y conflict k marks₁ best₁ r₁ before c one marks′ best′ r′ (h l c again there)))
 

@@ -15,8 +15,9 @@ use Rattle.orders.specs.Lift.Lifting.{Alive}
 unfoldable pub start : List ℕ
 start = replicate 352 0
 
--- "A plan is a set of .. choices with the least minutes that meet them and rules 10 to 12": the least of all from 0 on, whatever plan it was made from. "At every
--- plan with least minutes up to 2,879 the carried sum is shown to be their weighted delay", also where they break rule 13 or cost more than the best so far.
+-- "A plan is a set of .. choices with the least minutes that meet them and rules 10 to 12": the least of all from 0 on, whatever plan it was made from. "At
+-- every plan with least minutes up to 2,879 the carried sum is shown to be their weighted delay", also where they break rule 13 or cost more than the best so
+-- far.
 pub record Carried (l : Line) (p : Plan) (m : List ℕ) (cost : ℕ) : Type 0 where
   pub least : IsLeast 352 (Keeps l p) start m
   pub cost-is : cost ≡ weightedDelay l m

@@ -12,7 +12,7 @@ use Rattle.rules.specs.Statement.Paths.{legs}
 use Rattle.rules.specs.Statement.Delay.{weightedDelay}
 use Rattle.rules.specs.Check.RulesLaws.{cost-most, delay-grows}
 use Rattle.orders.specs.LeastMinutes.NoLater.{_⊑_}
-use Rattle.orders.specs.LeastMinutes.Least.{Least, minutes, none, Fit, IsLeast, NoneKeeps}
+use Rattle.orders.specs.LeastMinutes.Least.{Least, minutes, none, Fit, NoneKeeps}
 use Rattle.orders.specs.LeastMinutes.LeastLaws.{least-one}
 use Rattle.orders.specs.LeastMinutes.PlanArcs.{departsAt, arrivesAt, least}
 use Rattle.orders.specs.LeastMinutes.PlanArcsLaws.{least-is, least-none}
@@ -66,7 +66,7 @@ module _ (l : Line) (w : Runnable l) (a : Arrays l) (p : Plan) where
       go (minutes n) e = h .cost-is ∙ ap (weightedDelay l) (least-one 352 (Keeps l p) start m n (h .least) (least-is l w a p start n start-fit e))
       go none e = absurd (least-none l w a p start start-fit e m (h .least .fit) (h .least .keeps) (h .least .above))
 
-  none-cost : NoneKeeps 352 (Keeps l p) start → 4294967295 ≡ planCost l p
+  pub none-cost : NoneKeeps 352 (Keeps l p) start → 4294967295 ≡ planCost l p
   unfolding planCost
   none-cost h = go (least l p start) refl
     where

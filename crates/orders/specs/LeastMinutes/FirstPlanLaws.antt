@@ -14,6 +14,7 @@ use Rattle.finite.specs.Below.{EachBelow}
 use Rattle.finite.specs.LoopLaws.{each-more}
 use Rattle.finite.specs.BelowLaws.{table-at, table-past, table-size}
 use Rattle.line.specs.declared.Line.{Line}
+use Rattle.line.specs.Within.{Arrays}
 use Rattle.line.specs.Runnable.{Runnable}
 use Rattle.rules.specs.Statement.Paths.{train, legs, runOf, segmentOf, legOn, Routed}
 use Rattle.rules.specs.Statement.Minutes.{departs, arrives, departure, arrival}
@@ -25,8 +26,8 @@ use Rattle.rules.specs.Statement.Delay.{freeAfter, freeArrival, weightedDelay}
 use Rattle.orders.specs.declared.first.FirstPlan.{FirstPlan}
 use Rattle.orders.specs.LeastMinutes.NoLater.{_⊑_, WithinDays}
 use Rattle.orders.specs.LeastMinutes.Least.{IsLeast}
-use Rattle.orders.specs.LeastMinutes.Carried.{start}
-use Rattle.orders.specs.LeastMinutes.CarriedLaws.{start-below}
+use Rattle.orders.specs.LeastMinutes.Carried.{start, planCost}
+use Rattle.orders.specs.LeastMinutes.CarriedLaws.{start-below, carried-cost, none-cost}
 use Rattle.orders.specs.Plan.Marks.{free}
 use Rattle.orders.specs.Plan.MarksLaws.{free-marked}
 use Rattle.orders.specs.Plan.Plans.{Keeps}
@@ -150,7 +151,8 @@ module _ (l : Line) (w : Runnable l) (size : length (l .traffic .trains) ≡ 12)
         first = λ m′ f k s. free-low m′ k;
       }
 
-  pub first-plan : (r : FirstPlan) → r .minutes ≡ freeMinutes l → Decides (FreeInTime l) (r .«in_time») → r .cost ≡ weightedDelay l (r .minutes) → IsFirstPlan l r
+  pub first-plan : (r : FirstPlan) → r .minutes ≡ freeMinutes l → Decides (FreeInTime l) (r .«in_time») → r .cost ≡ weightedDelay l (r .minutes) →
+      IsFirstPlan l r
   first-plan r e d cost-is =
       record {
         carried = λ h. record { least = subst (λ (m : List ℕ). IsLeast 352 (Keeps l free) start m) (sym e) (free-least (rw e at h)); cost-is = cost-is };
@@ -164,6 +166,14 @@ module _ (l : Line) (w : Runnable l) (size : length (l .traffic .trains) ≡ 12)
                   (omega (arith, legs-few (train l i) (path i h) .0)),
             ));
       }
+
+-- so it tells what the plan without choices costs: least minutes with their weighted delay, or none up to 2,879
+module _ (l : Line) (w : Runnable l) (a : Arrays l) (r : FirstPlan) (h : IsFirstPlan l r) where
+  pub first-cost : WithinDays (r .minutes) → r .cost ≡ planCost l free
+  first-cost z = carried-cost l w a free (r .minutes) (r .cost) (h .carried z)
+
+  pub first-past : (WithinDays (r .minutes) → ⊥) → 4294967295 ≡ planCost l free
+  first-past past = none-cost l w a free (λ m′ z k up. past (λ e. omega (arith, h .low m′ k e, z .within e)))
 
 -- ---- for the code
 

@@ -1,30 +1,25 @@
 -- A line with every latest waived is the same line but for rule 13: the same minutes keep a plan, they have the same weighted delay, and no minutes up to 2,879
 -- are late. Each statement speaks of trains by what `waivedTrain` leaves as it was.
-use Prim.Native.Nat.{ℕ, zero, suc, _+_, _-_, _*_, _/_, _%_, _≤_, _<_, max}
-use mathlib.Core.Path.{_≡_, refl, sym, _∙_, ap, subst}
-use mathlib.Core.Bool.{Bool, true, false, cond}
-use mathlib.Core.List.{List, [], _∷_, map}
+use Prim.Native.Nat.{ℕ, zero, suc, _-_, _%_, _<_}
+use mathlib.Core.Path.{_≡_, refl, sym, _∙_}
+use mathlib.Core.List.{List}
 use native.Mathlib.Decide.{decLt}
 use native.Mathlib.Omega.{arith}
 use borrow.Author.Tests.{le-ltb}
-use lib.ListN.{length, getD, take, length-map}
+use lib.ListN.{length-map}
 use lib.Seq.{ext-getD}
-use Rattle.finite.specs.Each.{Each}
-use Rattle.finite.specs.EachLaws.{each-map, each-image}
-use Rattle.finite.specs.Below.{sum}
+use Rattle.finite.specs.EachLaws.{each-map, each-image, map-at, take-map}
 use Rattle.finite.specs.BelowLaws.{sum-same, table-at, table-size}
 use Rattle.line.specs.declared.Train.{Train}
 use Rattle.line.specs.declared.Booking.{Booking}
 use Rattle.line.specs.declared.Line.{Line}
 use Rattle.line.specs.Record.{noTrain, trainsOf, bookingsOf}
-use Rattle.line.specs.Bookings.{numbered}
 use Rattle.line.specs.Within.{Arrays, TrainArrays}
 use Rattle.line.specs.Runnable.{TrainRunnable, BookingRunnable, Runnable}
-use Rattle.rules.specs.Statement.Paths.{pastTrain, train, runOf, stopOf, legs, EachTrain}
+use Rattle.rules.specs.Statement.Paths.{pastTrain, train, legs, EachTrain}
 use Rattle.rules.specs.Statement.Bookings.{floorOf}
-use Rattle.rules.specs.Statement.Minutes.{lastArrival}
 use Rattle.rules.specs.Statement.Rules.{TrainRules, NotLate}
-use Rattle.rules.specs.Statement.Delay.{freeAfter, freeArrival, due, weightedDelay}
+use Rattle.rules.specs.Statement.Delay.{freeAfter, due, weightedDelay}
 use Rattle.rules.specs.Conflict.Directions.{directionEntry, directionsOf}
 use Rattle.orders.specs.LeastMinutes.NoLater.{WithinDays}
 use Rattle.orders.specs.Plan.Choices.{Choice, onSegment, atStation, Of, Shared, KeepsChoice}
@@ -32,14 +27,6 @@ use Rattle.orders.specs.Plan.Marks.{Plan}
 use Rattle.orders.specs.Plan.Plans.{Keeps}
 use Rattle.orders.specs.Plan.TidyPlans.{Related, Fitting, Tidy}
 use Rattle.orders.specs.Waived.WaivedLine.{waivedTrain, waived}
-use Rattle.orders.specs.Waived.WaivingLaws.{map-at}
-
--- ---- lists
-
-take-map : {A B : Type 0} (f : A → B) (n : ℕ) (xs : List A) → take n (map f xs) ≡ map f (take n xs)
-take-map f zero xs = refl
-take-map f (suc n) [] = refl
-take-map {B = B} f (suc n) (x ∷ xs) = ap (λ (ys : List B). f x ∷ ys) (take-map f n xs)
 
 module _ (l : Line) (w : Runnable l) (a : Arrays l) where
   pub train-waived : (i : ℕ) → i < l .traffic .«train_count» → train (waived l) i ≡ waivedTrain (train l i)
@@ -69,7 +56,8 @@ module _ (l : Line) (w : Runnable l) (a : Arrays l) where
         trains = w .trains;
         each-train =
             rw (take-map waivedTrain (l .traffic .«train_count») (l .traffic .trains))
-            (each-image (TrainRunnable n) waivedTrain (trainsOf l) (each-map (TrainRunnable n) (λ t. TrainRunnable n (waivedTrain t)) (waived-train n) (trainsOf l) (w .each-train)));
+            (each-image (TrainRunnable n) waivedTrain (trainsOf l)
+            (each-map (TrainRunnable n) (λ t. TrainRunnable n (waivedTrain t)) (waived-train n) (trainsOf l) (w .each-train)));
         bookings = w .bookings;
         each-booking = each-map (BookingRunnable (trainsOf l)) (BookingRunnable (trainsOf (waived l))) booked (bookingsOf l) (w .each-booking);
         dues = w .dues;
@@ -92,7 +80,7 @@ module _ (l : Line) (w : Runnable l) (a : Arrays l) where
         tracks = a .tracks;
         segments = a .segments;
         trains = length-map (l .traffic .trains) waivedTrain ∙ a .trains;
-        each-train = each-image TrainArrays waivedTrain (l .traffic .trains) (each-map TrainArrays (λ t. TrainArrays (waivedTrain t)) (λ t h. h) (l .traffic .trains) (a .each-train));
+        each-train = each-image TrainArrays waivedTrain (l .traffic .trains) (a .each-train);
         bookings = a .bookings;
         dues = a .dues;
       }

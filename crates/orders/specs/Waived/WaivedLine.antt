@@ -1,6 +1,5 @@
--- A line with every latest waived: its trains may arrive up to 2,879, the last minute of all. Rule 13 asks nothing then, so raising over its tables tells of every
--- plan whether it has least minutes.
-use Prim.Native.Nat.{ℕ}
+-- A line with every latest waived: its trains may arrive up to 2,879, the last minute of all. Rule 13 asks nothing then, so raising over its tables tells of
+-- every plan whether it has least minutes.
 use mathlib.Core.List.{map}
 use Rattle.line.specs.declared.Train.{Train}
 use Rattle.line.specs.declared.Line.{Line}

@@ -1,21 +1,16 @@
 -- Latests waived one after the other: the first n of the trains are waived, and the others as they were.
-use Prim.Native.Nat.{ℕ, zero, suc, _+_, _≤_, _<_}
+use Prim.Native.Nat.{ℕ, _+_, _≤_, _<_}
 use mathlib.Core.Path.{_≡_, refl, sym, _∙_, ap}
-use mathlib.Core.List.{List, [], _∷_, map}
+use mathlib.Core.List.{List, map}
 use native.Mathlib.Decide.{ℕ-discrete}
 use native.Mathlib.Omega.{arith}
 use lib.ListN.{length, getD, set, length-set, length-map}
 use lib.Seq.{ext-getD, getD-set-same, getD-set-other}
 use Rattle.finite.specs.Below.{EachBelow}
+use Rattle.finite.specs.EachLaws.{map-at}
 use Rattle.line.specs.declared.Train.{Train}
 use Rattle.rules.specs.Statement.Paths.{pastTrain}
 use Rattle.orders.specs.Waived.WaivedLine.{waivedTrain}
-
--- an element that is there, whatever stands past the last
-pub map-at : {A B : Type 0} (f : A → B) (xs : List A) (i : ℕ) (d : A) (e : B) → i < length xs → getD (map f xs) i e ≡ f (getD xs i d)
-map-at f [] i d e h = absurd (omega arith)
-map-at f (x ∷ xs) zero d e h = refl
-map-at f (x ∷ xs) (suc i) d e h = map-at f xs i d e (omega arith)
 
 pub record WaivedFirst (n : ℕ) (ts us : List Train) : Type 0 where
   pub size : length us ≡ length ts

@@ -29,19 +29,17 @@ use Rattle.plans.specs.declared.ways.Way.{Way}
 
 -- ---- what is known of a plan
 
--- what a search reads is made from the line
-pub record Tabled (l : Line) (t ds : List ℕ) : Type 0 where
-  pub within : Within l
-  pub arrays : Arrays l
-  pub tables : t ≡ tablesOf l
-  pub directions : ds ≡ directionsOf l
-
--- what raising reads: its line may be any whose trains can be run
+-- what raising reads is made from the line, and the line's trains can be run
 pub record Raisable (l : Line) (t ds : List ℕ) : Type 0 where
   pub runnable : Runnable l
   pub arrays : Arrays l
   pub tables : t ≡ tablesOf l
   pub directions : ds ≡ directionsOf l
+
+-- a search goes through lines within the limits alone
+pub record Tabled (l : Line) (t ds : List ℕ) : Type 0 where
+  pub within : Within l
+  pub raisable : Raisable l t ds
 
 -- a plan to go on with: its marks fit the line, and its least minutes are in time and have this cost
 pub record Planned (l : Line) (marks m : List ℕ) (cost : ℕ) : Type 0 where
@@ -77,8 +75,8 @@ pub record CanRaise (m marks t ds : List ℕ) (way : Way) (cost cut : ℕ) : Typ
 unfoldable pub NoRaise : Line → Choice → Plan → List ℕ → ℕ → Type 0
 NoRaise l c p m cut = (m′ : List ℕ) → Fit 352 m′ → Keeps l (also c p) m′ → m ⊑ m′ → inTime l m′ ≡ true → weightedDelay l m′ ≤ cut → ⊥
 
--- n has the least minutes of the plan with the choice, and r what they cost; or there are none in time within the cut. Whatever the answer, n is not after any
--- minutes that keep this plan: where raising ended early, so does what it had carried until then cost no more than they do (`dropped-low` in `NextPlansLaws`).
+-- n has the least minutes of the plan with the choice, and r what they cost; or there are none in time within the cut. Whatever the answer, no minutes that
+-- keep this plan are before n; so what raising had carried when it ended early is no more than they cost (`dropped-low` in `NextPlansLaws`).
 pub record Raises (l : Line) (c : Choice) (p : Plan) (m : List ℕ) (cut : ℕ) (n : List ℕ) (r : ℕ) : Type 0 where
   pub carried : Alive r → Carried l (also c p) n r
   pub timely : Alive r → inTime l n ≡ true

@@ -7,6 +7,7 @@ use lib.ListN.{replicate, length-replicate}
 use Rattle.finite.specs.DecideLaws.{is-true}
 use Rattle.line.specs.declared.Line.{Line}
 use Rattle.line.specs.Within.{Within, Arrays}
+use Rattle.line.specs.RunnableLaws.{within-runnable}
 use Rattle.rules.specs.declared.conflicts.Layout.{Layout}
 use Rattle.rules.specs.Statement.Paths.{EachTrain}
 use Rattle.rules.specs.Statement.Rules.{NotLate}
@@ -39,7 +40,10 @@ module _ (l : Line) (w : Within l) (a : Arrays l) where
         Given l m free (replicate 352 0) t ds key layout cost y
     first-given timely t ds key layout tables directions keys layout-is y none-yet low =
         record {
-          tabled = record { within = w; arrays = a; tables = tables; directions = directions };
+          tabled = record {
+            within = w;
+            raisable = record { runnable = within-runnable l w; arrays = a; tables = tables; directions = directions };
+          };
           keys = keys;
           layout-is = layout-is;
           planned = record {

@@ -23,7 +23,7 @@ module _ (l : Line) (m marks best t ds key : List ℕ) (layout : Layout) (cost :
   key-long = ap length (g .keys) ∙ key-size l
 
   pub conflict-known : (conflict : Conflict) → conflict ≡ conflictIn layout ds m → conflict ≡ conflictOf l m
-  conflict-known conflict e = conflict-told l m ds layout conflict (g .layout-is) (g .tabled .directions) e
+  conflict-known conflict e = conflict-told l m ds layout conflict (g .layout-is) (g .tabled .raisable .directions) e
 
   pub laid-out : LaidOut layout
   laid-out =

@@ -32,7 +32,7 @@ use Rattle.plans.specs.Theory.SearchLaws.{under-also}
 use Rattle.plans.specs.Instance.Planning.{inTime, planning}
 use Rattle.plans.specs.Instance.LineSearchedLaws.{planning-laws}
 use Rattle.plans.specs.Contracts.Tallies.{bestOf, cutOf, Tallied}
-use Rattle.plans.specs.Contracts.Choosing.{Tabled, Raisable, Planned, Chooses, NoRaise, RaisesChoice, Raises, IsWay}
+use Rattle.plans.specs.Contracts.Choosing.{Tabled, Planned, Chooses, NoRaise, RaisesChoice, Raises, IsWay}
 use Rattle.plans.specs.Contracts.TryingLaws.{row-low, second-low, marks-added}
 use Rattle.plans.specs.declared.tally.Tally.{Tally}
 use Rattle.plans.specs.declared.ways.Way.{Way}
@@ -58,6 +58,29 @@ module _ (l : Line) (best : List ℕ) (y b : Tally) (found-is : b .found ≡ y .
   pub recounted-best : bestOf b best ≡ bestOf y best
   recounted-best = rw found-is refl
 
+-- ---- a choice more
+
+module _ (l : Line) (c : Choice) (p : Plan) (m : List ℕ) where
+  module _ (cost : ℕ) (q : Planned l p m cost) (cut : ℕ) (n : List ℕ) (r : ℕ) (h : Raises l c p m cut n r) where
+    -- the plan with the choice, whose minutes have risen
+    pub child-planned : Within l → Fitting l c → Alive r → Planned l (also c p) n r
+    child-planned w f v = record { carried = h .carried v; tidy = also-tidy l (within-runnable l w) c p f (q .tidy); timely = h .timely v }
+
+    -- they are the least at or above those of the plan, too
+    pub child-above : Alive r → IsLeast 352 (Keeps l (also c p)) m n
+    child-above v = least-onward 352 (Keeps l p) (Keeps l (also c p)) (keeps-rest l c p) start m (q .carried .least) n (h .carried v .least)
+
+    -- where raising ended early, what it had carried until then is no more than any minutes that keep the plan with the choice cost
+    pub dropped-low : (m′ : List ℕ) → Fit 352 m′ → Keeps l (also c p) m′ → weightedDelay l n ≤ weightedDelay l m′
+    dropped-low m′ z k = delay-up l n m′ (h .low m′ z k)
+
+  pub child-falls : Fit 352 m → Fitting l c → (KeepsChoice l m c → ⊥) → (n : List ℕ) → IsLeast 352 (Keeps l (also c p)) m n → slack n < slack m
+  child-falls z f not-yet n h =
+      ⊎-elim
+      (λ e. absurd (not-yet (keeps-chosen l c p m (f .0) (f .1) (subst (Keeps l (also c p)) (sym e) (h .keeps)))))
+      (λ s. s)
+      (slack-falls m n (z .size ∙ sym (h .fit .size)) (h .above) (h .fit .within))
+
 module _ (l : Line) (w : Within l) (a : Arrays l) where
   -- what is better than the best so far costs no more than the cut
   pub improves-cheap : (best : List ℕ) (y : Tally) (n : List ℕ) → Tallied l best y → Fit 352 n → Improves (planning l) n (bestOf y best) →
@@ -71,33 +94,6 @@ module _ (l : Line) (w : Within l) (a : Arrays l) where
       go : (b : Bool) → y .found ≡ b → Improves (planning l) n (cond b (found best) nothing) → weightedDelay l n ≤ cond b (y .delay) 4294967294
       go true e h = omega (arith, t .delay-is e, first (h .place) h refl)
       go false e h = omega (arith, delay-most l (within-runnable l w) n z)
-
-  -- ---- a choice more
-
-  module _ (c : Choice) (p : Plan) (m : List ℕ) (z : Fit 352 m) where
-    -- the plan with the choice, whose minutes have risen
-    pub child-planned : (cost : ℕ) → Planned l p m cost → Fitting l c → (cut : ℕ) (n : List ℕ) (r : ℕ) →
-        Raises l c p m cut n r → Alive r → Planned l (also c p) n r
-    child-planned cost q f cut n r h v =
-        record { carried = h .carried v; tidy = also-tidy l (within-runnable l w) c p f (q .tidy); timely = h .timely v }
-
-    -- the minutes are the least at or above those of the plan, too
-    pub child-least : (cost : ℕ) → Planned l p m cost → (cut : ℕ) (n : List ℕ) (r : ℕ) → Raises l c p m cut n r → Alive r →
-        IsLeast 352 (Keeps l (also c p)) m n
-    child-least cost q cut n r h v =
-        least-onward 352 (Keeps l p) (Keeps l (also c p)) (keeps-rest l c p) start m (q .carried .least) n (h .carried v .least)
-
-    -- where raising ended early, what it had carried until then is no more than any minutes that keep the plan with the choice cost
-    pub dropped-low : (cut : ℕ) (n : List ℕ) (r : ℕ) → Raises l c p m cut n r → (m′ : List ℕ) → Fit 352 m′ → Keeps l (also c p) m′ →
-        weightedDelay l n ≤ weightedDelay l m′
-    dropped-low cut n r h m′ z k = delay-up l n m′ (h .low m′ z k)
-
-    pub child-falls : Fitting l c → (KeepsChoice l m c → ⊥) → (n : List ℕ) → IsLeast 352 (Keeps l (also c p)) m n → slack n < slack m
-    child-falls f not-yet n h =
-        ⊎-elim
-        (λ e. absurd (not-yet (keeps-chosen l c p m (f .0) (f .1) (subst (Keeps l (also c p)) (sym e) (h .keeps)))))
-        (λ s. s)
-        (slack-falls m n (z .size ∙ sym (h .fit .size)) (h .above) (h .fit .within))
 
   -- ---- where raising finds no minutes within the cut
 
@@ -124,9 +120,6 @@ module _ (l : Line) (w : Within l) (m ds : List ℕ) (c : Choice) (way : Way) (i
   pub second-there : way .second < 16
   second-there = omega (arith, i .told .second, second-low l w c (i .fitting))
 
-pub tabled-raisable : (l : Line) (t ds : List ℕ) → Tabled l t ds → Raisable l t ds
-tabled-raisable l t ds h = record { runnable = within-runnable l (h .within); arrays = h .arrays; tables = h .tables; directions = h .directions }
-
 module _ (l : Line) (m marks t ds : List ℕ) (cost : ℕ) (tabled : Tabled l t ds) (planned : Planned l marks m cost)
     (c : Choice) (way : Way) (i : IsWay l m ds c way) (v : ℕ) (v-is : v ≡ withBit (way .second) (getD marks (way .row) 0)) where
   pub way-added : set marks (way .row) v ≡ also c marks
@@ -137,7 +130,7 @@ module _ (l : Line) (m marks t ds : List ℕ) (cost : ℕ) (tabled : Tabled l t 
   pub way-chooses : (q : List ℕ) → q ≡ m → Chooses l c marks q (set marks (way .row) v) t ds way cost
   way-chooses q same =
       record {
-        raisable = tabled-raisable l t ds tabled;
+        raisable = tabled .raisable;
         planned = subst (λ (x : List ℕ). Planned l marks x cost) (sym same) planned;
         fitting = i .fitting;
         marks-are = way-added;
@@ -149,13 +142,13 @@ module _ (l : Line) (m marks t ds : List ℕ) (cost : ℕ) (tabled : Tabled l t 
     way-raises = subst (λ (x : List ℕ). Raises l c marks x cut n r) same (h l c marks (way-chooses q same))
 
     pub way-least : Alive r → IsLeast 352 (Keeps l (also c marks)) m n
-    way-least = child-least l (tabled .within) (tabled .arrays) c marks m (planned .carried .least .fit) cost planned cut n r way-raises
+    way-least = child-above l c marks m cost planned cut n r way-raises
 
     pub next-planned : Alive r → Planned l (set marks (way .row) v) n r
     next-planned alive =
         subst (λ (x : List ℕ). Planned l x n r) (sym way-added)
-        (child-planned l (tabled .within) (tabled .arrays) c marks m (planned .carried .least .fit) cost planned (i .fitting) cut n r way-raises alive)
+        (child-planned l c marks m cost planned cut n r way-raises (tabled .within) (i .fitting) alive)
 
     pub next-falls : Alive r → slack n < slack m
     next-falls alive =
-        child-falls l (tabled .within) (tabled .arrays) c marks m (planned .carried .least .fit) (i .fitting) (i .open-yet) n (way-least alive)
+        child-falls l c marks m (planned .carried .least .fit) (i .fitting) (i .open-yet) n (way-least alive)

@@ -1,5 +1,5 @@
--- The contract of what a way costs, in time or not: raising over the tables of the line with every latest waived, and without a cut, finds no minutes only where
--- the plan with the way's choice has none up to 2,879.
+-- The contract of what a way costs, in time or not: raising over the tables of the line with every latest waived, and without a cut, finds no minutes only
+-- where the plan with the way's choice has none up to 2,879.
 use Prim.Native.Nat.{ℕ}
 use mathlib.Core.Path.{_≡_}
 use mathlib.Core.List.{List}

@@ -1,4 +1,5 @@
--- Raising over the tables of a line with every latest waived tells what a plan of the line costs: the same minutes keep it, they cost the same, and none are late.
+-- Raising over the tables of a line with every latest waived tells what a plan of the line costs: the same minutes keep it, they cost the same, and none are
+-- late.
 use Prim.Native.Nat.{ℕ, _≤_}
 use mathlib.Core.Path.{_≡_, sym, _∙_}
 use mathlib.Core.Bool.{true}

@@ -46,7 +46,7 @@ module _ (m marks best t ds key : List ℕ) (layout : Layout) (cost : ℕ) (y : 
       record {
         line = h .line;
         held = h .held;
-        real = real (h .line) (g .tabled .within) (g .tabled .arrays) (g .layout-is) (g .tabled .directions);
+        real = real (h .line) (g .tabled .within) (g .tabled .raisable .arrays) (g .layout-is) (g .tabled .raisable .directions);
         count-is = n-is;
         some = some;
       }
@@ -94,6 +94,6 @@ prices-better m marks best t ds key layout cost cut y cut-is conflict n marks′
       marks-same = e .marks-same;
       dead = λ l h real k b dead c there.
           let g = h .given in
-          none-raised l (g .tabled .within) (g .tabled .arrays) c marks m best y (h .under) (g .tallied)
+          none-raised l (g .tabled .within) (g .tabled .raisable .arrays) c marks m best y (h .under) (g .tallied)
           (subst (NoRaise l c marks m) cut-is (e .dead l (g .tabled) (g .planned) real k b dead c there));
     }

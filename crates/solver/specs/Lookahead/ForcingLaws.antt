@@ -30,7 +30,7 @@ use Rattle.plans.specs.Contracts.Keys.{betterBy}
 use Rattle.plans.specs.Contracts.Tallies.{bestOf, cutOf}
 use Rattle.plans.specs.Contracts.Choosing.{Tabled, Planned, Given, NoRaise, Raises, IsWay}
 use Rattle.plans.specs.Contracts.TryingLaws.{way-there, way-absent, way-of-real}
-use Rattle.plans.specs.Contracts.NextPlansLaws.{none-raised, child-planned, child-least}
+use Rattle.plans.specs.Contracts.NextPlansLaws.{none-raised, child-planned, child-above}
 use Rattle.plans.specs.Contracts.GivenLaws.{told}
 use Rattle.plans.specs.declared.tally.Tally.{Tally}
 use Rattle.plans.specs.declared.ways.Way.{Way}
@@ -71,7 +71,7 @@ module _ (m marks t ds : List ℕ) (layout : Layout) (cost cut : ℕ) (marks₁ 
     (n : ℕ) (n-is : n ≡ wayCount conflict) (n-some : n ≡ 0 → ⊥) (marks₂ prices : List ℕ) (priced : PricesWays m marks₁ t ds cost cut conflict n marks₂ prices)
     (l : Line) (tabled : Tabled l t ds) (planned : Planned l marks m cost) (layout-is : layout ≡ layoutOf l) where
   pub real-of : Real l m conflict
-  real-of = chosen .chosen l (tabled .within) (tabled .arrays) layout-is (tabled .directions) .real
+  real-of = chosen .chosen l (tabled .within) (tabled .raisable .arrays) layout-is (tabled .raisable .directions) .real
 
   some-of : conflict ≡ Conflict.Nothing → ⊥
   some-of e = n-some (n-is ∙ ap wayCount e)
@@ -123,7 +123,7 @@ module _ (m marks t ds : List ℕ) (layout : Layout) (cost cut : ℕ) (marks₁ 
           real = real-of;
           some = some-of;
           choice = d;
-          is-way = way-of-real l (tabled .within) (tabled .arrays) m conflict real-of ds way n w n-is low d one tells-d;
+          is-way = way-of-real l (tabled .within) (tabled .raisable .arrays) m conflict real-of ds way n w n-is low d one tells-d;
           others = λ c there. ⊎-elim (λ h. inl (only (subst (List·Memᴰ c) one h))) (λ h. inr h) (other-dead c there);
         }
 
@@ -135,7 +135,7 @@ module _ (l : Line) (p : Plan) (m marks best t ds key : List ℕ) (layout : Layo
   g = h .given
 
   abbrev L : Laws (planning l)
-  L = planning-laws l (g .tabled .within) (g .tabled .arrays)
+  L = planning-laws l (g .tabled .within) (g .tabled .raisable .arrays)
 
   -- nothing better keeps its marks, so nothing better is in it
   nothing-in : NoneBetter (planning l) marks (bestOf y best) → NoneBetter (planning l) p (bestOf y best)
@@ -150,13 +150,13 @@ module _ (l : Line) (p : Plan) (m marks best t ds key : List ℕ) (layout : Layo
   module _ (cut : ℕ) (cut-is : cut ≡ cutOf y) where
     none-of : (c : Choice) → NoRaise l c marks m cut → NoneBetter (planning l) (also c marks) (bestOf y best)
     none-of c none =
-        none-raised l (g .tabled .within) (g .tabled .arrays) c marks m best y (h .under) (g .tallied) (subst (NoRaise l c marks m) cut-is none)
+        none-raised l (g .tabled .within) (g .tabled .raisable .arrays) c marks m best y (h .under) (g .tallied) (subst (NoRaise l c marks m) cut-is none)
 
     pub followed-dead : AllDead l m marks cut → NoneBetter (planning l) p (bestOf y best)
     followed-dead d =
         nothing-in
         (none-split (planning l) L marks m (waysOf (d .conflict))
-        (conflict-splits l (g .tabled .within) (g .tabled .arrays) marks m (d .conflict) (d .real) (d .some)) (bestOf y best)
+        (conflict-splits l (g .tabled .within) (g .tabled .raisable .arrays) marks m (d .conflict) (d .real) (d .some)) (bestOf y best)
         (λ c there. none-of c (d .dead c there)))
 
     -- a choice that narrows the plan no further is made
@@ -171,12 +171,12 @@ module _ (l : Line) (p : Plan) (m marks best t ds key : List ℕ) (layout : Layo
               keys = g .keys;
               layout-is = g .layout-is;
               planned =
-                  child-planned l (g .tabled .within) (g .tabled .arrays) c marks m (g .planned .carried .least .fit) cost (g .planned) (i .fitting) cut m′ r (settled .0) alive;
+                  child-planned l c marks m cost (g .planned) cut m′ r (settled .0) (g .tabled .within) (i .fitting) alive;
               tallied = g .tallied;
             };
             under =
                 under-least (planning l) L (also c marks) m m′ (under-also (planning l) L c marks m (h .under))
-                (child-least l (g .tabled .within) (g .tabled .arrays) c marks m (g .planned .carried .least .fit) cost (g .planned) cut m′ r (settled .0) alive);
+                (child-above l c marks m cost (g .planned) cut m′ r (settled .0) alive);
           })
 
       followed-choice : Narrowed l p m′ marks′ best t ds key layout r y
@@ -206,7 +206,7 @@ module _ (l : Line) (p : Plan) (m marks best t ds key : List ℕ) (layout : Layo
         followed-choice (one .choice) way (one .is-way)
         (narrows-then (planning l) L p marks (also (one .choice) marks) (bestOf y best) in-it
         (narrows-forced (planning l) L marks m (waysOf (one .conflict))
-        (conflict-splits l (g .tabled .within) (g .tabled .arrays) marks m (one .conflict) (one .real) (one .some)) (bestOf y best) (one .choice)
+        (conflict-splits l (g .tabled .within) (g .tabled .raisable .arrays) marks m (one .conflict) (one .real) (one .some)) (bestOf y best) (one .choice)
         (λ c there. ⊎-elim (λ e. inl e) (λ none. inr (none-of c none)) (one .others c there))))
         m′ marks′ r (settles′ l (one .choice) (g .tabled) (g .planned) (one .is-way))
 
@@ -215,7 +215,7 @@ pub followed-first : (l : Line) (m marks best t ds key : List ℕ) (layout : Lay
     (cut : ℕ) → cut ≡ cutOf y → (c : Choice) (way : Way) → IsWay l m ds c way → (q own : List ℕ) → q ≡ m → own ≡ marks → (m′ marks′ : List ℕ) (r : ℕ) →
     Settles q own t ds way cost cut m′ marks′ r → Narrowed l (also c marks) m′ marks′ best t ds key layout r y
 followed-first l m marks best t ds key layout cost y h cut cut-is c way i q own q-is own-is m′ marks′ r settles =
-    let L = planning-laws l (h .given .tabled .within) (h .given .tabled .arrays) in
+    let L = planning-laws l (h .given .tabled .within) (h .given .tabled .raisable .arrays) in
     let settles′ : Settles m marks t ds way cost cut m′ marks′ r =
     subst (λ (x : List ℕ). Settles x marks t ds way cost cut m′ marks′ r) q-is
     (subst (λ (x : List ℕ). Settles q x t ds way cost cut m′ marks′ r) own-is settles) in

@@ -27,7 +27,7 @@ use Rattle.plans.specs.Instance.Planning.{planning}
 use Rattle.plans.specs.Instance.LineSearchedLaws.{planning-laws}
 use Rattle.plans.specs.Contracts.Choosing.{Chooses, RaisesChoice}
 use Rattle.plans.specs.Contracts.TryingLaws.{row-low, second-low, marks-added}
-use Rattle.plans.specs.Contracts.NextPlansLaws.{child-planned, child-least, tabled-raisable}
+use Rattle.plans.specs.Contracts.NextPlansLaws.{child-planned, child-above}
 use Rattle.solver.specs.Search.Neighbourhood.{Searchable, CanKeep, Leads, WithChoice, OnSegment, OnSegments, OnLayout, wayFor, OrderToKeep}
 
 -- ---- steps
@@ -72,7 +72,7 @@ module _ (t ds : List ℕ) (p i j : ℕ) where
         Chooses l (onSegment p i j) marks m (set marks (16 * p + i) v) t ds (wayFor (16 * p + i) j) cost
     chooses-first l h s =
         record {
-          raisable = tabled-raisable l t ds (h .tabled);
+          raisable = h .tabled .raisable;
           planned = s .planned;
           fitting = h .fitting;
           marks-are = added l h s;
@@ -88,12 +88,12 @@ module _ (t ds : List ℕ) (p i j : ℕ) where
         more l a s =
             let c = onSegment p i j in
             let w = a .tabled .within in
-            let L = planning-laws l w (a .tabled .arrays) in
+            let L = planning-laws l w (a .tabled .raisable .arrays) in
             let k = h l c marks (chooses-first l a s) in
             record {
-              planned = child-planned l w (a .tabled .arrays) c marks m (s .planned .carried .least .fit) cost (s .planned) (a .fitting) cut n r k alive;
+              planned = child-planned l c marks m cost (s .planned) cut n r k w (a .fitting) alive;
               under = under-least (planning l) L (also c marks) m n (under-also (planning l) L c marks m (s .under))
-                  (child-least l w (a .tabled .arrays) c marks m (s .planned .carried .least .fit) cost (s .planned) cut n r k alive);
+                  (child-above l c marks m cost (s .planned) cut n r k alive);
             }
 
 -- ---- an order to keep fits the line
@@ -114,7 +114,7 @@ module _ (g : Segment) (ds : List ℕ) (p : ℕ) where
     train-on i low on = (known, decides-on l few p segment-low i known .yea (is-true (decides-not (decides-eq _ _)) on′))
       where
         on′ : way (directionsOf l) p i ≡ 0 → ⊥
-        on′ z = on (ap (λ (x : List ℕ). way x p i) (h .tabled .directions) ∙ z)
+        on′ z = on (ap (λ (x : List ℕ). way x p i) (h .tabled .raisable .directions) ∙ z)
 
         known : i < l .traffic .«train_count»
         known = elim (decLt i (l .traffic .«train_count»)) [
@@ -138,7 +138,7 @@ module _ (g : Segment) (ds : List ℕ) (p : ℕ) where
         }
       where
         alike : g .kind ≡ Kind.D → eqb (way (directionsOf l) p i) (way (directionsOf l) p j) ≡ true
-        alike d = subst (λ (x : List ℕ). eqb (way x p i) (way x p j) ≡ true) (h .tabled .directions) (eq-eqb _ _ (o .asks d))
+        alike d = subst (λ (x : List ℕ). eqb (way x p i) (way x p j) ≡ true) (h .tabled .raisable .directions) (eq-eqb _ _ (o .asks d))
 
 -- ---- the segments of a layout
 

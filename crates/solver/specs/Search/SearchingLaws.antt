@@ -68,7 +68,7 @@ module _ (l : Line) (m marks best t ds key : List ℕ) (layout : Layout) (cost l
   g = h .given
 
   abbrev L : Laws (planning l)
-  L = planning-laws l (g .tabled .within) (g .tabled .arrays)
+  L = planning-laws l (g .tabled .within) (g .tabled .raisable .arrays)
 
   -- nothing was done, as nothing better is there or the limit is reached
   pub sought-none : (Whole limit y → NoneBetter (planning l) marks (bestOf y best)) → Sought l marks marks best limit y marks best y
@@ -89,8 +89,8 @@ module _ (l : Line) (m marks best t ds key : List ℕ) (layout : Layout) (cost l
     sought-clear better conflict chosen n n-is none best′ same =
         let p = g .planned in
         let w = g .tabled .within in
-        let a = g .tabled .arrays in
-        let c = chosen l w a (g .layout-is) (g .tabled .directions) in
+        let a = g .tabled .raisable .arrays in
+        let c = chosen l w a (g .layout-is) (g .tabled .raisable .directions) in
         let lawful = clear-lawful l w a marks m (p .carried .least .fit) (p .carried .least .keeps) (p .timely) (c .none (nothing-of conflict (sym n-is ∙ none))) in
         let i = improves-true (planning l) m (bestOf y best) (told l m marks best t ds key layout cost y g r r-is ∙ not-false r better) in
         let s = searched-clear (planning l) L marks m (bestOf y best) (h .under) lawful i in
@@ -152,7 +152,7 @@ module _ (l : Line) (m marks best t ds key : List ℕ) (layout : Layout) (cost l
           steps-rise = counted-rise l best y b (g .tallied) counted;
           onward = inl (counted-best l best y b (g .tallied) counted);
           none-better = λ _.
-              none-raised l (g .tabled .within) (g .tabled .arrays) c marks m best b (h .under) tallied
+              none-raised l (g .tabled .within) (g .tabled .raisable .arrays) c marks m best b (h .under) tallied
               (subst (NoRaise l c marks m) cut-is (way-raises l m marks t ds cost (g .tabled) (g .planned) c way i v v-is q same cut n r raised .none dead));
         }
 
@@ -213,7 +213,7 @@ module _ (l : Line) (m marks best t ds key : List ℕ) (layout : Layout) (cost l
           onward = s .onward;
           none-better = λ whole.
               none-split (planning l) L marks m (waysOf conflict)
-              (conflict-splits l (g .tabled .within) (g .tabled .arrays) marks m conflict real (λ e. some (n-is ∙ ap wayCount e)))
+              (conflict-splits l (g .tabled .within) (g .tabled .raisable .arrays) marks m conflict real (λ e. some (n-is ∙ ap wayCount e)))
               (bestOf r best′)
               (λ c there.
               let (k, low, here) = way-number conflict c there in

@@ -107,7 +107,7 @@ module _ (m marks t ds : List ℕ) (cost cut : ℕ) (conflict : Conflict) (n : �
         dead = λ l tabled planned real.
             dead-more (λ c. NoRaise l c marks m cut) ds conflict w prices (h .dead l tabled planned real) way tells steps some v room
             (λ d one tells-d dead.
-            let is-way = way-of-real l (tabled .within) (tabled .arrays) m conflict real ds way n w n-is low d one tells-d in
+            let is-way = way-of-real l (tabled .within) (tabled .raisable .arrays) m conflict real ds way n w n-is low d one tells-d in
             subst (λ (q : List ℕ). NoRaise l d q m cut) (h .marks-same)
             (e .dead l d tabled (subst (λ (q : List ℕ). Planned l q m cost) (sym (h .marks-same)) planned) is-way dead));
       }

@@ -41,7 +41,7 @@ select-scans m marks t ds layout cost cut h =
     let w = h .tabled .within in
     record {
       laid-out = (rw (h .layout-is) (w .stations .0), rw (h .layout-is) (w .stations .1), rw (h .layout-is) (w .trains .1));
-      directions = directions-size _ _ (h .tabled .directions);
+      directions = directions-size _ _ (h .tabled .raisable .directions);
       size = h .planned .carried .least .fit .size;
     }
 

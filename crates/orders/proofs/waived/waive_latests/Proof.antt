@@ -61,7 +61,8 @@ returns : tie.Need-returns Inv-loop μ-loop
 returns c =
     let s = c .before .before .before .before .before .before .before in
     let l = s .args .line in
-    ap (λ (ts : List Train). made l ts) (waived-all _ _ _ (c .before .before .before .before .loop .inv .1) (omega (arith, c .before .before .before .loop-test .left, size s)))
+    ap (λ (ts : List Train). made l ts)
+    (waived-all _ _ _ (c .before .before .before .before .loop .inv .1) (omega (arith, c .before .before .before .loop-test .left, size s)))
 
 pub waive-latests-spec : {M : Type 1} → statement M
 waive-latests-spec =

@@ -53,10 +53,13 @@ abbrev firstly : tie.After-key → tie.After-first-minutes
 firstly c = laid c .before .before .before .before .before .before .before
 
 timely : (c : tie.After-key) →
-    WithinDays (firstly c .first-minutes .result .minutes) × EachTrain (firstly c .before .args .line) (NotLate (firstly c .before .args .line) (firstly c .first-minutes .result .minutes))
+    let l = firstly c .before .args .line in
+    let m = firstly c .first-minutes .result .minutes in
+    WithinDays m × EachTrain l (NotLate l m)
 timely c = firstly c .first-minutes .ensures .timely (not-false _ (laid c .before .before .before .before .before .if1 .left))
 
-carried : (c : tie.After-key) → Carried (firstly c .before .args .line) free (firstly c .first-minutes .result .minutes) (firstly c .first-minutes .result .cost)
+carried : (c : tie.After-key) →
+    Carried (firstly c .before .args .line) free (firstly c .first-minutes .result .minutes) (firstly c .first-minutes .result .cost)
 carried c = firstly c .first-minutes .ensures .carried (timely c .0)
 
 first : (c : tie.After-key) →

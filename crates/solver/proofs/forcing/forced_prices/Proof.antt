@@ -30,8 +30,8 @@ way-of-requires c κs =
     let s = c .before .before in
     let a = s .pre in
     let g = a .held .given in (
-      range-of (a .line) (g .tabled .within) (g .tabled .arrays) _ (s .args .conflict) (a .real),
-      directions-size _ _ (g .tabled .directions),
+      range-of (a .line) (g .tabled .within) (g .tabled .raisable .arrays) _ (s .args .conflict) (a .real),
+      directions-size _ _ (g .tabled .raisable .directions),
       omega (arith, a .count-is, count-most (s .args .conflict), c .loop-test .taken),
     )
 
@@ -47,7 +47,7 @@ forced-price-requires c κs =
       choice = there .0;
       held = a .held;
       is-way =
-          way-of-real (a .line) (g .tabled .within) (g .tabled .arrays) _ (s .args .conflict) (a .real) _ _ _ (i .w) (a .count-is)
+          way-of-real (a .line) (g .tabled .within) (g .tabled .raisable .arrays) _ (s .args .conflict) (a .real) _ _ _ (i .w) (a .count-is)
           (c .before .before .loop-test .taken) (there .0) (there .1) (there .2);
     }
 
@@ -77,7 +77,7 @@ loop-again c =
           (omega (arith, i .inv .2, count-most (s .args .conflict)))
           (λ d one tells.
           w .1 .ensures l d h
-          (way-of-real l (h .given .tabled .within) (h .given .tabled .arrays) _ (s .args .conflict) real _ _ _ (i .w) count low d one tells))))
+          (way-of-real l (h .given .tabled .within) (h .given .tabled .raisable .arrays) _ (s .args .conflict) real _ _ _ (i .w) count low d one tells))))
           (λ w. rw (w .1) (λ l h real. dead-skip _ _ (s .args .conflict) (i .w) (i .prices) (i .inv .1 l h real) _ (way .0) (way .1) (w .0 .left)))
           (c .before .if1 .came),
       ⊎-elim (λ w. rw (w .2) (simp length-set (i .inv .2))) (λ w. rw (w .1) (i .inv .2)) (c .before .if1 .came),

@@ -42,7 +42,7 @@ way-prices-requires c κs =
       line = p .line;
       tabled = p .tabled;
       planned = planned-after _ _ _ _ _ (chosen .marks-same) (p .planned);
-      real = chosen .chosen (p .line) (p .tabled .within) (p .tabled .arrays) (p .layout-is) (p .tabled .directions) .real;
+      real = chosen .chosen (p .line) (p .tabled .within) (p .tabled .raisable .arrays) (p .layout-is) (p .tabled .raisable .directions) .real;
       count-is = n .way-count .ensures;
       cut-low = p .cut-low;
     }
@@ -94,9 +94,9 @@ way-of-requires c κs =
     let n = c .before .before .before .before .before .before .before .before .before in
     let s = n .before .before .before .before in
     let p = s .before .before .pre .0 in
-    let real = s .select-conflict .ensures .chosen (p .line) (p .tabled .within) (p .tabled .arrays) (p .layout-is) (p .tabled .directions) .real in (
-      range-of (p .line) (p .tabled .within) (p .tabled .arrays) _ (s .select-conflict .result .conflict) real,
-      directions-size _ _ (p .tabled .directions),
+    let real = s .select-conflict .ensures .chosen (p .line) (p .tabled .within) (p .tabled .raisable .arrays) (p .layout-is) (p .tabled .raisable .directions) .real in (
+      range-of (p .line) (p .tabled .within) (p .tabled .raisable .arrays) _ (s .select-conflict .result .conflict) real,
+      directions-size _ _ (p .tabled .raisable .directions),
       omega (arith, c .before .before .before .if3 .left, n .way-count .ensures, count-most (s .select-conflict .result .conflict)),
     )
 

@@ -9,7 +9,7 @@ use Rattle.solver.proofs.neighbourhood.keep_pair.Tie as tie
 keeps-order-requires : tie.Need-keeps-order-requires
 keeps-order-requires c κs =
     let p = c .pre .0 in (
-      directions-size _ _ (p .among .tabled .directions),
+      directions-size _ _ (p .among .tabled .raisable .directions),
       segment-low _ _ _ _ (p .line) (p .among),
       c .pre .2,
       c .pre .3,

@@ -29,8 +29,8 @@ way-of-requires : tie.Need-way-of-requires Inv-loop μ-loop
 way-of-requires c κs =
     let s = c .before .before in
     let a = s .pre in (
-      range-of (a .line) (a .tabled .within) (a .tabled .arrays) _ (s .args .conflict) (a .real),
-      directions-size _ _ (a .tabled .directions),
+      range-of (a .line) (a .tabled .within) (a .tabled .raisable .arrays) _ (s .args .conflict) (a .real),
+      directions-size _ _ (a .tabled .raisable .directions),
       omega (arith, a .count-is, count-most (s .args .conflict), c .loop-test .taken),
     )
 
@@ -46,7 +46,7 @@ way-price-requires c κs =
       tabled = a .tabled;
       planned = planned-after _ _ _ _ _ (i .inv .1 .marks-same) (a .planned);
       is-way =
-          way-of-real (a .line) (a .tabled .within) (a .tabled .arrays) _ (s .args .conflict) (a .real) _ _ _ (i .w) (a .count-is)
+          way-of-real (a .line) (a .tabled .within) (a .tabled .raisable .arrays) _ (s .args .conflict) (a .real) _ _ _ (i .w) (a .count-is)
           (c .before .before .before .loop-test .taken) (there .0) (there .1) (there .2);
       cut-low = a .cut-low;
     }

@@ -237,7 +237,7 @@ take-up-try-ways-requires t c κs =
       record {
         line = p .line;
         held = held-by (p .line) _ _ _ _ _ _ _ _ 0 _ (p .held) _ (o .marks-same);
-        real = o .chosen (p .line) (g .tabled .within) (g .tabled .arrays) (g .layout-is) (g .tabled .directions) .real;
+        real = o .chosen (p .line) (g .tabled .within) (g .tabled .raisable .arrays) (g .layout-is) (g .tabled .raisable .directions) .real;
         count-is = n .way-count .ensures;
         some = c .before .before .before .if3 .left;
       },
@@ -262,7 +262,7 @@ take-up-returns-4 t c l h =
     let o = c .before .before .before .before .before .before .choose-conflict .ensures in
     sought-by l _ _ _ _ _ _ _ _ (o .marks-same)
     (c .try-ways .ensures l (held-by l _ _ _ _ _ _ _ _ 0 _ h _ (o .marks-same))
-    (o .chosen l (g .tabled .within) (g .tabled .arrays) (g .layout-is) (g .tabled .directions) .real))
+    (o .chosen l (g .tabled .within) (g .tabled .raisable .arrays) (g .layout-is) (g .tabled .raisable .directions) .real))
 
 try-way-counted-requires : (t : ℕ) → try-way-lts.Need-counted-requires (
   counted-reads.Asked,
@@ -645,8 +645,8 @@ try-ways-way-of-requires t c κs =
     let s = c .before .before .before .before .before .before .before in
     let p = s .pre .1 in
     let g = p .held .given in (
-      range-of (p .line) (g .tabled .within) (g .tabled .arrays) _ (s .args .conflict) (p .real),
-      directions-size _ _ (g .tabled .directions),
+      range-of (p .line) (g .tabled .within) (g .tabled .raisable .arrays) _ (s .args .conflict) (p .real),
+      directions-size _ _ (g .tabled .raisable .directions),
       omega (arith, p .count-is, count-most (s .args .conflict), c .loop-test .taken),
     )
 
@@ -677,7 +677,7 @@ try-ways-try-way-requires t c κs =
         choice = there .0;
         held = held-after (p .line) _ _ _ _ _ _ _ _ 0 _ held _ _ _ (done .marks-same) (done .tallied);
         is-way =
-            way-of-real (p .line) (g .tabled .within) (g .tabled .arrays) _ (s .args .conflict) (p .real) _ _ _ (i .w) (p .count-is)
+            way-of-real (p .line) (g .tabled .within) (g .tabled .raisable .arrays) _ (s .args .conflict) (p .real) _ _ _ (i .w) (p .count-is)
             (o .before .loop-test .taken) (there .0) (there .1) (there .2);
       },
     )
@@ -756,7 +756,7 @@ try-ways-loop-again t c =
           ⊎-elim
           (λ w.
           let there = way-there _ _ (wayOf (s .args .conflict) (i .w)) (way .0) (w .0 .taken) in
-          let is-way = way-of-real l (h .given .tabled .within) (h .given .tabled .arrays) _ (s .args .conflict) real _ _ _ (i .w) (s .pre .1 .count-is)
+          let is-way = way-of-real l (h .given .tabled .within) (h .given .tabled .raisable .arrays) _ (s .args .conflict) real _ _ _ (i .w) (s .pre .1 .count-is)
           (c .before .before .before .before .loop-test .taken) (there .0) (there .1) (there .2) in
           let held = held-after l _ _ _ _ _ _ _ _ 0 _ h _ _ _ (done .marks-same) (done .tallied) in
           rw (w .4, w .5, w .6) (ways-more l _ _ _ _ _ _ _ _ _ _ done (i .w) (there .0) (there .1) _ _ _ (w .3 .ensures l (there .0) held is-way)))

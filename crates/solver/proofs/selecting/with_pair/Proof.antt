@@ -10,7 +10,7 @@ in-conflict-requires : tie.Need-in-conflict-requires
 in-conflict-requires c κs =
     let a = c .pre in
     let low = on-low _ _ _ _ _ _ _ _ _ (a .0) in (
-      directions-size _ _ (a .0 .tabled .directions),
+      directions-size _ _ (a .0 .tabled .raisable .directions),
       a .0 .planned .carried .least .fit .size,
       low .0,
       omega (arith, a .1, low .1),
@@ -29,7 +29,7 @@ higher-scored-requires c κs =
       tabled = p .tabled;
       planned = p .planned;
       real =
-          clash-on (p .line) (p .tabled .within) (p .tabled .arrays) _ _ (p .tabled .directions) _ _ _ (p .on) _ _ (a .1) (a .2) _
+          clash-on (p .line) (p .tabled .within) (p .tabled .raisable .arrays) _ _ (p .tabled .raisable .directions) _ _ _ (p .on) _ _ (a .1) (a .2) _
           (c .before .before .in-conflict .ensures) (c .before .if1 .left);
       cut-low = p .cut-low;
     }

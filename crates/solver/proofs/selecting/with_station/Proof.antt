@@ -34,8 +34,8 @@ higher-scored-requires c κs =
       tabled = p .tabled;
       planned = p .planned;
       real =
-          crowd-on-real _ _ _ _ _ (a .1) (a .2) refl _ (c .before .before .before .crowd-on .ensures) (p .line) (p .tabled .within) (p .tabled .arrays)
-          (p .layout-is) (p .tabled .directions);
+          crowd-on-real _ _ _ _ _ (a .1) (a .2) refl _ (c .before .before .before .crowd-on .ensures) (p .line) (p .tabled .within) (p .tabled .raisable .arrays)
+          (p .layout-is) (p .tabled .raisable .directions);
       cut-low = p .cut-low;
     }
 

@@ -52,10 +52,13 @@ abbrev first : tie.After-key → tie.After-first-minutes
 first c = laid c .before .before .before .before .before .before .before
 
 timely : (c : tie.After-key) →
-    WithinDays (first c .first-minutes .result .minutes) × EachTrain (first c .before .args .line) (NotLate (first c .before .args .line) (first c .first-minutes .result .minutes))
+    let l = first c .before .args .line in
+    let m = first c .first-minutes .result .minutes in
+    WithinDays m × EachTrain l (NotLate l m)
 timely c = first c .first-minutes .ensures .timely (not-false _ (laid c .before .before .before .before .before .if1 .left))
 
-carried : (c : tie.After-key) → Carried (first c .before .args .line) free (first c .first-minutes .result .minutes) (first c .first-minutes .result .cost)
+carried : (c : tie.After-key) →
+    Carried (first c .before .args .line) free (first c .first-minutes .result .minutes) (first c .first-minutes .result .cost)
 carried c = first c .first-minutes .ensures .carried (timely c .0)
 
 given : (c : tie.After-key) →

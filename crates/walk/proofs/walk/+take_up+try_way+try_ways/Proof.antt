@@ -118,7 +118,7 @@ take-up-lowest-conflict-requires t c κs =
     record {
       scans = record {
         laid-out = laid-out (a .line) _ _ _ _ _ _ _ _ _ (a .given);
-        directions = directions-size _ _ (a .given .tabled .directions);
+        directions = directions-size _ _ (a .given .tabled .raisable .directions);
         size = a .given .planned .carried .least .fit .size;
       };
       former-size = a .former-size;
@@ -703,7 +703,7 @@ try-ways-loop-holds : (t : ℕ) → try-ways-lts.Need-loop-holds (
   try-way.Post,
 ) (try-ways-at t) try-ways.Post try-ways-Inv-loop try-ways-μ-loop
 try-ways-loop-holds t c =
-    ((λ l g e. walks-none l (g .tabled .within) (g .tabled .arrays) _ _ _ _ _ (g .planned) (g .tallied) _), omega arith)
+    ((λ l g e. walks-none l (g .tabled .within) (g .tabled .raisable .arrays) _ _ _ _ _ (g .planned) (g .tallied) _), omega arith)
 
 try-ways-way-of-requires : (t : ℕ) → try-ways-lts.Need-way-of-requires (
   clear-segments-reads.Asked,
@@ -717,8 +717,8 @@ try-ways-way-of-requires t c κs =
     let s = c .before .before .before in
     let a = s .pre .1 in
     let g = a .given in (
-      conflict-range (a .line) (g .tabled .within) (g .tabled .arrays) _ _ (a .conflict-is),
-      directions-size _ _ (g .tabled .directions),
+      conflict-range (a .line) (g .tabled .within) (g .tabled .raisable .arrays) _ _ (a .conflict-is),
+      directions-size _ _ (g .tabled .raisable .directions),
       omega (arith, a .count-is, count-most (s .args .conflict), c .loop-test .taken),
     )
 
@@ -742,7 +742,7 @@ try-ways-try-way-requires t c κs =
         choice = there .0;
         given = given-after (a .line) _ _ _ _ _ _ _ _ _ g _ _ _ _ (i .inv .0 (a .line) g (a .conflict-is));
         is-way =
-            is-way (a .line) (g .tabled .within) (g .tabled .arrays) _ _ (a .conflict-is) _ _ _ (i .w) (a .count-is)
+            is-way (a .line) (g .tabled .within) (g .tabled .raisable .arrays) _ _ (a .conflict-is) _ _ _ (i .w) (a .count-is)
             (c .before .before .before .before .loop-test .taken) (there .0) (there .1) (there .2);
         known = clear-known (a .line) _ _ _ _ _ _ _ _ _ g _ (a .conflict-is) _ (c .before .before .before .before .before .before .clear-segments .ensures);
       },
