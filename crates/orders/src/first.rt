@@ -14,7 +14,7 @@ use rules::delay::free_arrival;
 use rules::delay::weighted_delay;
 use rules::directions::directions_of;
 
-// Whether all trains end in time, and if they do the minutes and what they cost.
+// The minutes of the trains alone on the line, what they cost, and whether all end in time.
 pub struct FirstPlan {
     pub in_time: bool,
     pub minutes: [u16; 352],
