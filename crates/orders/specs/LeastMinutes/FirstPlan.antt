@@ -8,7 +8,7 @@ use Rattle.finite.specs.Below.{table}
 use Rattle.line.specs.declared.Line.{Line}
 use Rattle.rules.specs.Statement.Paths.{train, runOf, EachTrain}
 use Rattle.rules.specs.Statement.Rules.{NotLate}
-use Rattle.rules.specs.Statement.Delay.{freeAfter, freeArrival}
+use Rattle.rules.specs.Statement.Delay.{freeAfter, freeArrival, weightedDelay}
 use Rattle.orders.specs.declared.first.FirstPlan.{FirstPlan}
 use Rattle.orders.specs.LeastMinutes.NoLater.{_⊑_, WithinDays}
 use Rattle.orders.specs.LeastMinutes.Least.{Fit}
@@ -36,6 +36,8 @@ FreeInTime l = EachTrain l (λ i. freeArrival l i ≤ train l i .latest)
 -- are.
 pub record IsFirstPlan (l : Line) (r : FirstPlan) : Type 0 where
   pub carried : WithinDays (r .minutes) → Carried l free (r .minutes) (r .cost)
+  -- past 2,879, where there is no plan to carry it, too
+  pub cost-is : r .cost ≡ weightedDelay l (r .minutes)
   pub low : (m′ : List ℕ) → Keeps l free m′ → r .minutes ⊑ m′
   pub timely : r .«in_time» ≡ true → WithinDays (r .minutes) × EachTrain l (NotLate l (r .minutes))
   pub late : r .«in_time» ≡ false → (m′ : List ℕ) → Fit 352 m′ → Keeps l free m′ → EachTrain l (NotLate l m′) → ⊥

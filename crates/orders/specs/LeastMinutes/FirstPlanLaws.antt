@@ -156,6 +156,7 @@ module _ (l : Line) (w : Runnable l) (size : length (l .traffic .trains) ≡ 12)
   first-plan r e d cost-is =
       record {
         carried = λ h. record { least = subst (λ (m : List ℕ). IsLeast 352 (Keeps l free) start m) (sym e) (free-least (rw e at h)); cost-is = cost-is };
+        cost-is = cost-is;
         low = λ m′ k. rw e (free-low m′ k);
         timely = λ t. (rw e (free-within (d .yea t)), λ i h. rw e (omega (arith, last-free i h, d .yea t i h)));
         late = λ t m′ f k n. d .nay t (λ i h.
