@@ -6,11 +6,12 @@ ghost use lib.ListN.{length, take};
 ghost use Rattle.text.specs.Reading.Bytes.{byteAt, digitOf, pastOf};
 ghost use Rattle.text.specs.Places.Lines.{Counted};
 ghost use Rattle.text.specs.Reading.Numbers.{numberAt, fieldAt};
-ghost use Rattle.text.specs.Writing.Digits.{digits, fieldText};
+ghost use Rattle.text.specs.Writing.Digits.{digits, fieldText, pairText};
 ghost use Rattle.text.specs.Writing.Splice.{Put};
 ghost use Rattle.text.specs.Reading.Limits.{boundedOf};
-ghost use Rattle.text.specs.Reading.Parsed.{rangedAt};
-ghost use Rattle.text.specs.Reading.Told.{toldField, endingOf};
+ghost use Rattle.text.specs.Reading.Parsed.{limited, rangedAt};
+ghost use Rattle.text.specs.Reading.Fixed.{textAt, pairFieldAt, pairedAt};
+ghost use Rattle.text.specs.Reading.Told.{toldField, toldEnding, endingOf};
 ghost use Rattle.text.specs.Writing.Lend.{Spelling, Lent};
 
 pub const LINE_FEED: u8 = 10;
@@ -229,14 +230,72 @@ impl Cursor {
         requires { ⌜ Counted self ⌝ }
         ensures { λ r. ⌜ toldField r ≡ rangedAt (faults .form) (faults .range) (limits .min) (limits .max) b (now (s .entry)) self ⌝ }
     {
-        let NumberField::Value(n, next) = self.number_field(s, b) else {
-            return Field::Refused(faults.form, self.line);
-        };
-        let Bounded::Within(v) = limits.value(n) else {
-            return Field::Refused(faults.range, self.line);
-        };
-        Field::Value(v, next)
+        limited(self.number_field(s, b), self.line, limits, faults)
     }
+
+    // A number of exactly two digits and the byte b after it.
+    fn pair_field(self, s: &[u8], b: u8) -> NumberField
+        requires { ⌜ Counted self ⌝ }
+        ensures { λ r. ⌜ r ≡ pairFieldAt (now (s .entry)) self b ⌝ }
+    {
+        let Digit::Worth(tens) = digit_of(self.byte(s)) else {
+            return NumberField::Malformed;
+        };
+        let second = Cursor {
+            at: self.at + 1,
+            line: self.line,
+        };
+        let Digit::Worth(units) = digit_of(second.byte(s)) else {
+            return NumberField::Malformed;
+        };
+        let after = Cursor {
+            at: second.at + 1,
+            line: second.line,
+        };
+        let Step::Next(next) = after.past(s, b) else {
+            return NumberField::Malformed;
+        };
+        NumberField::Value(tens * 10 + units, next)
+    }
+
+    // A number of exactly two digits within its limits, with the byte b after it; refused as `ranged` is.
+    pub fn paired(self, s: &[u8], b: u8, limits: Limits, faults: Faults) -> Field
+        requires { ⌜ Counted self ⌝ }
+        ensures { λ r. ⌜ toldField r ≡ pairedAt (faults .form) (faults .range) (limits .min) (limits .max) b (now (s .entry)) self ⌝ }
+    {
+        limited(self.pair_field(s, b), self.line, limits, faults)
+    }
+
+    // Past each byte of a text; refused by the number `form` on the line on which it should begin.
+    pub fn past_text(self, s: &[u8], text: &[u8], form: u8) -> Ending
+        requires { ⌜ Counted self ⌝ }
+        ensures { λ r. ⌜ toldEnding r tt ≡ textAt form (now (text .entry)) (now (s .entry)) self ⌝ }
+    {
+        let count = text.len();
+        let mut cursor = self;
+        let mut i: usize = 0;
+        while i < count {
+            let Step::Next(next) = cursor.past(s, text[i]) else {
+                return Ending::Refused(form, self.line);
+            };
+            cursor = next;
+            i = i + 1;
+        }
+        Ending::Done(cursor)
+    }
+}
+
+// A field within its limits, which began on this line: its form and the byte after it were looked at, its range is now.
+fn limited(field: NumberField, line: usize, limits: Limits, faults: Faults) -> Field
+    ensures { λ r. ⌜ toldField r ≡ limited (faults .form) (faults .range) (limits .min) (limits .max) line field ⌝ }
+{
+    let NumberField::Value(n, next) = field else {
+        return Field::Refused(faults.form, line);
+    };
+    let Bounded::Within(v) = limits.value(n) else {
+        return Field::Refused(faults.range, line);
+    };
+    Field::Value(v, next)
 }
 
 // How the reading of a field ended: after its value, or refused.
@@ -279,6 +338,29 @@ pub fn put_field(out: &mut [u8], at: usize, n: u32, b: u8) -> usize
     put_byte(out, next, b)
 }
 
+// Both digits of n, which is below 100.
+pub fn put_pair(out: &mut [u8], at: usize, n: u32) -> usize
+    requires { ⌜ at + 2 ≤ length (now out) ⌝ }
+    ensures { λ r. ⌜ Put (now (out .entry)) (now (out .exit)) at (pairText n) r ⌝ }
+{
+    let next = put_byte(out, at, (n / 10 % 10) as u8 + 48);
+    put_byte(out, next, (n % 10) as u8 + 48)
+}
+
+// The bytes of a text from position `at` on; answers the position after them.
+pub fn put_text(out: &mut [u8], at: usize, text: &[u8]) -> usize
+    requires { ⌜ at + length (now text) ≤ length (now out) ⌝ }
+    ensures { λ r. ⌜ Put (now (out .entry)) (now (out .exit)) at (now (text .entry)) r ⌝ }
+{
+    let count = text.len();
+    let mut i: usize = 0;
+    while i < count {
+        out[at + i] = text[i];
+        i = i + 1;
+    }
+    at + count
+}
+
 // A text, copied into the lent bytes if it fits; refused by 6, and nothing changed, if it does not.
 pub fn lend_text(text: &[u8], out: &mut [u8]) -> Written
     ensures { λ r. ⌜ Lent (Spelling.text (now (text .entry))) (now (out .entry)) (now (out .exit)) r ⌝ }
@@ -287,10 +369,6 @@ pub fn lend_text(text: &[u8], out: &mut [u8]) -> Written
     if out.len() < count {
         return Written::Refused(6, 0);
     }
-    let mut i: usize = 0;
-    while i < count {
-        out[i] = text[i];
-        i = i + 1;
-    }
+    put_text(out, 0, text);
     Written::Length(count)
 }

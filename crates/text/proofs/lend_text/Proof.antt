@@ -1,71 +1,29 @@
--- `text::lend_text` meets its contract. The invariant: with the bytes yet to copy in their places, the lent bytes are the former ones with the whole
--- text at their front. Assumes nothing.
-use Prim.Native.Nat.{_≤_, _-_}
-use mathlib.Core.Path.{_≡_, _∙_, sym, refl}
+-- `text::lend_text` meets its contract: refused where the text is longer than the lent bytes, and else put at their front. Assumes nothing.
 use native.Mathlib.Omega.{arith}
-use borrow.Author.Needs.{needs}
+use mathlib.Core.Path.{refl}
 use denote.Ref.{now}
-use lib.ListN.{length, drop, length-set}
-use lib.Seq.{sets}
-use Rattle.text.specs.Writing.LendLaws.{copy-step, copy-end, lent-short, lent-whole}
+use lib.ListN.{length}
+use Rattle.text.specs.Writing.LendLaws.{lent-short, lent-whole}
+use borrow.Author.Needs.{needs}
 use Rattle.text.proofs.lend_text.Statement.{statement}
 use Rattle.text.proofs.lend_text.Tie as tie
 
-abbrev Inv-loop : tie.InvT-loop
-Inv-loop text out₀ count i₀ out i =
-    (sets out i (drop i text) ≡ sets out₀ 0 text) × (i ≤ count) × (length out ≡ length out₀)
-
-abbrev μ-loop : tie.MeasureT-loop
-μ-loop text out₀ count i₀ out i = count - i
-
-returns : tie.Need-returns Inv-loop μ-loop
+returns : tie.Need-returns
 returns c =
-    let a = c .before .args in
+    let a = c .before .before .before .args in
     lent-short (now (a .text)) (now (a .out)) (c .if1 .taken)
 
-loop-holds : tie.Need-loop-holds Inv-loop μ-loop
-loop-holds c = (refl, omega arith, refl)
+put-text-requires : tie.Need-put-text-requires
+put-text-requires c κs = search needs
 
-shared-slice-read-out : tie.Need-shared-slice-read-out Inv-loop μ-loop
-shared-slice-read-out c = search needs
-
-slice-write-out : tie.Need-slice-write-out Inv-loop μ-loop
-slice-write-out c = search needs
-
-add-i : tie.Need-add-i Inv-loop μ-loop
-add-i c = search needs
-
-loop-less : tie.Need-loop-less Inv-loop μ-loop
-loop-less c = search needs
-
-loop-again : tie.Need-loop-again Inv-loop μ-loop
-loop-again c =
-    let w = c .before .before .loop in
-    let a = c .before .before .before .before .args in
-    (sym (copy-step (now (a .text)) (w .out) (w .i) (omega arith)) ∙ w .inv .0, omega arith, simp length-set (w .inv .2))
-
-same-length : tie.Need-same-length Inv-loop μ-loop
+same-length : tie.Need-same-length
 same-length c = search needs
 
-returns-2 : tie.Need-returns-2 Inv-loop μ-loop
+returns-2 : tie.Need-returns-2
 returns-2 c =
-    let w = c .before .loop in
-    let a = c .before .before .before .args in
-    let end = copy-end (now (a .text)) (w .out) (w .i) (omega arith) in
-    lent-whole (now (a .text)) (now (a .out)) (w .out) (length (now (a .text))) refl (c .before .before .if1 .left) (sym end ∙ w .inv .0)
+    let a = c .before .before .before .before .before .before .before .args in
+    let put = c .before .before .put-text in
+    lent-whole (now (a .text)) (now (a .out)) _ (length (now (a .text))) refl (omega (arith, c .before .before .before .before .if1 .left)) (put .ensures .bytes)
 
 pub lend-text-spec : {M : Type 1} → statement M
-lend-text-spec =
-    tie.close
-    (tie.spec
-    Inv-loop
-    μ-loop
-    returns
-    loop-holds
-    shared-slice-read-out
-    slice-write-out
-    add-i
-    loop-less
-    loop-again
-    same-length
-    returns-2)
+lend-text-spec = tie.close (tie.spec returns put-text-requires same-length returns-2)

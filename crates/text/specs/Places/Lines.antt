@@ -43,3 +43,10 @@ AnyNumber n = Unit {0}
 pub record OnLine (s : List ℕ) (p : ℕ) : Type 0 where
   pub k : ℕ
   pub line : p ≡ 1 + feeds (take k s)
+
+-- ---- the lines that a part covers
+
+-- a part that begins on line n and is read to line m, or refused on a line from n to m
+abbrev pub Spans : {A : Type 0} → ℕ → ℕ → Parsed A → Type 0
+Spans n m (Parsed.got x c) = c .line ≡ m
+Spans n m (Parsed.bad q p) = (n ≤ p) × (p ≤ m)

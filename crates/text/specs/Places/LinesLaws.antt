@@ -7,7 +7,7 @@ use mathlib.Core.Bool.{Bool, true, false}
 use mathlib.Core.List.{List, [], _∷_}
 use native.Mathlib.Omega.{arith}
 use native.Mathlib.Numerals.{add-one}
-use borrow.Author.Tests.{eqb-true, ne-eqb}
+use borrow.Author.Tests.{ne-eqb}
 use lib.Dec.{eqb}
 use lib.ListN.{length, getD, take, length-take}
 use Rattle.text.specs.declared.Cursor.{Cursor}
@@ -19,16 +19,22 @@ use Rattle.text.specs.declared.Bounded.{Bounded}
 use Rattle.text.specs.declared.Field.{Field}
 use Rattle.text.specs.Reading.Choice.{pick, onDigit, onNumber, onStep, onField, onBounded}
 use Rattle.text.specs.Reading.Bytes.{byteAt, ahead, passing, digitOf, pastOf}
-use Rattle.text.specs.Reading.BytesLaws.{digit-worth}
+use Rattle.text.specs.Reading.BytesLaws.{digit-worth, past-found}
 use Rattle.text.specs.Reading.Numbers.{more, numberAt, fieldAt}
 use Rattle.text.specs.Reading.Limits.{boundedOf}
-use Rattle.text.specs.Reading.Parsed.{Parsed, thenRead, many, rangedAt}
+use Rattle.text.specs.Reading.Parsed.{Parsed, thenRead, many, limited, rangedAt}
+use Rattle.text.specs.Reading.Fixed.{pastAll, textAt, pairAt, pairFieldAt, pairedAt}
+use Rattle.text.specs.Reading.FixedLaws.{pair-found}
 use Rattle.text.specs.Reading.Told.{toldField}
 use Rattle.text.specs.Places.Lines.{feeds, LineAt, Counted, Stood, HoldsOn, AnyNumber, OnLine}
 
 -- going past any byte of the text keeps P
 pub record KeepsPassing (s : List ℕ) (P : Cursor → Type 0) : Type 0 where
   pub past : (c : Cursor) (b : ℕ) → byteAt s c ≡ b → P c → P (passing b c)
+
+-- going past any byte of the text but a line feed keeps P
+pub record KeepsAhead (s : List ℕ) (P : Cursor → Type 0) : Type 0 where
+  pub past : (c : Cursor) → (byteAt s c ≡ 10 → ⊥) → P c → P (ahead c)
 
 -- ---- the two properties
 
@@ -109,47 +115,63 @@ module _ (P : Cursor → Type 0) (Q : ℕ → Type 0) where
 
 -- ---- a number and the byte after it
 
+-- digits are no line feeds
+module _ (s : List ℕ) (P : Cursor → Type 0) (k : KeepsAhead s P) where
+  digit-ahead : (c : Cursor) (d : ℕ) → digitOf (byteAt s c) ≡ Digit.Worth d → P c → P (ahead c)
+  digit-ahead c d e h =
+      let w = digit-worth (byteAt s c) d e in
+      k .past c (λ z. omega (arith, w .low)) h
+
+  more-ahead : (m : ℕ) (c : Cursor) (v n : ℕ) (next : Cursor) → P c → more m s c v ≡ Number.Value n next → P next
+  unfolding more
+  more-ahead zero c v n next h e = let z : c ≡ next = cc in rw z at h
+  more-ahead (suc m) c v n next h e = go (digitOf (byteAt s c)) refl e (λ w f. more-ahead m (ahead c) w n next f)
+    where
+      go : (x : Digit) → digitOf (byteAt s c) ≡ x → onDigit x (λ d. more m s (ahead c) (v * 10 + d)) (Number.Value v c) ≡ Number.Value n next →
+          ((w : ℕ) → P (ahead c) → more m s (ahead c) w ≡ Number.Value n next → P next) → P next
+      go (Digit.Worth d) hx f ih = ih (v * 10 + d) (digit-ahead c d hx h) f
+      go Digit.Other hx f ih = let z : c ≡ next = cc in rw z at h
+
+  pub number-ahead : (m : ℕ) (c : Cursor) (n : ℕ) (next : Cursor) → P c → numberAt m s c ≡ Number.Value n next → P next
+  unfolding numberAt
+  number-ahead m c n next h e = go (digitOf (byteAt s c)) refl e
+    where
+      first : (d : ℕ) → P (ahead c) → (q : Bool) → pick q (Number.Value 0 (ahead c)) (more (m - 1) s (ahead c) d) ≡ Number.Value n next → P next
+      first d w true f = let z : ahead c ≡ next = cc in rw z at w
+      first d w false f = more-ahead (m - 1) (ahead c) d n next w f
+
+      go : (x : Digit) → digitOf (byteAt s c) ≡ x →
+          onDigit x (λ d. pick (eqb d 0) (Number.Value 0 (ahead c)) (more (m - 1) s (ahead c) d)) Number.Malformed ≡ Number.Value n next → P next
+      go (Digit.Worth d) hx f = first d (digit-ahead c d hx h) (eqb d 0) f
+      go Digit.Other hx f = let z : _≡_ {A = ℕ} 0 1 = cc in absurd (omega arith)
+
+  pub pair-ahead : (c : Cursor) (n : ℕ) (next : Cursor) → P c → pairAt s c ≡ Number.Value n next → P next
+  unfolding pairAt
+  pair-ahead c n next h e = go (digitOf (byteAt s c)) refl e
+    where
+      units : (t : ℕ) → P (ahead c) → (y : Digit) → digitOf (byteAt s (ahead c)) ≡ y →
+          onDigit y (λ u. Number.Value (t * 10 + u) (ahead (ahead c))) Number.Malformed ≡ Number.Value n next → P next
+      units t w (Digit.Worth u) hy f = let z : ahead (ahead c) ≡ next = cc in rw z at (digit-ahead (ahead c) u hy w)
+      units t w Digit.Other hy f = let z : _≡_ {A = ℕ} 0 1 = cc in absurd (omega arith)
+
+      go : (x : Digit) → digitOf (byteAt s c) ≡ x →
+          onDigit x (λ t. onDigit (digitOf (byteAt s (ahead c))) (λ u. Number.Value (t * 10 + u) (ahead (ahead c))) Number.Malformed) Number.Malformed
+          ≡ Number.Value n next → P next
+      go (Digit.Worth t) hx f = units t (digit-ahead c t hx h) (digitOf (byteAt s (ahead c))) refl f
+      go Digit.Other hx f = let z : _≡_ {A = ℕ} 0 1 = cc in absurd (omega arith)
+
 module _ (s : List ℕ) (P : Cursor → Type 0) (k : KeepsPassing s P) where
   pub ahead-keeps : (c : Cursor) → (byteAt s c ≡ 10 → ⊥) → P c → P (ahead c)
   ahead-keeps c other h = rw (ne-eqb (byteAt s c) 10 other) at (k .past c (byteAt s c) refl h)
 
+  keeps-ahead : KeepsAhead s P
+  keeps-ahead = record { past = ahead-keeps }
+
   pub past-keeps : (c : Cursor) (b : ℕ) (next : Cursor) → P c → pastOf s c b ≡ Step.Next next → P next
-  unfolding pastOf
-  past-keeps c b next h e = go (eqb (byteAt s c) b) refl e
-    where
-      go : (q : Bool) → eqb (byteAt s c) b ≡ q → pick q (Step.Next (passing b c)) Step.Wrong ≡ Step.Next next → P next
-      go true hq f =
-          let z : passing b c ≡ next = cc in
-          rw z at (k .past c b (eqb-true (byteAt s c) b hq) h)
-      go false hq f = let z : _≡_ {A = ℕ} 0 1 = cc in absurd (omega arith)
-
-  digit-keeps : (c : Cursor) (d : ℕ) → digitOf (byteAt s c) ≡ Digit.Worth d → P c → P (ahead c)
-  digit-keeps c d e h =
-      let w = digit-worth (byteAt s c) d e in
-      ahead-keeps c (λ z. omega (arith, w .low)) h
-
-  more-keeps : (m : ℕ) (c : Cursor) (v n : ℕ) (next : Cursor) → P c → more m s c v ≡ Number.Value n next → P next
-  unfolding more
-  more-keeps zero c v n next h e = let z : c ≡ next = cc in rw z at h
-  more-keeps (suc m) c v n next h e = go (digitOf (byteAt s c)) refl e (λ w f. more-keeps m (ahead c) w n next f)
-    where
-      go : (x : Digit) → digitOf (byteAt s c) ≡ x → onDigit x (λ d. more m s (ahead c) (v * 10 + d)) (Number.Value v c) ≡ Number.Value n next →
-          ((w : ℕ) → P (ahead c) → more m s (ahead c) w ≡ Number.Value n next → P next) → P next
-      go (Digit.Worth d) hx f ih = ih (v * 10 + d) (digit-keeps c d hx h) f
-      go Digit.Other hx f ih = let z : c ≡ next = cc in rw z at h
+  past-keeps c b next h e = let w = past-found s c b next e in rw (w .1) at (k .past c b (w .0) h)
 
   pub number-keeps : (m : ℕ) (c : Cursor) (n : ℕ) (next : Cursor) → P c → numberAt m s c ≡ Number.Value n next → P next
-  unfolding numberAt
-  number-keeps m c n next h e = go (digitOf (byteAt s c)) refl e
-    where
-      first : (d : ℕ) → P (ahead c) → (q : Bool) → pick q (Number.Value 0 (ahead c)) (more (m - 1) s (ahead c) d) ≡ Number.Value n next → P next
-      first d w true f = let z : ahead c ≡ next = cc in rw z at w
-      first d w false f = more-keeps (m - 1) (ahead c) d n next w f
-
-      go : (x : Digit) → digitOf (byteAt s c) ≡ x →
-          onDigit x (λ d. pick (eqb d 0) (Number.Value 0 (ahead c)) (more (m - 1) s (ahead c) d)) Number.Malformed ≡ Number.Value n next → P next
-      go (Digit.Worth d) hx f = first d (digit-keeps c d hx h) (eqb d 0) f
-      go Digit.Other hx f = let z : _≡_ {A = ℕ} 0 1 = cc in absurd (omega arith)
+  number-keeps = number-ahead s P keeps-ahead
 
   pub field-keeps : (m : ℕ) (c : Cursor) (b n : ℕ) (next : Cursor) → P c → fieldAt m s c b ≡ NumberField.Value n next → P next
   unfolding fieldAt
@@ -168,22 +190,49 @@ module _ (s : List ℕ) (P : Cursor → Type 0) (k : KeepsPassing s P) where
       go (Number.Value x after) hx f = step x after (number-keeps m c x after h hx) (pastOf s after b) refl f
       go Number.Malformed hx f = let z : _≡_ {A = ℕ} 0 1 = cc in absurd (omega arith)
 
+  pair-keeps : (c : Cursor) (n : ℕ) (next : Cursor) → P c → pairAt s c ≡ Number.Value n next → P next
+  pair-keeps = pair-ahead s P keeps-ahead
+
+  pub all-keeps : (t : List ℕ) (c next : Cursor) → P c → pastAll t s c ≡ Step.Next next → P next
+  unfolding pastAll
+  all-keeps [] c next h e = let z : c ≡ next = cc in rw z at h
+  all-keeps (b ∷ t) c next h e = go (pastOf s c b) refl e (λ x w f. all-keeps t x next w f)
+    where
+      go : (x : Step) → pastOf s c b ≡ x → onStep x (λ y. pastAll t s y) Step.Wrong ≡ Step.Next next →
+          ((y : Cursor) → P y → pastAll t s y ≡ Step.Next next → P next) → P next
+      go (Step.Next y) hx f ih = ih y (past-keeps c b y h hx) f
+      go Step.Wrong hx f ih = let z : _≡_ {A = ℕ} 0 1 = cc in absurd (omega arith)
+
   -- ---- what is read, or refused by a number of which Q holds
 
   module _ (Q : ℕ → Type 0) where
-    -- a number in its range: a fault's place is the line at the cursor where the field began
-    pub stands-ranged : (form range lo hi b : ℕ) → Q form → Q range → (c : Cursor) → P c → HoldsOn P Q (rangedAt form range lo hi b s c)
-    unfolding rangedAt
-    stands-ranged form range lo hi b qf qr c h = go (fieldAt 4 s c b) refl
+    -- a field in its range: a fault's place is the line at the cursor where the field began
+    pub stands-limited : (form range lo hi : ℕ) → Q form → Q range → (c : Cursor) → P c → (f : NumberField) →
+        ((n : ℕ) (next : Cursor) → f ≡ NumberField.Value n next → P next) → HoldsOn P Q (limited form range lo hi (c .line) f)
+    stands-limited form range lo hi qf qr c h (NumberField.Value m x) after = bounded x (after m x refl) (boundedOf lo hi m)
       where
         bounded : (next : Cursor) → P next → (a : Bounded) → HoldsOn P Q (onBounded a (λ v. Parsed.got v next) (Parsed.bad range (c .line)))
         bounded next w (Bounded.Within v) = w
         bounded next w Bounded.Outside = record { cursor = c; keeps = h; line = refl; number = qr }
+    stands-limited form range lo hi qf qr c h NumberField.Malformed after = record { cursor = c; keeps = h; line = refl; number = qf }
 
-        go : (f : NumberField) → fieldAt 4 s c b ≡ f →
-            HoldsOn P Q (onField f (λ m x. onBounded (boundedOf lo hi m) (λ v. Parsed.got v x) (Parsed.bad range (c .line))) (Parsed.bad form (c .line)))
-        go (NumberField.Value m x) e = bounded x (field-keeps 4 c b m x h e) (boundedOf lo hi m)
-        go NumberField.Malformed e = record { cursor = c; keeps = h; line = refl; number = qf }
+    pub stands-ranged : (form range lo hi b : ℕ) → Q form → Q range → (c : Cursor) → P c → HoldsOn P Q (rangedAt form range lo hi b s c)
+    unfolding rangedAt
+    stands-ranged form range lo hi b qf qr c h =
+        stands-limited form range lo hi qf qr c h (fieldAt 4 s c b) (λ n next e. field-keeps 4 c b n next h e)
+
+    pub stands-paired : (form range lo hi b : ℕ) → Q form → Q range → (c : Cursor) → P c → HoldsOn P Q (pairedAt form range lo hi b s c)
+    unfolding pairedAt
+    stands-paired form range lo hi b qf qr c h = stands-limited form range lo hi qf qr c h (pairFieldAt s c b)
+        (λ n next e. let w = pair-found s c b n next e in past-keeps (w .after) b next (pair-keeps c n (w .after) h (w .pair)) (w .past))
+
+    pub stands-text : (form : ℕ) (t : List ℕ) → Q form → (c : Cursor) → P c → HoldsOn P Q (textAt form t s c)
+    unfolding textAt
+    stands-text form t q c h = go (pastAll t s c) refl
+      where
+        go : (x : Step) → pastAll t s c ≡ x → HoldsOn {A = Unit {0}} P Q (onStep x (λ next. Parsed.got tt next) (Parsed.bad form (c .line)))
+        go (Step.Next next) e = all-keeps t c next h e
+        go Step.Wrong e = record { cursor = c; keeps = h; line = refl; number = q }
 
     -- ---- parts in a row
 

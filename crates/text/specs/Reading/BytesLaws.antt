@@ -61,17 +61,20 @@ at-length s c e = omega (arith, length-drop (c .at) s, ap length e)
 
 -- ---- the byte after a field
 
-pub past-spelt : (s : List ℕ) (c next : Cursor) (b : ℕ) → b < 256 → pastOf s c b ≡ Step.Next next → from s c ≡ b ∷ from s next
+-- a byte that was passed stood there, and the cursor is past it
+pub past-found : (s : List ℕ) (c : Cursor) (b : ℕ) (next : Cursor) → pastOf s c b ≡ Step.Next next → (byteAt s c ≡ b) × (passing b c ≡ next)
 unfolding pastOf
-past-spelt s c next b h e = go (eqb (byteAt s c) b) refl e
+past-found s c b next e = go (eqb (byteAt s c) b) refl e
   where
-    go : (p : Bool) → eqb (byteAt s c) b ≡ p → pick p (Step.Next (passing b c)) Step.Wrong ≡ Step.Next next → from s c ≡ b ∷ from s next
-    go true hp f =
-        let q : passing b c ≡ next = cc in
-        let w : byteAt s c ≡ b = eqb-true (byteAt s c) b hp in
-        let k : from s c ≡ b ∷ from s (ahead c) = rw w at (from-cons s c (inside s (c .at) (omega (arith, w, h)))) in
-        k ∙ ap (λ (x : Cursor). b ∷ from s x) q
+    go : (p : Bool) → eqb (byteAt s c) b ≡ p → pick p (Step.Next (passing b c)) Step.Wrong ≡ Step.Next next → (byteAt s c ≡ b) × (passing b c ≡ next)
+    go true hp f = let q : passing b c ≡ next = cc in (eqb-true (byteAt s c) b hp, q)
     go false hp f = let z : _≡_ {A = ℕ} 0 1 = cc in absurd (omega arith)
+
+pub past-spelt : (s : List ℕ) (c next : Cursor) (b : ℕ) → b < 256 → pastOf s c b ≡ Step.Next next → from s c ≡ b ∷ from s next
+past-spelt s c next b h e =
+    let w = past-found s c b next e in
+    let k : from s c ≡ b ∷ from s (ahead c) = rw (w .0) at (from-cons s c (inside s (c .at) (omega (arith, w .0, h)))) in
+    k ∙ ap (λ (x : Cursor). b ∷ from s x) (w .1)
 
 pub past-reads : (s : List ℕ) (c : Cursor) (b : ℕ) (rest : List ℕ) → from s c ≡ b ∷ rest → pastOf s c b ≡ Step.Next (passing b c)
 unfolding pastOf

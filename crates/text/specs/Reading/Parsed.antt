@@ -2,6 +2,7 @@
 use Prim.Native.Nat.{ℕ, zero, suc}
 use mathlib.Core.List.{List, [], _∷_}
 use Rattle.text.specs.declared.Cursor.{Cursor}
+use Rattle.text.specs.declared.NumberField.{NumberField}
 use Rattle.text.specs.Reading.Choice.{onField, onBounded}
 use Rattle.text.specs.Reading.Numbers.{fieldAt}
 use Rattle.text.specs.Reading.Limits.{boundedOf}
@@ -29,10 +30,14 @@ many (suc k) part s c =
 abbrev pub lines : {A : Type 0} → ℕ → (List ℕ → Cursor → Parsed A) → List ℕ → Cursor → Parsed (List A)
 lines k line s c = many k (λ left. line) s c
 
--- a number of one to four digits from lo to hi with the byte b after it: its form and the byte after it (number `form`), then its range (number
--- `range`); the place of a fault is the line on which the field began
+-- a field, form and byte after it first (number `form`), then its range from lo to hi (number `range`); the place of a fault is the line on which the
+-- field began
+abbrev pub limited : (form range lo hi line : ℕ) → NumberField → Parsed ℕ
+limited form range lo hi line f =
+    onField f
+    (λ n next. onBounded (boundedOf lo hi n) (λ v. Parsed.got v next) (Parsed.bad range line))
+    (Parsed.bad form line)
+
+-- a number of one to four digits from lo to hi with the byte b after it
 unfoldable pub rangedAt : (form range lo hi b : ℕ) → List ℕ → Cursor → Parsed ℕ
-rangedAt form range lo hi b s c =
-    onField (fieldAt 4 s c b)
-    (λ n next. onBounded (boundedOf lo hi n) (λ v. Parsed.got v next) (Parsed.bad range (c .line)))
-    (Parsed.bad form (c .line))
+rangedAt form range lo hi b s c = limited form range lo hi (c .line) (fieldAt 4 s c b)

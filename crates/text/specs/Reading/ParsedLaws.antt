@@ -12,13 +12,13 @@ use Rattle.text.specs.declared.Digit.{Digit}
 use Rattle.text.specs.declared.NumberField.{NumberField}
 use Rattle.text.specs.declared.Bounded.{Bounded}
 use Rattle.text.specs.declared.Limits.{Limits}
-use Rattle.text.specs.Reading.Choice.{pick, onField, onBounded}
+use Rattle.text.specs.Reading.Choice.{pick, onBounded}
 use Rattle.text.specs.Reading.Bytes.{from, digitOf}
 use Rattle.text.specs.Reading.Numbers.{fieldAt}
 use Rattle.text.specs.Writing.Digits.{digits}
 use Rattle.text.specs.Writing.DigitsLaws.{digits-length, field-spelt, field-reads, field-leaves, pastField}
 use Rattle.text.specs.Reading.Limits.{boundedOf}
-use Rattle.text.specs.Reading.Parsed.{Parsed, thenRead, many, rangedAt}
+use Rattle.text.specs.Reading.Parsed.{Parsed, thenRead, many, limited, rangedAt}
 use Rattle.text.specs.Elements.EachThen.{eachThen}
 use Rattle.finite.specs.Each.{Each}
 
@@ -105,19 +105,53 @@ bounded-fits lo hi n l h = simp (le-ltb n lo l, le-ltb hi n h)
 pub bounded-by : {b : Bounded} {l : Limits} (r : Limits) (n : ℕ) → b ≡ boundedOf (l .min) (l .max) n → l ≡ r → b ≡ boundedOf (r .min) (r .max) n
 bounded-by r n built limits = built ∙ ap (λ (k : Limits). boundedOf (k .min) (k .max) n) limits
 
+-- ---- a field in its range
+
+module _ (form range lo hi line : ℕ) {f : NumberField} where
+  pub limited-malformed : f ≡ NumberField.Malformed → limited form range lo hi line f ≡ Parsed.bad form line
+  limited-malformed e = simp e
+
+  module _ {n : ℕ} {next : Cursor} (e : f ≡ NumberField.Value n next) where
+    pub limited-outside : boundedOf lo hi n ≡ Bounded.Outside → limited form range lo hi line f ≡ Parsed.bad range line
+    limited-outside o = simp (e, o)
+
+    pub limited-value : {v : ℕ} → boundedOf lo hi n ≡ Bounded.Within v → limited form range lo hi line f ≡ Parsed.got v next
+    limited-value o = simp (e, o)
+
+-- what was read of a field is in its range, and is what the field has
+pub record InLimits (lo hi : ℕ) (f : NumberField) (n : ℕ) (next : Cursor) : Type 0 where
+  pub low : lo ≤ n
+  pub high : n ≤ hi
+  pub is : f ≡ NumberField.Value n next
+
+pub limited-got : (form range lo hi line : ℕ) (f : NumberField) (n : ℕ) (next : Cursor) → limited form range lo hi line f ≡ Parsed.got n next →
+    InLimits lo hi f n next
+limited-got form range lo hi line (NumberField.Value m x) n next e = go (boundedOf lo hi m) refl e
+  where
+    go : (a : Bounded) → boundedOf lo hi m ≡ a → onBounded a (λ v. Parsed.got v x) (Parsed.bad range line) ≡ Parsed.got n next →
+        InLimits lo hi (NumberField.Value m x) n next
+    go Bounded.Outside o g = absurd (bad-got range line n next g)
+    go (Bounded.Within v) o g =
+        let w = bounded-within lo hi m v o in
+        let q : v ≡ n = cc in
+        let y : x ≡ next = cc in
+        let same : m ≡ n = sym (w .same) ∙ q in
+        record { low = omega (arith, w .low); high = omega (arith, w .high); is = rw (same, y) refl }
+limited-got form range lo hi line NumberField.Malformed n next e = absurd (bad-got form line n next e)
+
 module _ (form range lo hi b : ℕ) (s : List ℕ) (c : Cursor) where
   pub ranged-malformed : fieldAt 4 s c b ≡ NumberField.Malformed → rangedAt form range lo hi b s c ≡ Parsed.bad form (c .line)
   unfolding rangedAt
-  ranged-malformed e = simp e
+  ranged-malformed e = limited-malformed form range lo hi (c .line) e
 
   module _ (n : ℕ) (next : Cursor) (e : fieldAt 4 s c b ≡ NumberField.Value n next) where
     pub ranged-outside : boundedOf lo hi n ≡ Bounded.Outside → rangedAt form range lo hi b s c ≡ Parsed.bad range (c .line)
     unfolding rangedAt
-    ranged-outside o = simp (e, o)
+    ranged-outside o = limited-outside form range lo hi (c .line) e o
 
     pub ranged-value : (v : ℕ) → boundedOf lo hi n ≡ Bounded.Within v → rangedAt form range lo hi b s c ≡ Parsed.got v next
     unfolding rangedAt
-    ranged-value v o = simp (e, o)
+    ranged-value v o = limited-value form range lo hi (c .line) e o
 
   -- what was read is in its range, and the text is its digits and the byte b
   pub record RangedSpelt (n : ℕ) (next : Cursor) : Type 0 where
@@ -127,27 +161,9 @@ module _ (form range lo hi b : ℕ) (s : List ℕ) (c : Cursor) where
 
   pub ranged-spelt : (n : ℕ) (next : Cursor) → b < 256 → rangedAt form range lo hi b s c ≡ Parsed.got n next → RangedSpelt n next
   unfolding rangedAt
-  ranged-spelt n next h e = go (fieldAt 4 s c b) refl e
-    where
-      value : (m : ℕ) (x : Cursor) → fieldAt 4 s c b ≡ NumberField.Value m x → (a : Bounded) → boundedOf lo hi m ≡ a →
-          onBounded a (λ v. Parsed.got v x) (Parsed.bad range (c .line)) ≡ Parsed.got n next → RangedSpelt n next
-      value m x f Bounded.Outside o g = let z : _≡_ {A = ℕ} 0 1 = cc in absurd (omega arith)
-      value m x f (Bounded.Within v) o g =
-          let w = bounded-within lo hi m v o in
-          let q : v ≡ n = cc in
-          let y : x ≡ next = cc in
-          let same : m ≡ n = sym (w .same) ∙ q in
-          record {
-            low = omega (arith, w .low);
-            high = omega (arith, w .high);
-            text = rw (same, y) at (field-spelt 4 (omega arith) (omega arith) s c x b m h f);
-          }
-
-      go : (f : NumberField) → fieldAt 4 s c b ≡ f →
-          onField f (λ m x. onBounded (boundedOf lo hi m) (λ v. Parsed.got v x) (Parsed.bad range (c .line))) (Parsed.bad form (c .line)) ≡ Parsed.got n next →
-          RangedSpelt n next
-      go (NumberField.Value m x) f g = value m x f (boundedOf lo hi m) refl g
-      go NumberField.Malformed f g = let z : _≡_ {A = ℕ} 0 1 = cc in absurd (omega arith)
+  ranged-spelt n next h e =
+      let w = limited-got form range lo hi (c .line) (fieldAt 4 s c b) n next e in
+      record { low = w .low; high = w .high; text = field-spelt 4 (omega arith) (omega arith) s c next b n h (w .is) }
 
 -- ---- a text is read as its value
 

@@ -1,24 +1,14 @@
--- Laws of writing into lent bytes: a copy byte by byte, its two endings, and what an answer says.
+-- Laws of writing into lent bytes: its two endings, and what an answer says.
 use Prim.Native.Nat.{ℕ, _+_, _<_, _≤_}
 use mathlib.Core.Path.{_≡_, refl, sym, ap, _∙_}
 use mathlib.Core.List.{List, _++_}
 use native.Mathlib.Omega.{arith}
-use native.Mathlib.Numerals.{add-one}
 use borrow.Author.Tests.{le-leb, lt-leb}
-use lib.ListN.{length, set, getD, take, drop, drop-of-length-le}
-use lib.Seq.{sets, sets-eq, drop-cons, take-append-seam}
+use lib.ListN.{length, take, drop}
+use lib.Seq.{sets, sets-eq, take-append-seam}
 use Rattle.text.specs.declared.Written.{Written}
 use Rattle.text.specs.Writing.Splice.{Put}
 use Rattle.text.specs.Writing.Lend.{Spelling, writtenOf, bytesAfter, Lent}
-
--- ---- the copy of a text, of which i bytes are copied
-
-module _ (s out : List ℕ) (i : ℕ) where
-  pub copy-step : i < length s → sets out i (drop i s) ≡ sets (set out i (getD s i 0)) (i + 1) (drop (i + 1) s)
-  copy-step h = rw (drop-cons s i 0 h, add-one i) refl
-
-  pub copy-end : length s ≤ i → sets out i (drop i s) ≡ out
-  copy-end e = rw (drop-of-length-le s e) refl
 
 -- ---- the two endings
 

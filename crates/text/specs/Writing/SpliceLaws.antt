@@ -1,10 +1,11 @@
 -- Texts written one after the other are one text written.
-use Prim.Native.Nat.{ℕ, suc, _+_, _≤_}
+use Prim.Native.Nat.{ℕ, suc, _+_, _≤_, _<_}
 use mathlib.Core.Path.{_≡_, refl, sym, ap, _∙_}
 use mathlib.Core.List.{List, [], _∷_, _++_}
 use native.Mathlib.Omega.{arith}
-use lib.ListN.{length, length-append}
-use lib.Seq.{sets, length-sets}
+use native.Mathlib.Numerals.{add-one}
+use lib.ListN.{length, getD, set, drop, length-append, drop-of-length-le}
+use lib.Seq.{sets, length-sets, drop-cons}
 use Rattle.text.specs.Writing.Splice.{Put}
 
 pub sets-append : (l : List ℕ) (i : ℕ) (t u : List ℕ) → sets (sets l i t) (i + length t) u ≡ sets l i (t ++ u)
@@ -20,6 +21,17 @@ put-then {entry} {middle} {exit} {at} {next} {r} {t} {u} p q = record {
   bytes = q .bytes ∙ ap (λ (l : List ℕ). sets l next u) (p .bytes) ∙ ap (λ (i : ℕ). sets (sets entry at t) i u) (p .next) ∙ sets-append entry at t u;
   next = q .next ∙ ap (λ (i : ℕ). i + length u) (p .next) ∙ (rw length-append (omega arith));
 }
+
+-- ---- a text written byte by byte from position `at` on, of which i bytes are written
+
+module _ (t out : List ℕ) (at i : ℕ) where
+  pub copy-step : i < length t → sets out (at + i) (drop i t) ≡ sets (set out (at + i) (getD t i 0)) (at + (i + 1)) (drop (i + 1) t)
+  copy-step h =
+      let next : at + (i + 1) ≡ suc (at + i) = omega arith in
+      rw (drop-cons t i 0 h, next, add-one i) refl
+
+  pub copy-end : length t ≤ i → sets out (at + i) (drop i t) ≡ out
+  copy-end e = rw (drop-of-length-le t e) refl
 
 -- ---- a text written part by part in a loop
 

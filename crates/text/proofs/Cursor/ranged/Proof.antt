@@ -1,6 +1,6 @@
--- `text::Cursor::ranged` meets its contract: each `return` follows from the answers that led there, by the law of that case. Assumes nothing.
-use mathlib.Core.Path.{_∙_, sym}
-use Rattle.text.specs.Reading.ParsedLaws.{ranged-malformed, ranged-outside, ranged-value}
+-- `text::Cursor::ranged` meets its contract: a number and the byte after it, and then the limits. Assumes nothing.
+use mathlib.Core.Path.{_∙_, ap}
+use Rattle.text.specs.Reading.Parsed.{limited, rangedAt}
 use borrow.Author.Needs.{needs}
 use Rattle.text.proofs.Cursor.ranged.Statement.{statement}
 use Rattle.text.proofs.Cursor.ranged.Tie as tie
@@ -8,45 +8,12 @@ use Rattle.text.proofs.Cursor.ranged.Tie as tie
 number-field-requires : tie.Need-number-field-requires
 number-field-requires c κs = search needs
 
-enum-known-n : tie.Need-enum-known-n
-enum-known-n c = search needs
-
-enum-told : tie.Need-enum-told
-enum-told c = search needs
+limited-requires : tie.Need-limited-requires
+limited-requires c κs = search needs
 
 returns : tie.Need-returns
-returns c = sym (ranged-malformed _ _ _ _ _ _ _ (sym (c .before .before .number-field .ensures) ∙ c .enum-told .given .1))
-
-value-requires : tie.Need-value-requires
-value-requires c κs = search needs
-
-enum-known-v : tie.Need-enum-known-v
-enum-known-v c = search needs
-
-enum-told-2 : tie.Need-enum-told-2
-enum-told-2 c = search needs
-
-returns-2 : tie.Need-returns-2
-returns-2 c =
-    let field = sym (c .before .before .before .before .before .before .number-field .ensures) ∙ c .before .before .before .before .n .given .1 in
-    sym (ranged-outside _ _ _ _ _ _ _ _ _ field (sym (c .before .before .value .ensures) ∙ c .enum-told2 .given .1))
-
-returns-3 : tie.Need-returns-3
-returns-3 c =
-    let field = sym (c .before .before .before .before .before .before .before .number-field .ensures)
-    ∙ c .before .before .before .before .before .n .given .1 in
-    sym (ranged-value _ _ _ _ _ _ _ _ _ field _ (sym (c .before .before .before .value .ensures) ∙ c .before .v .given .1))
+unfolding rangedAt
+returns c = c .limited .ensures ∙ ap (limited _ _ _ _ _) (c .before .number-field .ensures)
 
 pub ranged-spec : {M : Type 1} → statement M
-ranged-spec =
-    tie.close
-    (tie.spec
-    number-field-requires
-    enum-known-n
-    enum-told
-    returns
-    value-requires
-    enum-known-v
-    enum-told-2
-    returns-2
-    returns-3)
+ranged-spec = tie.close (tie.spec number-field-requires limited-requires returns)
