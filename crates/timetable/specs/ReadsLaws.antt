@@ -120,12 +120,12 @@ module _ (l : Line) (w : Within l) (m : List ℕ) (days : EachTrain l (InDays l 
       }
 
   -- the first part of the text
-  record MinutesRead (c : Cursor) (rest : List ℕ) : Type 0 where
-    minutes : List ℕ
-    reads : Reads (minutesAt l s c) minutes s rest
-    same : Same l minutes m
+  pub record MinutesRead (c : Cursor) (rest : List ℕ) : Type 0 where
+    pub minutes : List ℕ
+    pub reads : Reads (minutesAt l s c) minutes s rest
+    pub same : Same l minutes m
 
-  minutes-read : (c : Cursor) (rest : List ℕ) → from s c ≡ minutesText l m rest → MinutesRead c rest
+  pub minutes-read : (c : Cursor) (rest : List ℕ) → from s c ≡ minutesText l m rest → MinutesRead c rest
   unfolding minutesText
   minutes-read c rest e =
       let n = l .traffic .«train_count» in
@@ -140,6 +140,11 @@ module _ (l : Line) (w : Within l) (m : List ℕ) (days : EachTrain l (InDays l 
         };
         same = λ i h. lines .same i (omega arith) (omega arith);
       }
+
+-- the train lines that are written are read back, to their end, as the same minutes
+pub lines-back : (l : Line) (w : Within l) (m : List ℕ) (days : EachTrain l (InDays l m)) →
+    MinutesRead l w m days (minutesText l m []) (record { at = 0; line = 1 }) []
+lines-back l w m days = minutes-read l w m days (minutesText l m []) (record { at = 0; line = 1 }) [] refl
 
 -- ---- an order list
 

@@ -121,12 +121,12 @@ module _ (l : Line) (w : Within l) (s : List ℕ) where
       }
 
   -- the first part of the text
-  record MinutesSpelt (c : Cursor) (m : List ℕ) (next : Cursor) : Type 0 where
-    days : EachTrain l (InDays l m)
-    many : length m ≡ 352
-    text : from s c ≡ minutesText l m (from s next)
+  pub record MinutesSpelt (c : Cursor) (m : List ℕ) (next : Cursor) : Type 0 where
+    pub days : EachTrain l (InDays l m)
+    pub many : length m ≡ 352
+    pub text : from s c ≡ minutesText l m (from s next)
 
-  minutes-spelt : (c : Cursor) (m : List ℕ) (next : Cursor) → minutesAt l s c ≡ Parsed.got m next → MinutesSpelt c m next
+  pub minutes-spelt : (c : Cursor) (m : List ℕ) (next : Cursor) → minutesAt l s c ≡ Parsed.got m next → MinutesSpelt c m next
   unfolding minutesText
   minutes-spelt c m next e =
       let n = l .traffic .«train_count» in
