@@ -85,7 +85,7 @@ module _ (l : Line) (m : List ℕ) where
     pub total-small : weightedDelay l m < 10000000
     total-small = omega (arith, w .trains, cost-most l m (within-runnable l w) days)
 
-    -- ---- the whole text
+    -- ---- the train lines, and the whole text
 
     trains-length : (k i n : ℕ) (rest : List ℕ) → i + k ≤ l .traffic .«train_count» → length rest ≤ n → length (trainsText k l m i rest) ≤ n + k * 110
     unfolding trainsText
@@ -95,8 +95,19 @@ module _ (l : Line) (m : List ℕ) where
         legs-length (train l i) m i (legs l i) 0 _ _ (days i (omega arith)) (omega arith) (trains-length k (i + 1) n rest (omega arith) h) in
         omega (arith, legs-most l i (within-runnable l w) (omega arith))
 
+    minutes-length : (n : ℕ) (rest : List ℕ) → length rest ≤ n → length (minutesText l m rest) ≤ n + 1325
+    unfolding minutesText
+    minutes-length n rest h =
+        let trains = l .traffic .«train_count» in
+        let size : length (minutesText l m rest) ≤ n + trains * 110 + 5 =
+        field-length trains 10 _ _ (omega (arith, w .trains)) (trains-length trains 0 n rest (omega arith) h) in
+        omega (arith, w .trains)
+
+    pub lines-fit : length (minutesText l m []) ≤ 4096
+    lines-fit = omega (arith, minutes-length 0 [] (omega arith))
+
     pub timetable-fits : length (timetableText l m) ≤ 4096
-    unfolding timetableText minutesText restText
+    unfolding timetableText restText
     timetable-fits =
         let few = lists-few l (omega (arith, w .stations)) in
         let trains = l .traffic .«train_count» in
@@ -104,10 +115,9 @@ module _ (l : Line) (m : List ℕ) where
         let last = field (weightedDelay l m) 10 [] in
         let short = total-length (weightedDelay l m) total-small in
         let all : take 22 ls ≡ ls = take-all 22 ls (omega (arith, numbers-count)) in
-        let size : length (timetableText l m) ≤ 8 + 22 * 65 + 5 + trains * 110 + 5 =
-        field-length trains 10 _ _ (omega (arith, w .trains)) (
-        trains-length trains 0 _ _ (omega arith) (
+        let size : length (timetableText l m) ≤ 8 + 22 * 65 + 5 + 1325 =
+        minutes-length _ _ (
         field-length (listCount l) 10 _ _ (omega arith) (
         rw all at (each-length (ListWithin trains) listText 65 (list-length trains (w .trains .1)) 22 ls (rw all lists-numbers) 8 last short)
-        ))) in
-        omega (arith, w .trains)
+        )) in
+        omega arith

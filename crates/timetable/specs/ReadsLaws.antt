@@ -38,7 +38,7 @@ use Rattle.timetable.specs.Reading.{withLeg, legsAt, trainsAt, minutesAt
 use Rattle.timetable.specs.ReadingLaws.{legs-step, trains-step, minutes-counted}
 use Rattle.timetable.specs.ListLaws.{own-value}
 use Rattle.timetable.specs.Spell.{legsText, trainsText, minutesText, namesText, listText, restText}
-use Rattle.timetable.specs.StoresLaws.{leg-stored, legs-stored, departure-stored, arrival-stored, trains-stored}
+use Rattle.timetable.specs.StoresLaws.{leg-stored, legs-stored, departure-stored, arrival-stored, trains-stored, earlier-stays}
 use Rattle.timetable.specs.SpeltLaws.{DaysAt}
 
 after-ends : (k : ℕ) → digitOf (afterField k) ≡ Digit.Other
@@ -104,7 +104,7 @@ module _ (l : Line) (w : Within l) (m : List ℕ) (days : EachTrain l (InDays l 
       let first = one .reads in
       let long = legs-stored t i (legs l i) 0 m₀ s c (one .minutes) (first .next) (first .reads) .size ∙ size in
       let more = trains-read k (i + 1) (one .minutes) (first .next) rest long (omega arith) (first .leaves) in
-      let kept = trains-stored k l (i + 1) (one .minutes) s (first .next) (more .minutes) (more .reads .next) (omega arith) (more .reads .reads) in
+      let kept = earlier-stays l (trains-stored l k (i + 1) (one .minutes) s (first .next) (more .minutes) (more .reads .next) (more .reads .reads)) (omega arith) in
       record {
         minutes = more .minutes;
         reads = record {
@@ -115,17 +115,17 @@ module _ (l : Line) (w : Within l) (m : List ℕ) (days : EachTrain l (InDays l 
         same = each-first (SameTimes (more .minutes)) k i
             (λ j h.
             let read = one .same j (omega arith) (omega arith) in
-            (kept .stays (departs (segmentOf t j) i) (omega arith) ∙ read .0, kept .stays (arrives (segmentOf t j) i) (omega arith) ∙ read .1))
+            (kept (departs (segmentOf t j) i) (omega arith) ∙ read .0, kept (arrives (segmentOf t j) i) (omega arith) ∙ read .1))
             (more .same);
       }
 
   -- the first part of the text
-  record MinutesRead (c : Cursor) (rest : List ℕ) : Type 0 where
-    minutes : List ℕ
-    reads : Reads (minutesAt l s c) minutes s rest
-    same : Same l minutes m
+  pub record MinutesRead (c : Cursor) (rest : List ℕ) : Type 0 where
+    pub minutes : List ℕ
+    pub reads : Reads (minutesAt l s c) minutes s rest
+    pub same : Same l minutes m
 
-  minutes-read : (c : Cursor) (rest : List ℕ) → from s c ≡ minutesText l m rest → MinutesRead c rest
+  pub minutes-read : (c : Cursor) (rest : List ℕ) → from s c ≡ minutesText l m rest → MinutesRead c rest
   unfolding minutesText
   minutes-read c rest e =
       let n = l .traffic .«train_count» in
@@ -140,6 +140,11 @@ module _ (l : Line) (w : Within l) (m : List ℕ) (days : EachTrain l (InDays l 
         };
         same = λ i h. lines .same i (omega arith) (omega arith);
       }
+
+-- the train lines that are written are read back, to their end, as the same minutes
+pub lines-back : (l : Line) (w : Within l) (m : List ℕ) (days : EachTrain l (InDays l m)) →
+    MinutesRead l w m days (minutesText l m []) (record { at = 0; line = 1 }) []
+lines-back l w m days = minutes-read l w m days (minutesText l m []) (record { at = 0; line = 1 }) [] refl
 
 -- ---- an order list
 

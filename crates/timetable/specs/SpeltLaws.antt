@@ -7,7 +7,7 @@ use mathlib.Core.List.{List, [], _++_}
 use native.Mathlib.Omega.{arith}
 use borrow.Author.Tests.{ltb-false}
 use lib.Dec.{ltb, eqb}
-use lib.ListN.{length, replicate, length-replicate, drop-of-length-le}
+use lib.ListN.{length, getD, replicate, length-replicate, drop-of-length-le}
 use Rattle.text.specs.declared.Cursor.{Cursor}
 use Rattle.text.specs.declared.Number.{Number}
 use Rattle.text.specs.declared.NumberField.{NumberField}
@@ -43,7 +43,7 @@ use Rattle.timetable.specs.ReadingLaws.{after-byte, count-is, minutes-co
 use Rattle.timetable.specs.ListLaws.{own-malformed, own-unended, own-over, own-value}
 use Rattle.timetable.specs.Spell.{legsText, trainsText, minutesText, namesText, listText, restText}
 use Rattle.timetable.specs.SameTextLaws.{legs-same}
-use Rattle.timetable.specs.StoresLaws.{departure-stored, arrival-stored, leg-stored, legs-stored, trains-stored}
+use Rattle.timetable.specs.StoresLaws.{departure-stored, arrival-stored, leg-stored, legs-stored, trains-stored, earlier-stays, OfNoLeg, idle-zero}
 
 -- ---- fields
 
@@ -106,10 +106,10 @@ module _ (l : Line) (w : Within l) (s : List ℕ) where
       let a = then-got (legsAt (legs l i) t i 0 m s c) _ m′ next e in
       let one = legs-spelt t (routed-leg l i (within-runnable l w) (omega arith)) i (omega arith) s (legs l i) 0 m c (a .value) (a .next) size (omega arith) (a .first) in
       let long = legs-stored t i (legs l i) 0 m s c (a .value) (a .next) (a .first) .size ∙ size in
-      let kept = trains-stored k l (i + 1) (a .value) s (a .next) m′ next (omega arith) (a .after) in
+      let kept = earlier-stays l (trains-stored l k (i + 1) (a .value) s (a .next) m′ next (a .after)) (omega arith) in
       let others = trains-spelt k (i + 1) (a .value) (a .next) m′ next long (omega arith) (a .after) in
       let same : (q : ℕ) → (departureOf t (a .value) i q ≡ departureOf t m′ i q) × (arrivalOf t (a .value) i q ≡ arrivalOf t m′ i q) =
-      λ q. (sym (kept .stays (departs (segmentOf t q) i) (omega arith)), sym (kept .stays (arrives (segmentOf t q) i) (omega arith))) in
+      λ q. (sym (kept (departs (segmentOf t q) i) (omega arith)), sym (kept (arrives (segmentOf t q) i) (omega arith))) in
       record {
         days = each-first (InDays l m′) k i
             (λ j h. let d = one .days j (omega arith) (omega arith) in (omega (arith, d .0, same j .0), omega (arith, d .1, same j .1)))
@@ -120,22 +120,25 @@ module _ (l : Line) (w : Within l) (s : List ℕ) where
             ∙ legs-same (a .value) m′ (legs l i) t i 0 (trainsText k l m′ (i + 1) (from s next)) (λ q _ _. same q);
       }
 
-  -- the first part of the text
-  record MinutesSpelt (c : Cursor) (m : List ℕ) (next : Cursor) : Type 0 where
-    days : EachTrain l (InDays l m)
-    many : length m ≡ 352
-    text : from s c ≡ minutesText l m (from s next)
+  -- the first part of the text that was read; entries of no train's leg are 0
+  pub record MinutesSpelt (c : Cursor) (m : List ℕ) (next : Cursor) : Type 0 where
+    pub days : EachTrain l (InDays l m)
+    pub many : length m ≡ 352
+    pub idle : (x : ℕ) → OfNoLeg l x → getD m x 0 ≡ 0
+    pub text : from s c ≡ minutesText l m (from s next)
 
-  minutes-spelt : (c : Cursor) (m : List ℕ) (next : Cursor) → minutesAt l s c ≡ Parsed.got m next → MinutesSpelt c m next
+  pub minutes-spelt : (c : Cursor) (m : List ℕ) (next : Cursor) → minutesAt l s c ≡ Parsed.got m next → MinutesSpelt c m next
   unfolding minutesText
   minutes-spelt c m next e =
       let n = l .traffic .«train_count» in
       let count = then-got (countAt n s c) (λ v c₁. trainsAt v l 0 (replicate 352 0) s c₁) m next (unfold minutesAt in e) in
       let lines = sym (minutes-counted l s c (count .first)) ∙ e in
+      let stored = trains-stored l n 0 (replicate 352 0) s (count .next) m next lines in
       let read = trains-spelt n 0 (replicate 352 0) (count .next) m next (length-replicate {A = ℕ} 352 0) (omega arith) lines in
       record {
         days = λ i h. read .days i (omega arith) (omega arith);
-        many = trains-stored n l 0 (replicate 352 0) s (count .next) m next (omega (arith, w .trains)) lines .size ∙ length-replicate {A = ℕ} 352 0;
+        many = stored .size ∙ length-replicate {A = ℕ} 352 0;
+        idle = idle-zero l stored;
         text = count-spelt n s c (count .value) (count .next) (count .first) ∙ ap (λ (y : List ℕ). field n 10 y) (read .text);
       }
 

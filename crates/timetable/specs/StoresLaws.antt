@@ -1,9 +1,10 @@
--- What reading the minutes stores: each leg has two entries of its own, so those of other legs and of other trains stay as they were.
+-- What reading the minutes stores: each leg has two entries of its own, so those of other legs and of other trains stay as they were, and those of no
+-- leg stay 0.
 use Prim.Native.Nat.{ℕ, zero, suc, _+_, _≤_, _<_, _%_}
 use mathlib.Core.Path.{_≡_, refl, _∙_}
 use mathlib.Core.List.{List}
 use native.Mathlib.Omega.{arith}
-use lib.ListN.{length, getD, set, length-set}
+use lib.ListN.{length, getD, set, replicate, length-set}
 use lib.Seq.{getD-set-same, getD-set-other}
 use Rattle.text.specs.declared.Cursor.{Cursor}
 use Rattle.finite.specs.Below.{EachFrom}
@@ -13,7 +14,7 @@ use Rattle.line.specs.declared.Train.{Train}
 use Rattle.line.specs.declared.Line.{Line}
 use Rattle.line.specs.Record.{legsOf}
 use Rattle.line.specs.File.{afterField}
-use Rattle.rules.specs.Statement.Paths.{train, legs, segmentOf, Routed}
+use Rattle.rules.specs.Statement.Paths.{train, legs, segmentOf, Routed, EachTrain, EachLeg}
 use Rattle.rules.specs.Statement.Minutes.{departs, arrives}
 use Rattle.rules.specs.Check.Tests.{departureOf, arrivalOf}
 use Rattle.rules.specs.StatementLaws.PathsLaws.{segment-below, segment-apart}
@@ -22,9 +23,13 @@ use Rattle.timetable.specs.Reading.{timeAt, withLeg, legsAt, trainsAt}
 -- ---- the legs of a train, which is train i
 
 module _ (t : Train) (i : ℕ) where
-  -- entry x is none of those of the k legs from leg j on
+  -- entry x is none of those of leg q
+  abbrev pub OffLeg : ℕ → ℕ → Type 0
+  OffLeg x q = (x ≡ departs (segmentOf t q) i → ⊥) × (x ≡ arrives (segmentOf t q) i → ⊥)
+
+  -- nor of any of the k legs from leg j on
   abbrev pub Off : ℕ → ℕ → ℕ → Type 0
-  Off k j x = EachFrom k j (λ q. (x ≡ departs (segmentOf t q) i → ⊥) × (x ≡ arrives (segmentOf t q) i → ⊥))
+  Off k j x = EachFrom k j (OffLeg x)
 
   -- k legs from leg j on were stored into m, which gave m′
   pub record LegsStored (k j : ℕ) (m m′ : List ℕ) : Type 0 where
@@ -82,20 +87,42 @@ module _ (t : Train) (i : ℕ) where
 
 -- ---- the trains of a line
 
--- trains from train i on were stored into m, which gave m′: entry x of an earlier train is as it was
-pub record TrainsStored (i : ℕ) (m m′ : List ℕ) : Type 0 where
-  pub size : length m′ ≡ length m
-  pub stays : (x : ℕ) → x % 16 < i → getD m′ x 0 ≡ getD m x 0
+zeros : (n x : ℕ) → getD (replicate {A = ℕ} n 0) x 0 ≡ 0
+zeros zero x = refl
+zeros (suc n) zero = refl
+zeros (suc n) (suc x) = zeros n x
 
-pub trains-stored : (k : ℕ) (l : Line) (i : ℕ) (m s : List ℕ) (c : Cursor) (m′ : List ℕ) (next : Cursor) → i + k ≤ 12 →
-    trainsAt k l i m s c ≡ Parsed.got m′ next → TrainsStored i m m′
-unfolding trainsAt
-trains-stored zero l i m s c m′ next few e = got-is (λ y _. TrainsStored i m y) e (record { size = refl; stays = λ x h. refl })
-trains-stored (suc k) l i m s c m′ next few e =
-    let a = then-got (legsAt (legs l i) (train l i) i 0 m s c) _ m′ next e in
-    let one = legs-stored (train l i) i (legs l i) 0 m s c (a .value) (a .next) (a .first) in
-    let others = trains-stored k l (i + 1) (a .value) s (a .next) m′ next (omega arith) (a .after) in
-    record {
-      size = others .size ∙ one .size;
-      stays = λ x h. others .stays x (omega arith) ∙ one .stays x (λ q low high. ((λ z. omega arith), (λ z. omega arith)));
-    }
+module _ (l : Line) where
+  -- entry x is none of those of the legs of the k trains from train i on
+  abbrev pub OffTrains : ℕ → ℕ → ℕ → Type 0
+  OffTrains k i x = EachFrom k i (λ q. Off (train l q) q (legs l q) 0 x)
+
+  -- k trains from train i on were stored into m, which gave m′
+  pub record TrainsStored (k i : ℕ) (m m′ : List ℕ) : Type 0 where
+    pub size : length m′ ≡ length m
+    pub stays : (x : ℕ) → OffTrains k i x → getD m′ x 0 ≡ getD m x 0
+
+  pub trains-stored : (k i : ℕ) (m s : List ℕ) (c : Cursor) (m′ : List ℕ) (next : Cursor) → trainsAt k l i m s c ≡ Parsed.got m′ next →
+      TrainsStored k i m m′
+  unfolding trainsAt
+  trains-stored zero i m s c m′ next e = got-is (λ y _. TrainsStored 0 i m y) e (record { size = refl; stays = λ x off. refl })
+  trains-stored (suc k) i m s c m′ next e =
+      let a = then-got (legsAt (legs l i) (train l i) i 0 m s c) _ m′ next e in
+      let one = legs-stored (train l i) i (legs l i) 0 m s c (a .value) (a .next) (a .first) in
+      let others = trains-stored k (i + 1) (a .value) s (a .next) m′ next (a .after) in
+      record {
+        size = others .size ∙ one .size;
+        stays = λ x off. others .stays x (λ q low high. off q (omega arith) (omega arith)) ∙ one .stays x (off i (omega arith) (omega arith));
+      }
+
+  -- the entries of earlier trains are none of those
+  pub earlier-stays : {k i : ℕ} {m m′ : List ℕ} → TrainsStored k i m m′ → i + k ≤ 12 → (x : ℕ) → x % 16 < i → getD m′ x 0 ≡ getD m x 0
+  earlier-stays stored few x h = stored .stays x (λ q low high j _ _. ((λ z. omega arith), (λ z. omega arith)))
+
+  -- entry x is of no train's leg
+  abbrev pub OfNoLeg : ℕ → Type 0
+  OfNoLeg x = EachTrain l (λ i. EachLeg l i (OffLeg (train l i) i x))
+
+  -- with all trains stored into 0 everywhere, it is 0 still
+  pub idle-zero : {m : List ℕ} → TrainsStored (l .traffic .«train_count») 0 (replicate 352 0) m → (x : ℕ) → OfNoLeg x → getD m x 0 ≡ 0
+  idle-zero stored x off = stored .stays x (λ i _ high k _ here. off i (omega arith) k (omega arith)) ∙ zeros 352 x

@@ -27,8 +27,11 @@ use Rattle.line.specs.declared.Train.{Train}
 use Rattle.line.specs.declared.Line.{Line}
 use Rattle.line.specs.declared.writing.Fault.{Fault}
 use Rattle.line.specs.Record.{legsOf}
+use Rattle.line.specs.Within.{Within}
 use Rattle.line.specs.Spell.{field}
 use Rattle.line.specs.Writing.{faultOf}
+use Rattle.line.specs.FaultLaws.{CleanWhen, tells-then}
+use Rattle.line.specs.WithinLaws.{within-of, fault-none}
 use Rattle.line.specs.SpellLaws.{each-then}
 use Rattle.line.specs.File.{afterField}
 use Rattle.rules.specs.Statement.Paths.{train, legs, EachTrain}
@@ -38,7 +41,7 @@ use Rattle.rules.specs.Statement.Delay.{weightedDelay}
 use Rattle.rules.specs.declared.orders.OrderList.{OrderList}
 use Rattle.rules.specs.Lists.Orders.{listCount, listed}
 use Rattle.timetable.specs.Spell.{legsText, trainsText, minutesText, namesText, listText, restText, numbers, listNumbers, timetableText}
-use Rattle.timetable.specs.Writing.{timesRight, onLine, minutesFault, minutesSpelling, spelling}
+use Rattle.timetable.specs.Writing.{timesRight, onLine, minutesFault, firstFault, spellingOf, spelling, linesSpelling}
 use Rattle.timetable.specs.CheckLoopLaws.{number-at}
 use Rattle.timetable.specs.SpeltLaws.{DaysAt}
 
@@ -87,25 +90,27 @@ module _ (l : Line) (m : List ℕ) where
   pub days-clean : EachTrain l (InDays l m) → minutesFault l m ≡ Fault.None
   days-clean h = sym (late-none (λ i b. is-true (decides-times (train l i) m i) (h i b)))
 
+  -- no field is bad exactly when the line is within the limits and the minutes are of the two days
+  pub tells-first : CleanWhen (firstFault l m) (Within l × EachTrain l (InDays l m))
+  unfolding firstFault
+  tells-first = tells-then (faultOf l) (minutesFault l m) (record { holds = within-of l; clean = fault-none l }) (record { holds = days-of; clean = days-clean })
+
   -- what there is to write, by the fault that was found
-  pub minutes-refused : {n p : ℕ} → minutesFault l m ≡ Fault.At n p → minutesSpelling l m ≡ Spelling.refused n p
-  unfolding minutesSpelling
-  minutes-refused e = rw e refl
+  pub spelling-refused : (t : List ℕ) {n p : ℕ} → firstFault l m ≡ Fault.At n p → spellingOf l m t ≡ Spelling.refused n p
+  unfolding spellingOf
+  spelling-refused t e = rw e refl
 
-  pub minutes-text : minutesFault l m ≡ Fault.None → minutesSpelling l m ≡ Spelling.text (timetableText l m)
-  unfolding minutesSpelling
-  minutes-text e = rw e refl
-
-  pub spelling-refused : {n p : ℕ} → faultOf l ≡ Fault.At n p → spelling l m ≡ Spelling.refused n p
-  unfolding spelling
-  spelling-refused e = rw e refl
-
-  pub spelling-minutes : faultOf l ≡ Fault.None → spelling l m ≡ minutesSpelling l m
-  unfolding spelling
-  spelling-minutes e = rw e refl
+  pub spelling-clean : (t : List ℕ) → firstFault l m ≡ Fault.None → spellingOf l m t ≡ Spelling.text t
+  unfolding spellingOf
+  spelling-clean t e = rw e refl
 
   pub spelling-text : faultOf l ≡ Fault.None → minutesFault l m ≡ Fault.None → spelling l m ≡ Spelling.text (timetableText l m)
-  spelling-text e g = spelling-minutes e ∙ minutes-text g
+  unfolding spelling
+  spelling-text e g = spelling-clean _ (tells-first .clean (within-of l e, days-of g))
+
+  pub lines-text : Within l → EachTrain l (InDays l m) → linesSpelling l m ≡ Spelling.text (minutesText l m [])
+  unfolding linesSpelling
+  lines-text w days = spelling-clean _ (tells-first .clean (w, days))
 
 -- ---- each part, and then what follows it
 
@@ -240,33 +245,35 @@ pub lists-text : (xs : List OrderList) (rest : List ℕ) → eachThen listText (
 lists-text [] rest = refl
 lists-text (x ∷ xs) rest = ap (orderText x) (lists-text xs rest)
 
--- ---- the whole text
+-- ---- the first part of the text, and the whole
 
 module _ (l : Line) (m : List ℕ) where
   abbrev trains-part : List ℕ
   trains-part = trainsText (l .traffic .«train_count») l m 0 []
 
+  pub minutes-parts : minutesText l m [] ≡ fieldText (l .traffic .«train_count») 10 ++ trains-part
+  unfolding minutesText
+  minutes-parts = simp append-assoc
+
+  pub minutes-size : length (minutesText l m []) ≡ length (fieldText (l .traffic .«train_count») 10) + length trains-part
+  minutes-size = ap length minutes-parts ∙ length-append (fieldText (l .traffic .«train_count») 10) trains-part
+
+  minutes-then : (rest : List ℕ) → minutesText l m rest ≡ minutesText l m [] ++ rest
+  unfolding minutesText
+  minutes-then rest = simp (append-assoc, trains-then (l .traffic .«train_count») l m 0 rest)
+
   abbrev lists-part : List ℕ
   lists-part = eachThen listText (listNumbers l m) []
 
-  pub timetable-parts : timetableText l m ≡
-      fieldText (l .traffic .«train_count») 10 ++ (trains-part ++ (fieldText (listCount l) 10 ++ (lists-part ++ fieldText (weightedDelay l m) 10)))
-  unfolding timetableText minutesText restText
+  pub timetable-parts : timetableText l m ≡ minutesText l m [] ++ (fieldText (listCount l) 10 ++ (lists-part ++ fieldText (weightedDelay l m) 10))
+  unfolding timetableText restText
   timetable-parts =
-      ap (λ (x : List ℕ). field (l .traffic .«train_count») 10 x) (
-      trains-then (l .traffic .«train_count») l m 0 (field (listCount l) 10 (eachThen listText (listNumbers l m) (fieldText (weightedDelay l m) 10)))
-      ∙ ap (λ (x : List ℕ). trains-part ++ field (listCount l) 10 x) (each-then listText list-then (listNumbers l m) (fieldText (weightedDelay l m) 10))
-      )
+      minutes-then (restText l (listNumbers l m) (weightedDelay l m))
+      ∙ ap (λ (x : List ℕ). minutesText l m [] ++ field (listCount l) 10 x) (each-then listText list-then (listNumbers l m) (fieldText (weightedDelay l m) 10))
       ∙ (simp append-assoc)
 
   pub timetable-size : length (timetableText l m) ≡
-      length (fieldText (l .traffic .«train_count») 10) + (length trains-part + (length (fieldText (listCount l) 10)
-      + (length lists-part + length (fieldText (weightedDelay l m) 10))))
+      length (minutesText l m []) + (length (fieldText (listCount l) 10) + (length lists-part + length (fieldText (weightedDelay l m) 10)))
   timetable-size =
       ap length timetable-parts
-      ∙ (rw (
-        length-append (fieldText (l .traffic .«train_count») 10),
-        length-append trains-part,
-        length-append (fieldText (listCount l) 10),
-        length-append lists-part,
-      ) refl)
+      ∙ (rw (length-append (minutesText l m []), length-append (fieldText (listCount l) 10), length-append lists-part) refl)

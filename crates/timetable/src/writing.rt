@@ -1,4 +1,5 @@
-// Writing the timetable's text: the first bad field of the line or the minutes refuses it; else the text goes into the lent bytes, if it fits.
+// Writing the timetable's text, or its train lines alone: the first bad field of the line or the minutes refuses it; else the text goes into the lent
+// bytes, if it fits.
 ghost use mathlib.Core.Path.{_≡_};
 ghost use mathlib.Core.List.{[], map};
 ghost use Prim.Native.Nat.{_+_, _≤_, _<_};
@@ -11,8 +12,8 @@ ghost use Rattle.line.specs.Within.{Within};
 ghost use Rattle.rules.specs.Statement.Paths.{Routed, EachTrain};
 ghost use Rattle.rules.specs.Statement.Rules.{InDays};
 ghost use Rattle.rules.specs.Lists.Orders.{listed, listsIn};
-ghost use Rattle.timetable.specs.Spell.{legsText, trainsText, listText, numbers, timetableText};
-ghost use Rattle.timetable.specs.Writing.{timesRight, minutesFault, minutesSpelling, spelling};
+ghost use Rattle.timetable.specs.Spell.{legsText, trainsText, minutesText, listText, numbers, timetableText};
+ghost use Rattle.timetable.specs.Writing.{timesRight, minutesFault, firstFault, spelling, linesSpelling};
 use line::Line;
 use line::MAX_BYTES;
 use line::Time;
@@ -73,6 +74,18 @@ fn minutes_fault(line: Line, m: &[u16]) -> Fault
     Fault::None
 }
 
+// The first bad field of the line, or else of its minutes.
+fn first_fault(line: Line, m: &[u16]) -> Fault
+    requires { ⌜ length (now m) ≡ 352 ⌝ }
+    ensures { λ r. ⌜ r ≡ firstFault line (now (m .entry)) ⌝ }
+{
+    let of_line = fault_of(line);
+    let Fault::None = of_line else {
+        return of_line;
+    };
+    minutes_fault(line, m)
+}
+
 // The line of a train, which is train i: departure and arrival for each leg.
 fn put_train(out: &mut [u8], start: usize, train: Train, m: &[u16], i: usize) -> usize
     requires { ⌜ Routed train × (length (now m) ≡ 352) × (i < 12) × (start + length (legsText (legsOf train) train (now m) i 0 []) ≤ length (now out)) ⌝ }
@@ -113,6 +126,15 @@ fn put_trains(out: &mut [u8], start: usize, line: Line, m: &[u16]) -> usize
     at
 }
 
+// The first part of the text, from the first byte on: the train count and the lines of the trains.
+fn put_minutes(out: &mut [u8], line: Line, m: &[u16]) -> usize
+    requires { ⌜ Within line × (length (now m) ≡ 352) × (length (minutesText line (now m) []) ≤ length (now out)) ⌝ }
+    ensures { λ r. ⌜ Put (now (out .entry)) (now (out .exit)) 0 (minutesText line (now (m .entry)) []) r ⌝ }
+{
+    let after_count = put_field(out, 0, line.traffic.train_count as u32, LINE_FEED);
+    put_trains(out, after_count, line, m)
+}
+
 // The line of an order list: its count, then the numbers of its trains.
 fn put_list(out: &mut [u8], start: usize, list: OrderList) -> usize
     requires { ⌜ start + length (listText (numbers (listed list)) []) ≤ length (now out) ⌝ }
@@ -151,8 +173,7 @@ fn put_timetable(out: &mut [u8], line: Line, m: &[u16]) -> usize
     requires { ⌜ Within line × (length (now m) ≡ 352) × EachTrain line (InDays line (now m)) × (length (timetableText line (now m)) ≤ length (now out)) ⌝ }
     ensures { λ r. ⌜ Put (now (out .entry)) (now (out .exit)) 0 (timetableText line (now (m .entry))) r ⌝ }
 {
-    let after_count = put_field(out, 0, line.traffic.train_count as u32, LINE_FEED);
-    let after_trains = put_trains(out, after_count, line, m);
+    let after_trains = put_minutes(out, line, m);
     let after_number = put_field(out, after_trains, list_count(line) as u32, LINE_FEED);
     let lists = order_lists(line, m);
     let after_lists = put_lists(out, after_number, lists);
@@ -169,23 +190,33 @@ fn write_text(line: Line, minutes: [u16; 352], out: &mut [u8]) -> Written
     lend_text(&text[..count], out)
 }
 
-// Writes the text of minutes, in range or not, of a line within the limits: its length, or 9 or 6 and no byte changed.
-fn write_minutes(line: Line, minutes: [u16; 352], out: &mut [u8]) -> Written
-    requires { ⌜ Within line ⌝ }
-    ensures { λ r. ⌜ Lent (minutesSpelling line minutes) (now (out .entry)) (now (out .exit)) r ⌝ }
+// Writes the text of a line's minutes, in range or not, into the lent bytes: its length, or 3, 4, 19, 9 or 6 and no byte changed.
+pub fn write(line: Line, minutes: [u16; 352], out: &mut [u8]) -> Written
+    ensures { λ r. ⌜ Lent (spelling line minutes) (now (out .entry)) (now (out .exit)) r ⌝ }
 {
-    let late = minutes_fault(line, &minutes);
-    match late {
+    let fault = first_fault(line, &minutes);
+    match fault {
         Fault::None => write_text(line, minutes, out),
         Fault::At(number, place) => Written::Refused(number, place),
     }
 }
 
-// Writes the text of a line's minutes, in range or not, into the lent bytes: its length, or 3, 4, 9 or 6 and no byte changed.
-pub fn write(line: Line, minutes: [u16; 352], out: &mut [u8]) -> Written
-    ensures { λ r. ⌜ Lent (spelling line minutes) (now (out .entry)) (now (out .exit)) r ⌝ }
+// Writes the train count and the train lines of minutes within the two days into the lent bytes: their length, or 6 and no byte changed.
+fn write_minutes(line: Line, minutes: [u16; 352], out: &mut [u8]) -> Written
+    requires { ⌜ Within line × EachTrain line (InDays line minutes) ⌝ }
+    ensures { λ r. ⌜ Lent (Spelling.text (minutesText line minutes [])) (now (out .entry)) (now (out .exit)) r ⌝ }
 {
-    let fault = fault_of(line);
+    let mut text = [0u8; MAX_BYTES];
+    let count = put_minutes(&mut text, line, &minutes);
+    lend_text(&text[..count], out)
+}
+
+// Writes "the train count and train lines alone" (document 02, K8) of a line's minutes, in range or not, into the lent bytes: their length, or 3, 4, 19, 9
+// or 6 and no byte changed.
+pub fn write_lines(line: Line, minutes: [u16; 352], out: &mut [u8]) -> Written
+    ensures { λ r. ⌜ Lent (linesSpelling line minutes) (now (out .entry)) (now (out .exit)) r ⌝ }
+{
+    let fault = first_fault(line, &minutes);
     match fault {
         Fault::None => write_minutes(line, minutes, out),
         Fault::At(number, place) => Written::Refused(number, place),
