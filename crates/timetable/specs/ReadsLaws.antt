@@ -67,8 +67,9 @@ module _ (t : Train) (r : 1 ≤ legsOf t → Routed t) (i : ℕ) (few : i < 16) 
       let second = ranged-reads 8 9 0 2879 (afterField k) s (first .next) a others (after-ends k) (omega arith) (time .1) (omega arith) (first .leaves) in
       let more = legs-read k (j + 1) (withLeg t i j d a m₀) (second .next) rest (leg-stored t i j d a m₀ .size ∙ size) (omega arith) days (second .leaves) in
       let path-ends = r (omega arith) in
-      let depart = departure-stored t i path-ends few k j d a m₀ s (second .next) (more .minutes) (more .reads .next) size path (more .reads .reads) in
-      let arrive = arrival-stored t i path-ends few k j d a m₀ s (second .next) (more .minutes) (more .reads .next) size path (more .reads .reads) in
+      let stored = legs-stored t i k (j + 1) (withLeg t i j d a m₀) s (second .next) (more .minutes) (more .reads .next) (more .reads .reads) in
+      let depart = departure-stored t i path-ends few k j d a m₀ (more .minutes) size path stored in
+      let arrive = arrival-stored t i path-ends few k j d a m₀ (more .minutes) size path stored in
       record {
         minutes = more .minutes;
         reads = record {

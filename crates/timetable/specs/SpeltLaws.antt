@@ -75,8 +75,9 @@ module _ (t : Train) (r : 1 ≤ legsOf t → Routed t) (i : ℕ) (few : i < 16) 
       let w = ranged-spelt 8 9 0 2879 32 s c (d .value) (d .next) (omega arith) (d .first) in
       let x = ranged-spelt 8 9 0 2879 (afterField k) s (d .next) (a .value) (a .next) (after-byte k) (a .first) in
       let path-ends = r (omega arith) in
-      let depart = departure-stored t i path-ends few k j (d .value) (a .value) m s (a .next) m′ next size path (a .after) in
-      let arrive = arrival-stored t i path-ends few k j (d .value) (a .value) m s (a .next) m′ next size path (a .after) in
+      let stored = legs-stored t i k (j + 1) (withLeg t i j (d .value) (a .value) m) s (a .next) m′ next (a .after) in
+      let depart = departure-stored t i path-ends few k j (d .value) (a .value) m m′ size path stored in
+      let arrive = arrival-stored t i path-ends few k j (d .value) (a .value) m m′ size path stored in
       let long = leg-stored t i j (d .value) (a .value) m .size ∙ size in
       let others = legs-spelt k (j + 1) (withLeg t i j (d .value) (a .value) m) (a .next) m′ next long (omega arith) (a .after) in
       record {

@@ -61,8 +61,8 @@ module _ (t : Train) (i : ℕ) where
       }
 
   -- leg j stored, and then k more from the next on: the minutes of leg j are those that were stored
-  module _ (r : Routed t) (few : i < 16) (k j : ℕ) (d a : ℕ) (m s : List ℕ) (c : Cursor) (m′ : List ℕ) (next : Cursor)
-      (size : length m ≡ 352) (path : j + suc k ≤ legsOf t) (e : legsAt k t i (j + 1) (withLeg t i j d a m) s c ≡ Parsed.got m′ next) where
+  module _ (r : Routed t) (few : i < 16) (k j : ℕ) (d a : ℕ) (m m′ : List ℕ) (size : length m ≡ 352) (path : j + suc k ≤ legsOf t)
+      (stored : LegsStored k (j + 1) (withLeg t i j d a m) m′) where
     here : segmentOf t j < 11
     here = segment-below t r j (omega arith)
 
@@ -74,14 +74,14 @@ module _ (t : Train) (i : ℕ) where
 
     pub departure-stored : departureOf t m′ i j ≡ d
     departure-stored =
-        legs-stored k (j + 1) (withLeg t i j d a m) s c m′ next e .stays (departs (segmentOf t j) i)
+        stored .stays (departs (segmentOf t j) i)
         (λ q low high. ((λ z. other q low high (omega arith)), (λ z. omega (arith, here))))
         ∙ getD-set-other (set m (departs (segmentOf t j) i) d) (arrives (segmentOf t j) i) (departs (segmentOf t j) i) a 0 (λ z. omega arith)
         ∙ getD-set-same m (departs (segmentOf t j) i) d 0 (omega (arith, here))
 
     pub arrival-stored : arrivalOf t m′ i j ≡ a
     arrival-stored =
-        legs-stored k (j + 1) (withLeg t i j d a m) s c m′ next e .stays (arrives (segmentOf t j) i)
+        stored .stays (arrives (segmentOf t j) i)
         (λ q low high. ((λ z. omega (arith, there q high)), (λ z. other q low high (omega arith))))
         ∙ getD-set-same (set m (departs (segmentOf t j) i) d) (arrives (segmentOf t j) i) a 0 (rw length-set (omega (arith, here)))
 
