@@ -18,8 +18,9 @@ pub struct Refusal {
     /// What is wrong, by the number that the rules give it; [`Cause`] lists them.
     pub number: u32,
     /// Where it is wrong: for 2, 3, 4 and 19 the line of the file, for 8 and 9 the line of the timetable,
-    /// for 20 and 21 the line of the stop times; for 10 to 13 and 18 the lowest train, for 14 the lowest segment, for 15 the lowest station and for
-    /// 16 the lowest list of which it is true. All of them count from 1. For 1, 5, 6, 7 and 17 always 0.
+    /// for 20 and 21 the line of the stop times; for 10 to 13 and 18 the lowest train, for 14 the lowest
+    /// segment, for 15 the lowest station and for 16 the lowest list of which it is true. All of them count
+    /// from 1. For 1, 5, 6, 7 and 17 always 0.
     pub place: u32,
 }
 
