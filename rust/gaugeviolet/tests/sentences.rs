@@ -8,8 +8,8 @@ use gaugeviolet::{check, plan, read, rewrite, Cause, Refusal, FILE_BYTES};
 use inputs::{booked_planned, damage_bytes, damage_lines, damaged, due_planned, sizes};
 use inputs::{Damage, Random, Traffic};
 
-/// Every number of the scope document, told for place 7 where it has a place, else for 0; and its cause.
-const LIST: [(u32, u32, &str, Cause); 19] = [
+/// Every number of the scope document and of the requests, told for place 7 where it has a place, else for 0; and its cause.
+const LIST: [(u32, u32, &str, Cause); 21] = [
     (1, 0, "the line file has more than 4,096 bytes", Cause::FileLength),
     (
         2,
@@ -97,6 +97,21 @@ const LIST: [(u32, u32, &str, Cause); 19] = [
          order, or a booking's station is not a middle one of its train's path",
         Cause::OutOfPlace,
     ),
+    (
+        20,
+        7,
+        "line 7 of the stop times: it is not of the form T1,00:20:00,00:24:00,2,2 under the header \
+         (hours up to 47, seconds 00), arrival and departure differ where a train begins or ends, the \
+         text ends early, or bytes follow its last line",
+        Cause::StopTimesForm,
+    ),
+    (
+        21,
+        7,
+        "line 7 of the stop times: its trip, stop or sequence is not the next one on the paths of the \
+         line's trains",
+        Cause::StopTimesPath,
+    ),
 ];
 
 fn sentence(number: u32, place: u32) -> String {
@@ -118,6 +133,7 @@ fn the_place_is_told() {
         "line 26: the destination equals the origin"
     );
     assert!(sentence(9, 12).starts_with("line 12 of the timetable: "));
+    assert!(sentence(21, 146).starts_with("line 146 of the stop times: "));
     assert!(sentence(16, 22).starts_with("order list 22: "));
     // Always 0 where the library gives it, so it says nothing.
     assert_eq!(sentence(5, 26), "no timetable keeps every rule");
@@ -125,7 +141,7 @@ fn the_place_is_told() {
 
 #[test]
 fn another_number_is_told_plainly() {
-    for number in [0, 20, 31, u32::MAX] {
+    for number in [0, 22, 31, u32::MAX] {
         assert_eq!(
             sentence(number, 3),
             format!("refused with number {number} at place 3, which has no sentence")
@@ -150,7 +166,7 @@ fn every_number_of_the_list_has_its_cause() {
         assert_eq!(expected.number(), number);
     }
     assert_eq!(Cause::ALL, LIST.map(|(.., cause)| cause));
-    assert_eq!((cause(0), cause(20)), (None, None));
+    assert_eq!((cause(0), cause(22)), (None, None));
 }
 
 /// How often the library refused with each number.
