@@ -1,12 +1,12 @@
 //! The sentences of refusals against a list of all of them, and that the library gives no refusal
-//! without one: on the samples and on damaged line files and timetables.
+//! without one: on the samples and on damaged line files, timetables and stop times.
 
 use std::collections::BTreeMap;
 use std::path::Path;
 
-use gaugeviolet::{check, plan, read, rewrite, Cause, Refusal, FILE_BYTES};
+use gaugeviolet::{check, export, import, plan, read, rewrite, Cause, Refusal, FILE_BYTES};
 use inputs::{booked_planned, damage_bytes, damage_lines, damaged, due_planned, sizes};
-use inputs::{Damage, Random, Traffic};
+use inputs::{with_stop_times_fault, Damage, Random, StopTimesFault, Traffic};
 
 /// Every number of the scope document and of the requests, told for place 7 where it has a place, else for 0; and its cause.
 const LIST: [(u32, u32, &str, Cause); 21] = [
@@ -220,9 +220,10 @@ fn what_is_refused_of_the_samples() {
             refused.file(&file);
             refused.note(plan(&file));
             refused.note(check(&file, b""));
+            refused.note(import(&file, b"", &mut []));
         }
     }
-    refused.ends([1, 2, 3, 5, 6, 8, 19].into_iter());
+    refused.ends([1, 2, 3, 5, 6, 8, 19, 20].into_iter());
 }
 
 #[test]
@@ -236,14 +237,21 @@ fn what_is_refused_of_damaged_texts() {
         for damage in [Damage::ALL; 20].concat() {
             let pair = damaged(&mut random, &planned, damage);
             refused.note(check(&pair.file, &pair.timetable));
+            refused.note(export(&pair.file, &pair.timetable, &mut [0; 10]));
             refused.file(&pair.file);
             refused.file(&damage_lines(&mut random, &pair.file));
         }
-        let mut long = planned.pair().file;
+        let file = planned.pair().file;
+        let stop_times = independent::stop_times::write(&planned.line, &planned.minutes);
+        for fault in [StopTimesFault::ALL; 20].concat() {
+            let wrong = with_stop_times_fault(&mut random, &stop_times, fault);
+            refused.note(import(&file, &wrong, &mut [0; 10]));
+        }
+        let mut long = file;
         long.resize(FILE_BYTES + 1, b'\n');
         damage_bytes(&mut random, &mut long, 3);
         refused.file(&long);
     }
     // 5 comes from solving alone.
-    refused.ends((1..=19).filter(|&number| number != 5));
+    refused.ends((1..=21).filter(|&number| number != 5));
 }
