@@ -494,11 +494,15 @@ fn lines_without_a_timetable() {
 #[test]
 fn bytes_that_are_not_refused_so() {
     let file = FILE.as_bytes();
-    for number in (1..=40).filter(|number| ![5, 6].contains(number)) {
-        for place in [0, 1, 2, 9, 40, u32::MAX] {
-            let refusal = Refusal { number, place };
-            let explanation = refusal.explanation(file, Some(TIMETABLE.as_bytes()));
-            assert_eq!(explanation, None, "{number} {place}");
+    // Each of the two is refused in the place of the other.
+    for (text, as_the_other) in [(TIMETABLE, (20, 1)), (STOP_TIMES, (8, 1))] {
+        for number in (1..=40).filter(|number| ![5, 6].contains(number)) {
+            for place in [0, 1, 2, 9, 40, u32::MAX] {
+                let refusal = Refusal { number, place };
+                let explanation = refusal.explanation(file, Some(text.as_bytes()));
+                let expected = (number, place) == as_the_other;
+                assert_eq!(explanation.is_some(), expected, "{number} {place}");
+            }
         }
     }
     let at_line_1 = Refusal {
