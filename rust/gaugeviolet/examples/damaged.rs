@@ -1,7 +1,7 @@
 //! Lends damaged files, timetables and stop times, as many as the argument says, to every function of the
 //! library, in buffers of their exact length: to be run under valgrind, whose word it then is that nothing
-//! outside a lent buffer is touched (`rust/damaged` does it). It holds itself that no refusal changes a
-//! lent byte and, with 20,000 inputs or more, that every number from 1 to 21 comes up.
+//! outside a lent buffer is touched (`rust/damaged` does it). It holds itself that no refusal changes a lent
+//! byte and, with 20,000 inputs or more, that every number from 1 to 21 comes up.
 //!
 //! With `outside` for the argument it reads a byte past a buffer, which valgrind must report.
 
@@ -88,7 +88,24 @@ fn damage_file(random: &mut Random, file: &mut Vec<u8>) {
     }
 }
 
-/// Lends the pair to every function.
+/// Lends the pair to export, and its file with stop times to import.
+fn lend_stop_times(random: &mut Random, pair: &Pair, stop_times: &[u8], numbers: &mut Numbers) {
+    let file = exactly(&pair.file);
+    let timetable = exactly(&pair.timetable);
+    let stop_times = exactly(stop_times);
+    let room = random.below(2 * stop_times.len() + 80);
+    count(
+        numbers,
+        written(room, |lent| gaugeviolet::export(&file, &timetable, lent)),
+    );
+    let room = random.below(2 * timetable.len() + 20);
+    count(
+        numbers,
+        written(room, |lent| gaugeviolet::import(&file, &stop_times, lent)),
+    );
+}
+
+/// Lends the pair to every function but those of stop times.
 fn lend(random: &mut Random, pair: &Pair, solved: bool, numbers: &mut Numbers) {
     let file = exactly(&pair.file);
     let timetable = exactly(&pair.timetable);
@@ -107,21 +124,6 @@ fn lend(random: &mut Random, pair: &Pair, solved: bool, numbers: &mut Numbers) {
         );
         count(numbers, on_callers_stack::walk_length(&file));
     }
-}
-
-/// Lends the pair and stop times to the functions that write and read these.
-fn lend_stop_times(random: &mut Random, pair: &Pair, text: &[u8], numbers: &mut Numbers) {
-    let (file, timetable, text) = (exactly(&pair.file), exactly(&pair.timetable), exactly(text));
-    let room = random.below(2 * text.len() + 20);
-    count(
-        numbers,
-        written(room, |lent| gaugeviolet::export(&file, &timetable, lent)),
-    );
-    let room = random.below(2 * timetable.len() + 20);
-    count(
-        numbers,
-        written(room, |lent| gaugeviolet::import(&file, &text, lent)),
-    );
 }
 
 /// The same bytes in a buffer that ends where they end.
