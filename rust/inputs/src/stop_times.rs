@@ -1,5 +1,7 @@
 //! Stop times: minutes of every kind, and texts with something wrong in them.
 
+use std::ops::Range;
+
 use independent::rules::Minutes;
 use independent::stop_times::HEADER;
 use independent::{Limits, Line};
@@ -145,27 +147,48 @@ const STOP: usize = 3;
 const SEQUENCE: usize = 4;
 
 /// Every text that comes of putting something else in the place of one field, the header's too.
-pub fn with_every_field_altered(text: &[u8]) -> Vec<Vec<u8>> {
-    let fields = Fields::of_stop_times(text);
-    let mut texts: Vec<Vec<u8>> = HEADERS
-        .iter()
-        .map(|header| with_header(text, header))
-        .collect();
-    for (line, column) in fields.places().into_iter().filter(|&(line, _)| line > 0) {
-        let put = |other: &str| fields.text_with((line, column), other);
-        match column {
-            TRIP => {
-                let numbers = NUMBER_TEXTS.iter().map(|number| format!("T{number}"));
-                texts.extend(numbers.map(|trip| put(&trip)));
-                let number = fields.lines[line][TRIP].trim_start_matches('T');
-                let fronts = TRIP_FRONTS.iter().map(|front| format!("{front}{number}"));
-                texts.extend(fronts.map(|trip| put(&trip)));
-            }
-            STOP | SEQUENCE => texts.extend(NUMBER_TEXTS.iter().map(|number| put(number))),
-            _ => texts.extend(TIME_TEXTS.iter().map(|time| put(time))),
+pub fn with_every_field_altered(text: &[u8]) -> impl Iterator<Item = Vec<u8>> + '_ {
+    let headers = HEADERS.iter().map(move |header| with_header(text, header));
+    let of_stops = fields_of_stops(text)
+        .into_iter()
+        .flat_map(move |(column, at)| {
+            let others = other_texts(column, &text[at.clone()]);
+            let put = move |other: String| {
+                let (before, after) = (&text[..at.start], &text[at.end..]);
+                [before, other.as_bytes(), after].concat()
+            };
+            others.into_iter().map(put)
+        });
+    headers.chain(of_stops)
+}
+
+/// The fields of all lines but the header: column and bytes of each.
+fn fields_of_stops(text: &[u8]) -> Vec<(usize, Range<usize>)> {
+    let mut fields = Vec::new();
+    let (mut column, mut start) = (0, HEADER.len() + 1);
+    for at in start..text.len() {
+        if text[at] == b',' || text[at] == b'\n' {
+            fields.push((column, start..at));
+            column = if text[at] == b',' { column + 1 } else { 0 };
+            start = at + 1;
         }
     }
-    texts
+    fields
+}
+
+/// What is put in the place of a field of this column.
+fn other_texts(column: usize, field: &[u8]) -> Vec<String> {
+    let numbers = NUMBER_TEXTS.iter();
+    match column {
+        TRIP => {
+            let number = String::from_utf8_lossy(&field[1..]);
+            let fronts = TRIP_FRONTS.iter().map(|front| format!("{front}{number}"));
+            let trips = numbers.map(|number| format!("T{number}"));
+            trips.chain(fronts).collect()
+        }
+        STOP | SEQUENCE => numbers.map(|number| number.to_string()).collect(),
+        _ => TIME_TEXTS.iter().map(|time| time.to_string()).collect(),
+    }
 }
 
 /// The stop times, which are in order, with a fault of this kind. Some faults leave what is in order, and
