@@ -1,7 +1,7 @@
-//! Lends damaged files and timetables, as many as the argument says, to every function of the library, in
-//! buffers of their exact length: to be run under valgrind, whose word it then is that nothing outside a
-//! lent buffer is touched (`rust/damaged` does it). It holds itself that no refusal changes a lent byte
-//! and, with 20,000 inputs or more, that every number from 1 to 19 comes up.
+//! Lends damaged files, timetables and stop times, as many as the argument says, to every function of the
+//! library, in buffers of their exact length: to be run under valgrind, whose word it then is that nothing
+//! outside a lent buffer is touched (`rust/damaged` does it). It holds itself that no refusal changes a lent
+//! byte and, with 20,000 inputs or more, that every number from 1 to 21 comes up.
 //!
 //! With `outside` for the argument it reads a byte past a buffer, which valgrind must report.
 
@@ -10,8 +10,8 @@ use std::process::ExitCode;
 
 use gaugeviolet::{on_callers_stack, Refusal, FILE_BYTES};
 use inputs::{booked_planned, booked_small_line, damage_bytes, damaged, planned, small_line};
-use inputs::{due_planned, due_small_line, fully_due_planned};
-use inputs::{Damage, Pair, Planned, Random, Traffic};
+use inputs::{due_planned, due_small_line, fully_due_planned, with_stop_times_fault};
+use inputs::{Damage, Pair, Planned, Random, StopTimesFault, Traffic};
 
 /// How many lines there are to damage.
 const LINES: usize = 400;
@@ -56,6 +56,10 @@ fn run(count: u64) -> ExitCode {
         let mut pair = damaged(&mut random, planned, damage);
         damage_file(&mut random, &mut pair.file);
         lend(&mut random, &pair, solved, &mut numbers);
+        let fault = StopTimesFault::ALL[at as usize % StopTimesFault::ALL.len()];
+        let stop_times = independent::stop_times::write(&planned.line, &planned.minutes);
+        let stop_times = with_stop_times_fault(&mut random, &stop_times, fault);
+        lend_stop_times(&mut random, &pair, &stop_times, &mut numbers);
     }
     report(count, &numbers)
 }
@@ -84,7 +88,24 @@ fn damage_file(random: &mut Random, file: &mut Vec<u8>) {
     }
 }
 
-/// Lends the pair to every function.
+/// Lends the pair to export, and its file with stop times to import.
+fn lend_stop_times(random: &mut Random, pair: &Pair, stop_times: &[u8], numbers: &mut Numbers) {
+    let file = exactly(&pair.file);
+    let timetable = exactly(&pair.timetable);
+    let stop_times = exactly(stop_times);
+    let room = random.below(2 * stop_times.len() + 80);
+    count(
+        numbers,
+        written(room, |lent| gaugeviolet::export(&file, &timetable, lent)),
+    );
+    let room = random.below(2 * timetable.len() + 20);
+    count(
+        numbers,
+        written(room, |lent| gaugeviolet::import(&file, &stop_times, lent)),
+    );
+}
+
+/// Lends the pair to every function but those of stop times.
 fn lend(random: &mut Random, pair: &Pair, solved: bool, numbers: &mut Numbers) {
     let file = exactly(&pair.file);
     let timetable = exactly(&pair.timetable);
@@ -134,7 +155,7 @@ fn count<T>(numbers: &mut Numbers, answer: Result<T, Refusal>) {
 fn report(count: u64, numbers: &Numbers) -> ExitCode {
     let calls: u64 = numbers.values().sum();
     println!("{count} inputs, {calls} calls, by number (0: not refused) {numbers:?}");
-    let missing: Vec<u32> = (1..=19)
+    let missing: Vec<u32> = (1..=21)
         .filter(|number| !numbers.contains_key(number))
         .collect();
     if count < ENOUGH || missing.is_empty() {

@@ -65,6 +65,29 @@
 //! assert_eq!((refusal.number, refusal.place), (19, 12));
 //! ```
 //!
+//! Journey planners take stop times, the public GTFS file `stop_times.txt`: a trip for each train, a line
+//! for each stop of it.
+//!
+//! ```
+//! let file = b"3\n2\n2\n2\n2\nS 5 4\nS 5 4\n1\n1 3 0 200 1 20 0 20\n";
+//! let timetable = b"1\n0 20 24 44\n2\n1 1\n1 1\n4\n";
+//! let mut lent = [0; gaugeviolet::STOP_TIMES_BYTES];
+//! let length = gaugeviolet::export(file, timetable, &mut lent).unwrap();
+//! let stop_times = std::str::from_utf8(&lent[..length]).unwrap();
+//! assert_eq!(
+//!     stop_times,
+//!     "trip_id,arrival_time,departure_time,stop_id,stop_sequence\n\
+//!      T1,00:00:00,00:00:00,1,1\n\
+//!      T1,00:20:00,00:24:00,2,2\n\
+//!      T1,00:44:00,00:44:00,3,3\n"
+//! );
+//!
+//! // Read back for the same line file, they are the train lines of the timetable.
+//! let mut lent = [0; gaugeviolet::TIMETABLE_BYTES];
+//! let length = gaugeviolet::import(file, stop_times.as_bytes(), &mut lent).unwrap();
+//! assert_eq!(&lent[..length], b"1\n0 20 24 44\n");
+//! ```
+//!
 //! [`plan`] finds the best timetable. [`Line`] and [`Timetable`] give typed access to accepted texts, and
 //! [`LineBuilder`] makes line files. Nothing here overflows a stack but the functions of
 //! [`on_callers_stack`], and only where they are called from a thread with too little of it.
@@ -94,6 +117,8 @@ pub use words::{counted, punctuality, time_of_day};
 pub const FILE_BYTES: usize = 4096;
 /// The most bytes that a timetable may have. As many lent bytes hold the text of every timetable.
 pub const TIMETABLE_BYTES: usize = 4096;
+/// As many lent bytes hold the stop times of every timetable. The longest have 3,766.
+pub const STOP_TIMES_BYTES: usize = 4096;
 
 /// Reads a line file: whether it is one, or why not (numbers 1 to 4 and 19).
 ///
@@ -182,6 +207,95 @@ pub fn plan(file: &[u8]) -> Result<Vec<u8>, Refusal> {
         let solving = solving.expect("the system gives a thread to plan in");
         solving.join().expect("planning does not panic")
     })
+}
+
+/// Exports a timetable as stop times (`stop_times.txt` of GTFS) to the front of `lent`: under the header a
+/// line for each train and station of its path, in travel order. Returns the length of the text; the bytes
+/// past it keep their former content. [`STOP_TIMES_BYTES`] always suffice.
+///
+/// Trips are T1 on, stops are the numbers of the stations. Hours run past 23: the second day's are 24 to
+/// 47. Where a train begins or ends, arrival and departure are the same minute.
+///
+/// Refused as in [`read`], then with 7 to 9 where the timetable's text is not one of the line, then with 6
+/// where `lent` has fewer bytes than the text. The rules, the order lists and the total are not tested:
+/// [`check`] does that.
+///
+/// ```
+/// let file = b"2\n1\n1\n1\nS 5 4\n1\n1 2 1430 1450 1 15\n";
+/// let timetable = b"1\n1430 1445\n1\n1 1\n0\n";
+/// let mut lent = [0; gaugeviolet::STOP_TIMES_BYTES];
+/// let length = gaugeviolet::export(file, timetable, &mut lent)?;
+/// assert_eq!(
+///     &lent[..length],
+///     b"trip_id,arrival_time,departure_time,stop_id,stop_sequence\n\
+///       T1,23:50:00,23:50:00,1,1\n\
+///       T1,24:05:00,24:05:00,2,2\n"
+/// );
+///
+/// // Too few bytes stay as they are.
+/// let mut few = [b'-'; 100];
+/// let refusal = gaugeviolet::export(file, timetable, &mut few).unwrap_err();
+/// assert_eq!((refusal.number, refusal.place), (6, 0));
+/// assert_eq!(few, [b'-'; 100]);
+///
+/// // The line has one train and the text two.
+/// let refusal = gaugeviolet::export(file, b"2\n", &mut lent).unwrap_err();
+/// assert_eq!((refusal.number, refusal.place), (9, 1));
+/// # Ok::<(), gaugeviolet::Refusal>(())
+/// ```
+///
+/// The timetable and the lent bytes are different bytes, or it is no program:
+///
+/// ```compile_fail,E0502
+/// let mut bytes = *b"0\n1\n0\n0\n";
+/// let written = gaugeviolet::export(b"2\n1\n1\n1\nS 5 4\n0\n", &bytes, &mut bytes);
+/// ```
+pub fn export(file: &[u8], timetable: &[u8], lent: &mut [u8]) -> Result<usize, Refusal> {
+    unpacked(screen::export(file, timetable, lent)).map(|length| length as usize)
+}
+
+/// Imports stop times for a line file: writes what a timetable begins with, the train count and a line of
+/// minutes for each train, to the front of `lent`. Returns the length of this text; the bytes past it keep
+/// their former content. [`TIMETABLE_BYTES`] always suffice.
+///
+/// What [`export`] wrote gives the minutes back, and nothing else is accepted: every accepted text is the
+/// export of some minutes of the line. They need not keep the rules.
+///
+/// Refused as in [`read`], then by the first line of the stop times that is wrong: with 20 where it has not
+/// the form, is missing or stands after the end, with 21 where trip, stop or sequence is not the next one
+/// on the paths of the line's trains, and 20 before 21 on one line. Then with 6 where `lent` has fewer
+/// bytes than the text.
+///
+/// ```
+/// let file = b"2\n1\n1\n1\nS 5 4\n2\n1 2 0 99 1 10\n2 1 0 99 1 10\n";
+/// let stop_times = "trip_id,arrival_time,departure_time,stop_id,stop_sequence\n\
+///                   T1,00:14:00,00:14:00,1,1\n\
+///                   T1,00:24:00,00:24:00,2,2\n\
+///                   T2,00:00:00,00:00:00,2,1\n\
+///                   T2,00:10:00,00:10:00,1,2\n";
+/// let import = |stop_times: &str| {
+///     let mut lent = [0; gaugeviolet::TIMETABLE_BYTES];
+///     let length = gaugeviolet::import(file, stop_times.as_bytes(), &mut lent)?;
+///     Ok::<_, gaugeviolet::Refusal>(lent[..length].to_vec())
+/// };
+/// assert_eq!(import(stop_times)?, b"2\n14 24\n0 10\n");
+///
+/// // Hours have two digits.
+/// let refusal = import(&stop_times.replace("00:14:00", "0:14:00")).unwrap_err();
+/// assert_eq!((refusal.number, refusal.place), (20, 2));
+///
+/// // Train 2 begins at station 2.
+/// let refusal = import(&stop_times.replace(",2,1", ",1,1")).unwrap_err();
+/// assert_eq!((refusal.number, refusal.place), (21, 4));
+///
+/// // A train has one minute where it begins: the line has not the form, whatever its stop.
+/// let both = stop_times.replace("T2,00:00:00,00:00:00,2,1", "T2,00:00:00,00:01:00,1,1");
+/// let refusal = import(&both).unwrap_err();
+/// assert_eq!((refusal.number, refusal.place), (20, 4));
+/// # Ok::<(), gaugeviolet::Refusal>(())
+/// ```
+pub fn import(file: &[u8], stop_times: &[u8], lent: &mut [u8]) -> Result<usize, Refusal> {
+    unpacked(screen::import(file, stop_times, lent)).map(|length| length as usize)
 }
 
 /// Takes a returned number apart: number · 2³² + value. Number 0 is success with its value, any

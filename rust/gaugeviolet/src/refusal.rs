@@ -17,9 +17,10 @@ use std::fmt;
 pub struct Refusal {
     /// What is wrong, by the number that the rules give it; [`Cause`] lists them.
     pub number: u32,
-    /// Where it is wrong: for 2, 3, 4 and 19 the line of the file, for 8 and 9 the line of the timetable;
-    /// for 10 to 13 and 18 the lowest train, for 14 the lowest segment, for 15 the lowest station and for
-    /// 16 the lowest list of which it is true. All of them count from 1. For 1, 5, 6, 7 and 17 always 0.
+    /// Where it is wrong: for 2, 3, 4 and 19 the line of the file, for 8 and 9 the line of the timetable,
+    /// for 20 and 21 the line of the stop times; for 10 to 13 and 18 the lowest train, for 14 the lowest
+    /// segment, for 15 the lowest station and for 16 the lowest list of which it is true. All of them count
+    /// from 1. For 1, 5, 6, 7 and 17 always 0.
     pub place: u32,
 }
 
@@ -66,11 +67,15 @@ pub enum Cause {
     Booking = 18,
     /// A booking or a due minute is out of order, or a booking not at a middle station of its train.
     OutOfPlace = 19,
+    /// A line of the stop times has the wrong form, or they do not end where they should.
+    StopTimesForm = 20,
+    /// A trip, a stop or a sequence is not the next one on the line's paths.
+    StopTimesPath = 21,
 }
 
 impl Cause {
     /// All of them, by number.
-    pub const ALL: [Cause; 19] = [
+    pub const ALL: [Cause; 21] = [
         Cause::FileLength,
         Cause::FileForm,
         Cause::FileRange,
@@ -90,6 +95,8 @@ impl Cause {
         Cause::Total,
         Cause::Booking,
         Cause::OutOfPlace,
+        Cause::StopTimesForm,
+        Cause::StopTimesPath,
     ];
 
     /// Its number in the rules.
@@ -100,6 +107,11 @@ impl Cause {
     /// Whether it is about a timetable, and not about the line file or what is made of it.
     pub fn is_of_timetable(self) -> bool {
         (Cause::TimetableLength..=Cause::Booking).contains(&self)
+    }
+
+    /// Whether it is about stop times.
+    pub fn is_of_stop_times(self) -> bool {
+        matches!(self, Cause::StopTimesForm | Cause::StopTimesPath)
     }
 }
 
@@ -167,6 +179,9 @@ fn place_in_words(cause: Cause, place: u32) -> Option<String> {
         Cause::TimetableForm | Cause::TimetableRange => {
             Some(format!("line {place} of the timetable"))
         }
+        Cause::StopTimesForm | Cause::StopTimesPath => {
+            Some(format!("line {place} of the stop times"))
+        }
         Cause::Earliest | Cause::Run | Cause::Stop | Cause::Latest | Cause::Booking => {
             Some(format!("train {place}"))
         }
@@ -215,6 +230,14 @@ fn in_words(cause: Cause) -> &'static str {
         Cause::OutOfPlace => {
             "a booking (by train and then station) or a due minute (by train) is not in rising order, \
              or a booking's station is not a middle one of its train's path"
+        }
+        Cause::StopTimesForm => {
+            "it is not of the form T1,00:20:00,00:24:00,2,2 under the header (hours up to 47, seconds \
+             00), arrival and departure differ where a train begins or ends, the text ends early, or \
+             bytes follow its last line"
+        }
+        Cause::StopTimesPath => {
+            "its trip, stop or sequence is not the next one on the paths of the line's trains"
         }
     }
 }

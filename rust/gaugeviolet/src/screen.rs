@@ -19,6 +19,22 @@ extern "C" {
     ) -> u64;
     fn gaugeviolet_solve(file: *const u8, file_len: usize, out: *mut u8, out_len: usize) -> u64;
     fn gaugeviolet_walk_length(file: *const u8, file_len: usize) -> u64;
+    fn gaugeviolet_export(
+        file: *const u8,
+        file_len: usize,
+        timetable: *const u8,
+        timetable_len: usize,
+        out: *mut u8,
+        out_len: usize,
+    ) -> u64;
+    fn gaugeviolet_import(
+        file: *const u8,
+        file_len: usize,
+        stop_times: *const u8,
+        stop_times_len: usize,
+        out: *mut u8,
+        out_len: usize,
+    ) -> u64;
 }
 
 pub(crate) fn read(file: &[u8]) -> u64 {
@@ -53,4 +69,32 @@ pub(crate) fn solve(file: &[u8], out: &mut [u8]) -> u64 {
 pub(crate) fn walk_length(file: &[u8]) -> u64 {
     // SAFETY: as for `read`.
     unsafe { gaugeviolet_walk_length(file.as_ptr(), file.len()) }
+}
+
+pub(crate) fn export(file: &[u8], timetable: &[u8], out: &mut [u8]) -> u64 {
+    // SAFETY: as for `rewrite`; `file` and `timetable` are only read, so they may overlap each other.
+    unsafe {
+        gaugeviolet_export(
+            file.as_ptr(),
+            file.len(),
+            timetable.as_ptr(),
+            timetable.len(),
+            out.as_mut_ptr(),
+            out.len(),
+        )
+    }
+}
+
+pub(crate) fn import(file: &[u8], stop_times: &[u8], out: &mut [u8]) -> u64 {
+    // SAFETY: as for `export`.
+    unsafe {
+        gaugeviolet_import(
+            file.as_ptr(),
+            file.len(),
+            stop_times.as_ptr(),
+            stop_times.len(),
+            out.as_mut_ptr(),
+            out.len(),
+        )
+    }
 }

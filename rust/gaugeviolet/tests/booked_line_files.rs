@@ -3,6 +3,7 @@
 
 mod altered;
 mod common;
+mod guarded;
 mod sections;
 
 use altered::{bytes_after, cut_short};

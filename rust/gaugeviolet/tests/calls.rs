@@ -23,6 +23,11 @@ fn standard_input() {
         run_with(&graph, timetable.as_bytes()).answer(),
         sample_text("a.svg")
     );
+    let import = ["import".as_ref(), file.as_os_str(), "-".as_ref()];
+    let export = ["export".as_ref(), file.as_os_str(), "-".as_ref()];
+    let stop_times = run_with(&export, timetable.as_bytes()).answer();
+    let minutes = run_with(&import, stop_times.as_bytes()).answer();
+    assert_eq!(minutes, "2\n0 20 20 40\n0 15 24 39\n");
     let ran = run_with(&["read", "-"], b"13\n");
     assert!(
         ran.told
@@ -55,6 +60,13 @@ fn input_without_end() {
     let about = format!("gaugeviolet: {}: the timetable has more ", long.display());
     assert!(ran.told.starts_with(&about), "{}", ran.told);
     assert!(ran.told.ends_with(told), "{}", ran.told);
+    let export = ["export".as_ref(), line.as_os_str(), long.as_os_str()];
+    assert_eq!(run(&export), ran);
+    // Stop times have no length of their own: the first line without end is wrong.
+    let ran = run(&["import".as_ref(), line.as_os_str(), "/dev/zero".as_ref()]);
+    assert_eq!((ran.status, &ran.out[..]), (Some(1), "refused 20 1\n"));
+    let told = "only the first 65536 bytes were read\n";
+    assert!(ran.told.ends_with(told), "{}", ran.told);
 }
 
 /// Holds that a file cannot be read, which is told by its name.
@@ -76,7 +88,7 @@ fn files_that_cannot_be_read() {
     // Also where the line file would be refused.
     let missing = sample("no-such.timetable");
     for line in [sample("a.line"), sample("e13-13.line")] {
-        for command in ["check", "lists", "graph", "why"] {
+        for command in ["check", "lists", "graph", "why", "export", "import"] {
             let ran = run(&[command.as_ref(), line.as_os_str(), missing.as_os_str()]);
             hold_unread(ran, &missing.display().to_string());
         }

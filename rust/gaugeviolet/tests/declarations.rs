@@ -16,7 +16,15 @@ struct Declaration {
 fn all_three_declare_the_same_functions() {
     let rattle = declared_in_rattle(&source("crates/screen/src/lib.rt"));
     let names: Vec<&str> = rattle.iter().map(|one| one.name.as_str()).collect();
-    let expected = ["read", "rewrite", "check", "solve", "walk_length"];
+    let expected = [
+        "read",
+        "rewrite",
+        "check",
+        "solve",
+        "walk_length",
+        "export",
+        "import",
+    ];
     assert_eq!(names, expected.map(|name| format!("gaugeviolet_{name}")));
     assert_eq!(
         declared_in_rust(&source("rust/gaugeviolet/src/screen.rs")),

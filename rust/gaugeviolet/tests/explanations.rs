@@ -5,13 +5,15 @@ mod refused;
 
 use std::collections::{BTreeMap, BTreeSet};
 
-use gaugeviolet::{check, plan, read, Cause, Explanation, Field, Line, Quotation, Refusal, Text};
+use gaugeviolet::{check, import, plan, read};
+use gaugeviolet::{Cause, Explanation, Field, Line, Quotation, Refusal, Text};
 use inputs::{
-    booked_planned, damage_bytes, damage_lines, damaged, due_planned, planned, sizes, walk_line,
-    with_bookings, with_dues, with_one_byte_damaged,
+    any_minutes, booked_planned, damage_bytes, damage_lines, damaged, due_planned, planned, sizes,
+    walk_line, with_bookings, with_dues, with_every_field_altered, with_one_byte_damaged,
+    with_stop_times_fault,
 };
-use inputs::{shown, Booked, Damage, DueAt, Fields, Random, Shape, Traffic};
-use refused::{explained, FILE, TIMETABLE};
+use inputs::{shown, Booked, Damage, DueAt, Fields, Random, Shape, StopTimesFault, Traffic};
+use refused::{explained, FILE, STOP_TIMES, TIMETABLE};
 
 /// The lines of a text, without their line feeds. After the last one there may be an empty one.
 fn rows(text: &[u8]) -> Vec<&[u8]> {
@@ -140,14 +142,48 @@ fn due_in_timetable(line: &independent::Line, text: &[u8], row: usize, before: u
     }
 }
 
-/// How many fields stand before the marked part. A part that is the space or the end after a field is
+/// The same for stop times of an accepted line.
+fn due_in_stop_times(line: &independent::Line, row: usize, before: usize) -> String {
+    if row == 1 {
+        return format!("header: name of column {}", before.min(4) + 1);
+    }
+    let trains = line.trains[..usize::from(line.train_count)].iter();
+    let stops = trains.zip(1..).flat_map(|(train, number)| {
+        let (origin, destination) = (train.origin, train.destination);
+        let passed = 0..=origin.abs_diff(destination);
+        passed.map(move |legs| match origin < destination {
+            true => (number, origin + legs),
+            false => (number, origin - legs),
+        })
+    });
+    let Some((train, station)) = stops.into_iter().nth(row - 2) else {
+        return "end of the text".into();
+    };
+    let columns = [
+        "trip_id",
+        "arrival_time",
+        "departure_time",
+        "stop_id",
+        "stop_sequence",
+    ];
+    format!(
+        "train {train} at station {station}: {}",
+        columns[before.min(4)]
+    )
+}
+
+/// How many fields stand before the marked part. A part that is the separator or the end after a field is
 /// about that field.
 fn fields_before(quotation: &Quotation, explanation: &Explanation) -> usize {
+    let between = match quotation.text {
+        Text::StopTimes => b',',
+        _ => b' ',
+    };
     let before = &quotation.bytes[..quotation.column - 1];
-    let spaces = before.iter().filter(|&&byte| byte == b' ').count();
+    let separators = before.iter().filter(|&&byte| byte == between).count();
     let after_field = explanation.allowed.ends_with("after it");
-    assert!(!after_field || !before.is_empty() && before.last() != Some(&b' '));
-    spaces
+    assert!(!after_field || !before.is_empty() && before.last() != Some(&between));
+    separators
 }
 
 /// Holds what every quotation has: it is that line of its text, and the mark is on it.
@@ -234,6 +270,30 @@ impl Seen {
         }
     }
 
+    fn stop_times(&mut self, file: &[u8], text: &[u8]) {
+        let Err(refusal) = import(file, text, &mut [0; 4096]) else {
+            return;
+        };
+        let explanation = explained(refusal, file, Some(text));
+        self.count(refusal, &explanation);
+        for number in [20, 21] {
+            for place in [refusal.place - 1, refusal.place, refusal.place + 1] {
+                let other = Refusal { number, place };
+                let told = other.explanation(file, Some(text)).is_some();
+                assert_eq!(told, other == refusal, "{}", shown(text));
+            }
+        }
+        let quotation = explanation.quotation.as_ref().expect("a line");
+        assert_eq!(quotation.text, Text::StopTimes);
+        assert_eq!(quotation.line, refusal.place as usize, "{}", shown(text));
+        hold_quotation(quotation, text);
+        let line = independent::read(file).expect("an accepted file");
+        let before = fields_before(quotation, &explanation);
+        let due = due_in_stop_times(&line, quotation.line, before);
+        let field = explanation.field.expect("a field").to_string();
+        assert_eq!(field, due, "{}", shown(text));
+    }
+
     fn count(&mut self, refusal: Refusal, explanation: &Explanation) {
         *self.numbers.entry(refusal.number).or_insert(0) += 1;
         assert!(!explanation.found.is_empty() && !explanation.allowed.is_empty());
@@ -317,6 +377,51 @@ fn every_byte_of_a_timetable_damaged() {
 }
 
 #[test]
+fn every_byte_of_stop_times_damaged() {
+    let mut seen = Seen::default();
+    let text = STOP_TIMES.as_bytes();
+    for damaged in with_one_byte_damaged(text) {
+        seen.stop_times(FILE.as_bytes(), &damaged);
+    }
+    for altered in with_every_field_altered(text) {
+        seen.stop_times(FILE.as_bytes(), &altered);
+    }
+    for end in 0..text.len() {
+        seen.stop_times(FILE.as_bytes(), &text[..end]);
+    }
+    println!("{:?}\n{:?}", seen.numbers, seen.fields);
+    let numbers: Vec<u32> = seen.numbers.keys().copied().collect();
+    assert_eq!(numbers, [20, 21]);
+    assert_eq!(
+        seen.fields.len(),
+        7,
+        "the header, every column, and the end"
+    );
+}
+
+#[test]
+fn stop_times_of_every_size_with_every_fault() {
+    let mut random = Random::new(16);
+    let mut seen = Seen::default();
+    for (stations, trains) in sizes() {
+        let draw = random.one_of(&[planned, booked_planned, due_planned]);
+        let line = draw(&mut random, stations, trains, Traffic::Mixed).line;
+        let file = Fields::of(&line).text();
+        let minutes = any_minutes(&mut random, &line);
+        let text = independent::stop_times::write(&line, &minutes);
+        for fault in [StopTimesFault::ALL; 20].concat() {
+            seen.stop_times(&file, &with_stop_times_fault(&mut random, &text, fault));
+        }
+        // Another line's, and what was to be a timetable.
+        seen.stop_times(&file, STOP_TIMES.as_bytes());
+        seen.stop_times(&file, TIMETABLE.as_bytes());
+    }
+    println!("{:?}\n{:?}", seen.numbers, seen.fields);
+    assert!(seen.numbers[&20] >= 5_000 && seen.numbers[&21] >= 1_000);
+    assert_eq!(seen.fields.len(), 7);
+}
+
+#[test]
 fn damaged_texts_of_every_size() {
     let mut random = Random::new(14);
     let mut seen = Seen::default();
@@ -389,11 +494,15 @@ fn lines_without_a_timetable() {
 #[test]
 fn bytes_that_are_not_refused_so() {
     let file = FILE.as_bytes();
-    for number in (1..=40).filter(|number| ![5, 6].contains(number)) {
-        for place in [0, 1, 2, 9, 40, u32::MAX] {
-            let refusal = Refusal { number, place };
-            let explanation = refusal.explanation(file, Some(TIMETABLE.as_bytes()));
-            assert_eq!(explanation, None, "{number} {place}");
+    // Each of the two is refused in the place of the other.
+    for (text, as_the_other) in [(TIMETABLE, (20, 1)), (STOP_TIMES, (8, 1))] {
+        for number in (1..=40).filter(|number| ![5, 6].contains(number)) {
+            for place in [0, 1, 2, 9, 40, u32::MAX] {
+                let refusal = Refusal { number, place };
+                let explanation = refusal.explanation(file, Some(text.as_bytes()));
+                let expected = (number, place) == as_the_other;
+                assert_eq!(explanation.is_some(), expected, "{number} {place}");
+            }
         }
     }
     let at_line_1 = Refusal {

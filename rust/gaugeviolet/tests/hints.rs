@@ -3,8 +3,8 @@
 
 mod refused;
 
-use gaugeviolet::{check, read, Explanation};
-use refused::{explained, FILE, TIMETABLE};
+use gaugeviolet::{check, import, read, Explanation};
+use refused::{explained, FILE, STOP_TIMES, TIMETABLE};
 
 /// Holds that an explanation gives exactly these hints, each told by some of its words.
 fn hold_hints(explanation: &Explanation, hints: &[&str]) {
@@ -35,6 +35,17 @@ fn hinted_in_timetable(from: &str, to: &str, hints: &[&str]) {
     let refusal = check(FILE.as_bytes(), timetable.as_bytes()).expect_err(to);
     let explanation = explained(refusal, FILE.as_bytes(), Some(timetable.as_bytes()));
     hold_hints(&explanation, hints);
+}
+
+/// The same for the stop times.
+fn hinted_in_stop_times(from: &str, to: &str, hints: &[&str]) {
+    let text = STOP_TIMES.replacen(from, to, 1);
+    hold_hints(&stop_times_explained(text.as_bytes()), hints);
+}
+
+fn stop_times_explained(text: &[u8]) -> Explanation {
+    let refusal = import(FILE.as_bytes(), text, &mut []).expect_err("a mistake");
+    explained(refusal, FILE.as_bytes(), Some(text))
 }
 
 #[test]
@@ -525,5 +536,129 @@ fn a_long_line_is_cut_around_the_mark() {
         quoted.as_bytes()[mark.len() - 1],
         b' ',
         "the mark is under a space: {told}"
+    );
+}
+
+#[test]
+fn how_programs_save_stop_times() {
+    hinted_in_stop_times("e\nT1", "e\r\nT1", &["CR LF"]);
+    hinted_in_stop_times("1,1\n", "1,1\r\n", &["CR LF"]);
+    hinted_in_stop_times("trip_id", "\u{feff}trip_id", &["byte-order mark"]);
+    hinted_in_stop_times("trip_id", "\"trip_id\"", &["without quotes"]);
+    hinted_in_stop_times("T1", "\"T1\"", &["without quotes"]);
+    hinted_in_stop_times(
+        "T1,",
+        "T1, ",
+        &["a space; fields are separated by one comma"],
+    );
+    hinted_in_stop_times("1,1\n", "1, 1\n", &["a space"]);
+    hinted_in_stop_times("1,1\n", "1,1 \n", &["a space"]);
+    hinted_in_stop_times("T1,", "T1;", &["a semicolon"]);
+    hinted_in_stop_times("T1,", "T1\t", &["a tab"]);
+    hinted_in_stop_times("T1,", "T\u{661},", &["not ASCII"]);
+    hinted_in_stop_times("T1,", "T1\0,", &["cannot be printed"]);
+    hold_hints(&stop_times_explained(b""), &["the file is empty"]);
+    hold_hints(&stop_times_explained(b"refused 20 1\n"), &["is a refusal"]);
+}
+
+#[test]
+fn headers_of_other_programs() {
+    let five = "these five in this order";
+    hinted_in_stop_times("trip_id", "Trip_ID", &["small letters"]);
+    hinted_in_stop_times(
+        "arrival_time,departure_time",
+        "departure_time,arrival_time",
+        &[five],
+    );
+    hinted_in_stop_times("stop_id,stop_sequence", "stop_sequence,stop_id", &[five]);
+    hinted_in_stop_times("sequence\n", "sequence,pickup_type\n", &["more fields"]);
+    hinted_in_stop_times(",stop_sequence", "", &["fewer fields"]);
+    let header = STOP_TIMES.split_inclusive('\n').next().expect("a header");
+    let missing = format!("the header is missing; line 1 is {}", header.trim_end());
+    hinted_in_stop_times(header, "", &[&missing]);
+}
+
+#[test]
+fn what_people_type_in_stop_times() {
+    let digits = "hours, minutes and seconds have two digits each; write 00:20:00";
+    hinted_in_stop_times("00:20:00", "0:20:00", &[digits]);
+    hinted_in_stop_times("00:20:00", "00:20:0", &[digits]);
+    hinted_in_stop_times(
+        "00:20:00",
+        "00:20",
+        &["seconds too, always 00; write 00:20:00"],
+    );
+    hinted_in_stop_times("00:20:00", "00:20:30", &["whole minutes"]);
+    hinted_in_stop_times("00:20:00", "00:60:00", &["minutes go from 00 to 59"]);
+    hinted_in_stop_times("00:20:00", "20", &["minute 20 is 00:20:00"]);
+    hinted_in_stop_times("00:20:00", "1440", &["minute 1440 is 24:00:00"]);
+    hinted_in_stop_times("00:20:00", "48:00:00", &["the second day ends at 47:59:00"]);
+    hinted_in_stop_times("00:20:00", "72:0", &["the second day ends at 47:59:00"]);
+    hinted_in_stop_times("00:20:00", "", &["the field is empty"]);
+    hinted_in_stop_times("00:20:00", "noon", &[]);
+    hinted_in_stop_times("T1", "T01", &["no leading zero"]);
+    hinted_in_stop_times("T1", "T10000", &["too many digits"]);
+    let trip = "that of train 1 is T1";
+    for other in ["1", "t1", "T", "train1", "T-1"] {
+        hinted_in_stop_times("T1", other, &[trip]);
+    }
+    hinted_in_stop_times(",1,1\n", ",01,1\n", &["no leading zero"]);
+    hinted_in_stop_times(",1,1\n", ",10000,1\n", &["too many digits"]);
+    hinted_in_stop_times(",1,1\n", ",Ascot,1\n", &["the numbers of the stations"]);
+    hinted_in_stop_times(",1,1\n", ",1,first\n", &["1, 2, 3 and so on"]);
+    hinted_in_stop_times(",1,1\n", ",1,\n", &["fewer fields"]);
+    hinted_in_stop_times(",1,1\n", ",1,1,0\n", &["more fields"]);
+    hinted_in_stop_times(",1,1\n", ",1\n", &["fewer fields"]);
+    // The hours of the second day are right, and so is a departure before the arrival.
+    let text = STOP_TIMES.replacen("00:20:00", "24:20:00", 1);
+    assert!(import(FILE.as_bytes(), text.as_bytes(), &mut [0; 99]).is_ok());
+}
+
+#[test]
+fn minutes_that_are_not_repeated() {
+    let once = "one minute for both";
+    hinted_in_stop_times("T1,00:00:00", "T1,00:01:00", &[once]);
+    let text = STOP_TIMES.replace("T1,00:00:00", "T1,00:01:00");
+    let explanation = stop_times_explained(text.as_bytes());
+    let told = (&explanation.found[..], &explanation.allowed[..]);
+    assert_eq!(told, ("00:01:00", "00:00:00, as its departure_time"));
+    let text = STOP_TIMES.replace("00:40:00,3", "00:41:00,9");
+    let explanation = stop_times_explained(text.as_bytes());
+    hold_hints(&explanation, &[once]);
+    let told = (&explanation.found[..], &explanation.allowed[..]);
+    assert_eq!(told, ("00:41:00", "00:40:00, as its arrival_time"));
+}
+
+#[test]
+fn stops_that_are_not_next() {
+    let due = "train 1 goes from station 1 to station 3, so line 3 is T1,HH:MM:00,HH:MM:00,2,2";
+    hinted_in_stop_times("2,2\n", "3,2\n", &[due]);
+    hinted_in_stop_times(
+        "2,2\n",
+        "2,3\n",
+        &["from 1 on each trip, without gaps", due],
+    );
+    let by_number = "T2 before T10";
+    hinted_in_stop_times("T1,00:20", "T2,00:20", &[by_number, due]);
+    hinted_in_stop_times("T1,00:20:00,00:20:00,2,2\n", "", &["train 1 goes"]);
+    let rows: Vec<&str> = STOP_TIMES.split_inclusive('\n').collect();
+    let inbound = "train 2 goes from station 3 to station 1, so line 6 is T2,HH:MM:00,HH:MM:00,2,2";
+    let ends = "the text ends before the field `train 2 at station 2: trip_id`";
+    hold_hints(
+        &stop_times_explained(rows[..5].concat().as_bytes()),
+        &[ends, inbound],
+    );
+    let ends = "the line file has 2 trains, so the text ends after line 7";
+    let twice = STOP_TIMES.to_string() + rows[6];
+    hold_hints(&stop_times_explained(twice.as_bytes()), &[ends]);
+    let blank = STOP_TIMES.to_string() + "\n";
+    hold_hints(
+        &stop_times_explained(blank.as_bytes()),
+        &["blank line at the end", ends],
+    );
+    let cut = STOP_TIMES.trim_end();
+    hold_hints(
+        &stop_times_explained(cut.as_bytes()),
+        &["press Enter", "line 7 is T2"],
     );
 }

@@ -1,6 +1,7 @@
 //! Rewriting with every number of lent bytes: the text and nothing else is written, or no byte.
 
 mod common;
+mod guarded;
 
 use common::Compared;
 use inputs::{booked_full_size, due_full_size, full_size, sizes, with_bookings, with_dues};

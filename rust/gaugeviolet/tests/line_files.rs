@@ -3,6 +3,7 @@
 
 mod altered;
 mod common;
+mod guarded;
 
 use altered::{bytes_after, cut_short};
 use common::Compared;

@@ -79,7 +79,7 @@ fn a_refused_timetable_is_not_published() {
     let wrong = sample_text("a.timetable").replace("24 39", "24 38");
     let wrong = written("wrong-run.timetable", wrong.as_bytes());
     let line = sample("a.line");
-    for (command, ..) in COMMANDS.iter().filter(|(_, _, most)| *most == 2) {
+    for command in ["check", "lists", "graph", "why"] {
         let ran = run(&[command.as_ref(), line.as_os_str(), wrong.as_os_str()]);
         assert_eq!(
             (ran.status, &ran.out[..]),
@@ -97,6 +97,103 @@ fn a_refused_timetable_is_not_published() {
         );
         assert_eq!(ran.told, told);
     }
+}
+
+/// The train count and the train lines, with which a timetable begins.
+fn train_lines(timetable: &str) -> String {
+    let trains: usize = timetable.lines().next().map_or(0, |count| {
+        count
+            .parse()
+            .expect("a timetable begins with its train count")
+    });
+    timetable.split_inclusive('\n').take(trains + 1).collect()
+}
+
+#[test]
+fn stop_times_of_samples_out_and_back() {
+    let stored = samples_with("stop_times");
+    assert!(stored.len() >= 4);
+    for (line, stop_times) in &stored {
+        let timetable = line.with_extension("timetable");
+        let export = ["export".as_ref(), line.as_os_str(), timetable.as_os_str()];
+        assert_eq!(run(&export).answer(), text(stop_times));
+        let import = ["import".as_ref(), line.as_os_str(), stop_times.as_os_str()];
+        assert_eq!(run(&import).answer(), train_lines(&text(&timetable)));
+    }
+}
+
+/// Every other sample with a timetable, too.
+#[test]
+fn every_timetable_out_and_back() {
+    for (line, timetable) in samples_with("timetable") {
+        let export = ["export".as_ref(), line.as_os_str(), timetable.as_os_str()];
+        let stop_times = run(&export).answer();
+        let import = ["import".as_ref(), line.as_os_str(), "-".as_ref()];
+        let minutes = run_with(&import, stop_times.as_bytes()).answer();
+        assert_eq!(minutes, train_lines(&text(&timetable)));
+    }
+}
+
+/// The rules, the order lists and the total are not tested; the text is.
+#[test]
+fn what_is_exported_need_not_keep_the_rules() {
+    let right = sample_text("a.timetable");
+    let line = sample("a.line");
+    let export = ["export".as_ref(), line.as_os_str(), "-".as_ref()];
+    let wrong = "2\n0 20 10 40\n9 1 24 39\n2\n0\n1 1\n7\n";
+    let exported = "\
+trip_id,arrival_time,departure_time,stop_id,stop_sequence
+T1,00:00:00,00:00:00,1,1
+T1,00:20:00,00:10:00,2,2
+T1,00:40:00,00:40:00,3,3
+T2,00:09:00,00:09:00,3,1
+T2,00:01:00,00:24:00,2,2
+T2,00:39:00,00:39:00,1,3
+";
+    assert_eq!(run_with(&export, wrong.as_bytes()).answer(), exported);
+    for (from, to, refusal) in [
+        ("18\n", "18", "refused 8 7\n"),
+        ("40\n", "2880\n", "refused 9 2\n"),
+        ("2 2 1", "2 2 3", "refused 9 6\n"),
+    ] {
+        let ran = run_with(&export, right.replacen(from, to, 1).as_bytes());
+        assert_eq!((ran.status, &ran.out[..]), (Some(1), refusal));
+        let about = "gaugeviolet: standard input: line ";
+        assert!(ran.told.starts_with(about), "{}", ran.told);
+        assert!(ran.told.contains("\nfound: "), "{}", ran.told);
+    }
+}
+
+/// Stop times that are refused are named, quoted and explained.
+#[test]
+fn stop_times_that_are_refused() {
+    let line = sample("a.line");
+    let refused = |name: &str| {
+        let stop_times = sample(&format!("a.{name}.stop_times"));
+        let ran = run(&["import".as_ref(), line.as_os_str(), stop_times.as_os_str()]);
+        let stored = sample_text(&format!("a.{name}.import-refused"));
+        assert_eq!((ran.status, ran.out), (Some(1), stored));
+        let about = format!("gaugeviolet: {}: ", stop_times.display());
+        ran.told.strip_prefix(&about).expect("its name").to_string()
+    };
+    assert_eq!(
+        refused("by-stop"),
+        "line 5 of the stop times: its trip, stop or sequence is not the next one on the paths of the \
+         line's trains\n\
+         line 5 of the stop times, column 22, train 2 at station 3: stop_id\n    \
+             T2,00:39:00,00:39:00,1,3\n                         \
+                                  ^\n\
+         found: 1\n\
+         allowed: 3\n\
+         hint: train 2 goes from station 3 to station 1, so line 5 is T2,HH:MM:00,HH:MM:00,3,1\n"
+    );
+    let crlf = refused("crlf");
+    let explained = "line 1 of the stop times, column 45, header: name of column 5\n";
+    assert!(crlf.contains(explained), "{crlf}");
+    assert!(
+        crlf.contains("\nhint: the line ends with CR LF, "),
+        "{crlf}"
+    );
 }
 
 #[test]

@@ -1,15 +1,15 @@
 //! The sentences of refusals against a list of all of them, and that the library gives no refusal
-//! without one: on the samples and on damaged line files and timetables.
+//! without one: on the samples and on damaged line files, timetables and stop times.
 
 use std::collections::BTreeMap;
 use std::path::Path;
 
-use gaugeviolet::{check, plan, read, rewrite, Cause, Refusal, FILE_BYTES};
+use gaugeviolet::{check, export, import, plan, read, rewrite, Cause, Refusal, FILE_BYTES};
 use inputs::{booked_planned, damage_bytes, damage_lines, damaged, due_planned, sizes};
-use inputs::{Damage, Random, Traffic};
+use inputs::{with_stop_times_fault, Damage, Random, StopTimesFault, Traffic};
 
-/// Every number of the scope document, told for place 7 where it has a place, else for 0; and its cause.
-const LIST: [(u32, u32, &str, Cause); 19] = [
+/// Every number of the scope document and of the requests, told for place 7 where it has a place, else for 0; and its cause.
+const LIST: [(u32, u32, &str, Cause); 21] = [
     (1, 0, "the line file has more than 4,096 bytes", Cause::FileLength),
     (
         2,
@@ -97,6 +97,21 @@ const LIST: [(u32, u32, &str, Cause); 19] = [
          order, or a booking's station is not a middle one of its train's path",
         Cause::OutOfPlace,
     ),
+    (
+        20,
+        7,
+        "line 7 of the stop times: it is not of the form T1,00:20:00,00:24:00,2,2 under the header \
+         (hours up to 47, seconds 00), arrival and departure differ where a train begins or ends, the \
+         text ends early, or bytes follow its last line",
+        Cause::StopTimesForm,
+    ),
+    (
+        21,
+        7,
+        "line 7 of the stop times: its trip, stop or sequence is not the next one on the paths of the \
+         line's trains",
+        Cause::StopTimesPath,
+    ),
 ];
 
 fn sentence(number: u32, place: u32) -> String {
@@ -118,6 +133,7 @@ fn the_place_is_told() {
         "line 26: the destination equals the origin"
     );
     assert!(sentence(9, 12).starts_with("line 12 of the timetable: "));
+    assert!(sentence(21, 146).starts_with("line 146 of the stop times: "));
     assert!(sentence(16, 22).starts_with("order list 22: "));
     // Always 0 where the library gives it, so it says nothing.
     assert_eq!(sentence(5, 26), "no timetable keeps every rule");
@@ -125,7 +141,7 @@ fn the_place_is_told() {
 
 #[test]
 fn another_number_is_told_plainly() {
-    for number in [0, 20, 31, u32::MAX] {
+    for number in [0, 22, 31, u32::MAX] {
         assert_eq!(
             sentence(number, 3),
             format!("refused with number {number} at place 3, which has no sentence")
@@ -150,7 +166,7 @@ fn every_number_of_the_list_has_its_cause() {
         assert_eq!(expected.number(), number);
     }
     assert_eq!(Cause::ALL, LIST.map(|(.., cause)| cause));
-    assert_eq!((cause(0), cause(20)), (None, None));
+    assert_eq!((cause(0), cause(22)), (None, None));
 }
 
 /// How often the library refused with each number.
@@ -204,9 +220,10 @@ fn what_is_refused_of_the_samples() {
             refused.file(&file);
             refused.note(plan(&file));
             refused.note(check(&file, b""));
+            refused.note(import(&file, b"", &mut []));
         }
     }
-    refused.ends([1, 2, 3, 5, 6, 8, 19].into_iter());
+    refused.ends([1, 2, 3, 5, 6, 8, 19, 20].into_iter());
 }
 
 #[test]
@@ -220,14 +237,21 @@ fn what_is_refused_of_damaged_texts() {
         for damage in [Damage::ALL; 20].concat() {
             let pair = damaged(&mut random, &planned, damage);
             refused.note(check(&pair.file, &pair.timetable));
+            refused.note(export(&pair.file, &pair.timetable, &mut [0; 10]));
             refused.file(&pair.file);
             refused.file(&damage_lines(&mut random, &pair.file));
         }
-        let mut long = planned.pair().file;
+        let file = planned.pair().file;
+        let stop_times = independent::stop_times::write(&planned.line, &planned.minutes);
+        for fault in [StopTimesFault::ALL; 20].concat() {
+            let wrong = with_stop_times_fault(&mut random, &stop_times, fault);
+            refused.note(import(&file, &wrong, &mut [0; 10]));
+        }
+        let mut long = file;
         long.resize(FILE_BYTES + 1, b'\n');
         damage_bytes(&mut random, &mut long, 3);
         refused.file(&long);
     }
     // 5 comes from solving alone.
-    refused.ends((1..=19).filter(|&number| number != 5));
+    refused.ends((1..=21).filter(|&number| number != 5));
 }

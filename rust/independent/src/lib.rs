@@ -1,10 +1,11 @@
 //! Line files and timetables in plain Rust, from the scope document and the change requests alone:
-//! reading and writing, the rules, the check, a planner that tries every order, one that walks through
-//! plans, the same walk with each plan worked out afresh, and one that searches through plans.
+//! reading and writing, the rules, the check, stop times for journey planners, a planner that tries every
+//! order, one that walks through plans, the same walk with each plan worked out afresh, and one that searches
+//! through plans.
 //!
 //! Nothing here comes from the proved crates or calls them: the tests compare the two, so a mistake
-//! has to be made twice to pass. The readers, the writers and the check allocate nothing (only
-//! [`write()`] and [`timetable::write`] hand out a vector), so the benchmark can compare times as well.
+//! has to be made twice to pass. The readers, the writers and the check allocate nothing (only [`write()`],
+//! [`timetable::write`] and two of [`stop_times`] hand out a vector), so the benchmark can compare times as well.
 //! The planners of [`exhaustive`] and [`afresh`] are made to be believed, not to be fast. Those of [`walk`] and
 //! [`search`] are made to be fast. Both walks take up the same plans as the proved one.
 
@@ -18,6 +19,7 @@ pub mod exhaustive;
 pub mod plans;
 pub mod rules;
 pub mod search;
+pub mod stop_times;
 pub mod timetable;
 pub mod walk;
 
@@ -44,6 +46,8 @@ mod due_readings;
 mod examples;
 #[cfg(test)]
 mod readings;
+#[cfg(test)]
+mod stop_times_readings;
 #[cfg(test)]
 mod test_texts;
 #[cfg(test)]
@@ -115,9 +119,10 @@ impl Limits {
 pub struct Refusal {
     /// Of a line file: 1 too long, 2 form, 3 range, 4 destination equals origin, 19 a booking or a due out
     /// of order, or a booking not at a middle station. 5 no timetable, 6 lent bytes too few. Of a
-    /// timetable: 7 too long, 8 form, 9 range, 10 to 15 and 18 the rule broken, 16 order lists, 17 total.
+    /// timetable: 7 too long, 8 form, 9 range, 10 to 15 and 18 the rule broken, 16 order lists, 17 total. Of
+    /// stop times: 20 form, 21 a trip, stop or sequence that is not next.
     pub number: u32,
-    /// The line of the fault for 2, 3, 4, 8, 9 and 19; the lowest train for 10 to 13 and 18, segment for
+    /// The line of the fault for 2, 3, 4, 8, 9 and 19 to 21; the lowest train for 10 to 13 and 18, segment for
     /// 14, station for 15 and list for 16. All of them count from 1; any other number has 0.
     pub place: u32,
 }

@@ -34,6 +34,11 @@ impl<const ROOM: usize> Text<ROOM> {
         self.length += 1;
     }
 
+    pub(crate) fn bytes(&mut self, bytes: &[u8]) {
+        self.bytes[self.length..self.length + bytes.len()].copy_from_slice(bytes);
+        self.length += bytes.len();
+    }
+
     /// A number of at most four digits and the byte `after` it, stored as one piece of five bytes:
     /// those past the field are written over by the next one.
     #[inline]

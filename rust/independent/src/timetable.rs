@@ -105,10 +105,7 @@ pub fn write(line: &Line, minutes: &Minutes) -> Vec<u8> {
 /// fewer bytes than the text. A refusal changes no lent byte.
 pub fn write_into(line: &Line, minutes: &Minutes, lent: &mut [u8]) -> Result<usize, Refusal> {
     let mut text = Text::<{ LONGEST + SPARE }>::new();
-    text.number(line.train_count, b'\n');
-    for (number, train) in line.used_trains().iter().enumerate() {
-        text.times(number, train, minutes);
-    }
+    put_minutes(&mut text, line, minutes);
     text.number(lists(line).count() as u16, b'\n');
     for (p, lane) in lists(line) {
         text.list(&order_list(line, minutes, p, lane));
@@ -117,17 +114,25 @@ pub fn write_into(line: &Line, minutes: &Minutes, lent: &mut [u8]) -> Result<usi
     text.copy_to(lent)
 }
 
-impl Text<{ LONGEST + SPARE }> {
-    fn times(&mut self, number: usize, train: &Train, minutes: &Minutes) {
+/// Puts the train count and a line for each train to a text that has room for them.
+pub(crate) fn put_minutes<const ROOM: usize>(
+    text: &mut Text<ROOM>,
+    line: &Line,
+    minutes: &Minutes,
+) {
+    text.number(line.train_count, b'\n');
+    for (number, train) in line.used_trains().iter().enumerate() {
         let last = train.legs() - 1;
         for leg in 0..=last {
             let segment = train.segment(leg);
-            self.number(minutes.departures[segment][number], b' ');
+            text.number(minutes.departures[segment][number], b' ');
             let after = if leg == last { b'\n' } else { b' ' };
-            self.number(minutes.arrivals[segment][number], after);
+            text.number(minutes.arrivals[segment][number], after);
         }
     }
+}
 
+impl Text<{ LONGEST + SPARE }> {
     fn list(&mut self, list: &OrderList) {
         // Each number is written once it is known whether another follows it on the line.
         let mut number = list.count as u16;

@@ -1,4 +1,4 @@
-//! Damage to the text of a line file or a timetable.
+//! Damage to the text of a line file, a timetable or stop times.
 
 use crate::Random;
 
@@ -64,21 +64,22 @@ pub fn damage_lines(random: &mut Random, text: &[u8]) -> Vec<u8> {
             let end = lines[at].len() - 1;
             lines[at].insert(end, random.one_of(b" \r0"));
         }
-        _ => turn_one_space(random, &mut lines[at]),
+        _ => turn_one_separator(random, &mut lines[at]),
     }
     lines.concat()
 }
 
-/// Turns one space of a line, if it has any, into a line feed, into two spaces or into nothing.
-fn turn_one_space(random: &mut Random, line: &mut Vec<u8>) {
-    let spaces: Vec<usize> = (0..line.len()).filter(|&at| line[at] == b' ').collect();
-    if spaces.is_empty() {
+/// Turns one space or comma of a line, if it has any, into a line feed, into two of it or into nothing.
+fn turn_one_separator(random: &mut Random, line: &mut Vec<u8>) {
+    let separates = |&at: &usize| line[at] == b' ' || line[at] == b',';
+    let separators: Vec<usize> = (0..line.len()).filter(separates).collect();
+    if separators.is_empty() {
         return;
     }
-    let at = random.one_of(&spaces);
+    let at = random.one_of(&separators);
     match random.below(3) {
         0 => line[at] = b'\n',
-        1 => line.insert(at, b' '),
+        1 => line.insert(at, line[at]),
         _ => drop(line.remove(at)),
     }
 }

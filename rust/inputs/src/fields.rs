@@ -2,10 +2,12 @@
 
 use independent::Line;
 
-/// A line file or a timetable, taken apart: its lines, and the fields of each.
+/// A line file, a timetable or stop times, taken apart: the lines, and the fields of each.
 #[derive(Clone, Debug)]
 pub struct Fields {
     pub(crate) lines: Vec<Vec<String>>,
+    /// What stands between two fields.
+    separator: char,
 }
 
 impl Fields {
@@ -47,23 +49,33 @@ impl Fields {
             lines.push(numbers.iter().map(u16::to_string).collect());
         }
         lines.extend(optional_lines(line));
-        Fields { lines }
+        let separator = ' ';
+        Fields { lines, separator }
     }
 
-    /// The fields of a text that is in order.
+    /// The fields of a line file or a timetable that is in order.
     pub fn of_text(text: &[u8]) -> Fields {
+        Fields::separated_by(' ', text)
+    }
+
+    /// The fields of stop times that are in order.
+    pub fn of_stop_times(text: &[u8]) -> Fields {
+        Fields::separated_by(',', text)
+    }
+
+    fn separated_by(separator: char, text: &[u8]) -> Fields {
         let text = std::str::from_utf8(text).expect("a text of ASCII bytes");
-        let fields = |line: &str| line.split(' ').map(str::to_string).collect();
-        Fields {
-            lines: text.lines().map(fields).collect(),
-        }
+        let fields = |line: &str| line.split(separator).map(str::to_string).collect();
+        let lines = text.lines().map(fields).collect();
+        Fields { lines, separator }
     }
 
     /// The text of all of them.
     pub fn text(&self) -> Vec<u8> {
+        let separator = self.separator.to_string();
         self.lines
             .iter()
-            .flat_map(|fields| (fields.join(" ") + "\n").into_bytes())
+            .flat_map(|fields| (fields.join(&separator) + "\n").into_bytes())
             .collect()
     }
 

@@ -1,6 +1,6 @@
 //! Line files and timetables for tests and benchmarks: random lines within the limits, lines for the
-//! planners, Saturdays, all of these with and without bookings and dues, lawful timetables, texts with fields
-//! altered, texts with bytes damaged; and the count of what they have and of what came of them.
+//! planners, Saturdays, all of these with and without bookings and dues, lawful timetables, stop times, texts
+//! with fields altered, texts with bytes damaged; and the count of what they have and of what came of them.
 //! Everything comes from a seed, so a failure can be seen again.
 
 #![forbid(unsafe_code)]
@@ -24,6 +24,7 @@ mod random;
 mod saturdays;
 mod seen;
 mod shown;
+mod stop_times;
 mod tally;
 mod timetable_damage;
 mod walks;
@@ -48,6 +49,8 @@ pub use random::Random;
 pub use saturdays::{saturday, some_saturday, Style};
 pub use seen::{Least, Seen};
 pub use shown::shown;
+pub use stop_times::{any_minutes, with_every_field_altered};
+pub use stop_times::{with_stop_times_fault, StopTimesFault};
 pub use timetable_damage::{damaged, Damage};
 pub use walks::{booked_short_walks, booked_small_walks};
 pub use walks::{dense_line, dense_walk, short_walk, short_walks, small_walks, walk_line};

@@ -1,9 +1,9 @@
-//! The names of the fields of a line file and of a timetable.
+//! The names of the fields of a line file, of a timetable and of stop times.
 
 use std::fmt;
 
-/// A field, by what it says. Trains, stations, segments, bookings, due minutes and order lists count from
-/// 1, and so do the places of trains in an order list. Later versions know more.
+/// A field, by what it says. Trains, stations, segments, bookings, due minutes, order lists and columns
+/// count from 1, and so do the places of trains in an order list. Later versions know more.
 #[non_exhaustive]
 #[derive(Clone, Copy, Debug, PartialEq, Eq, Hash)]
 #[allow(missing_docs, reason = "each name says it, and `Display` in words")]
@@ -80,6 +80,30 @@ pub enum Field {
         place: u32,
     },
     Total,
+    /// A column's name in the header of stop times.
+    ColumnName {
+        column: u32,
+    },
+    TripId {
+        train: u32,
+        station: u32,
+    },
+    ArrivalTime {
+        train: u32,
+        station: u32,
+    },
+    DepartureTime {
+        train: u32,
+        station: u32,
+    },
+    StopId {
+        train: u32,
+        station: u32,
+    },
+    StopSequence {
+        train: u32,
+        station: u32,
+    },
     /// Nothing may stand there.
     End,
 }
@@ -146,6 +170,22 @@ impl fmt::Display for Field {
                 write!(f, "order list {list}: train {place} of the list")
             }
             Field::Total => write!(f, "total"),
+            Field::ColumnName { column } => write!(f, "header: name of column {column}"),
+            Field::TripId { train, station } => {
+                write!(f, "train {train} at station {station}: trip_id")
+            }
+            Field::ArrivalTime { train, station } => {
+                write!(f, "train {train} at station {station}: arrival_time")
+            }
+            Field::DepartureTime { train, station } => {
+                write!(f, "train {train} at station {station}: departure_time")
+            }
+            Field::StopId { train, station } => {
+                write!(f, "train {train} at station {station}: stop_id")
+            }
+            Field::StopSequence { train, station } => {
+                write!(f, "train {train} at station {station}: stop_sequence")
+            }
             Field::End => write!(f, "end of the text"),
         }
     }

@@ -1,6 +1,8 @@
 //! What usually lies behind a fault in the form of a text, and what to do about it.
 
+use super::column::Column;
 use super::field::Field;
+use super::quotation::Text;
 use super::typed::Typed;
 use super::walker::{After, Fault, Wrong};
 
@@ -8,13 +10,29 @@ const MARK: &[u8] = b"\xef\xbb\xbf";
 const FEWER: &str = "the line has fewer fields than belong there";
 
 /// The hint for a fault, the most likely one alone.
-pub(super) fn hint(text: &[u8], fault: &Fault) -> Option<String> {
+pub(super) fn hint(which: Text, text: &[u8], fault: &Fault) -> Option<String> {
     match fault.wrong {
-        Wrong::Form => whole_text(text).or_else(|| in_place_of_field(text, fault)),
+        Wrong::Form => whole_text(text).or_else(|| in_place_of_field(which, text, fault)),
         Wrong::After(after) => after_field(text, fault, after).map(str::to_string),
+        Wrong::Range if which == Text::StopTimes => Some("the second day ends at 47:59:00".into()),
         Wrong::Range if fault.field.is_time() => {
             Some("times are minutes from midnight; those of the second day go on from 1440".into())
         }
+        Wrong::NotRepeated => {
+            Some("where a train begins or ends it has one minute for both".into())
+        }
+        Wrong::NotNext => not_next(fault.field).map(str::to_string),
+        _ => None,
+    }
+}
+
+/// Trips and sequences in an order that other programs take.
+fn not_next(field: Field) -> Option<&'static str> {
+    match field {
+        Field::TripId { .. } => {
+            Some("trips stand by number, T2 before T10; every train has its own")
+        }
+        Field::StopSequence { .. } => Some("the sequence counts from 1 on each trip, without gaps"),
         _ => None,
     }
 }
@@ -42,7 +60,7 @@ fn whole_text(text: &[u8]) -> Option<String> {
 }
 
 /// Something else stands where a field is due.
-fn in_place_of_field(text: &[u8], fault: &Fault) -> Option<String> {
+fn in_place_of_field(which: Text, text: &[u8], fault: &Fault) -> Option<String> {
     let token = &text[fault.from..fault.to];
     if fault.field == Field::End {
         return after_the_end(&text[fault.from..]);
@@ -55,9 +73,10 @@ fn in_place_of_field(text: &[u8], fault: &Fault) -> Option<String> {
     match (text.get(fault.from), token) {
         (None, _) if text.is_empty() => Some("the file is empty".into()),
         (None, _) => Some(format!("the text ends before the field `{}`", fault.field)),
-        (_, b" ") => Some(spaces(text, fault).into()),
         (_, []) if begins_line(text, fault) => Some("the line is empty; take it away".into()),
         (_, []) => Some(FEWER.into()),
+        _ if which == Text::StopTimes => Column::at(text, fault).hint(),
+        (_, b" ") => Some(spaces(text, fault).into()),
         _ => Typed::at(text, fault).hint(),
     }
 }
@@ -96,11 +115,11 @@ fn after_field(text: &[u8], fault: &Fault, after: After) -> Option<&'static str>
         (After::LineFeed, None) => {
             Some("every line ends with a line feed, the last one too; press Enter after it")
         }
-        (After::Space, None) => Some("the text ends within this line"),
+        (After::Space | After::Comma, None) => Some("the text ends within this line"),
         (After::LineFeed, Some(_)) if space_ends_line(text, fault) => {
             Some("there is a space at the end of the line; take it away")
         }
         (After::LineFeed, Some(_)) => Some("the line has more fields than belong there"),
-        (After::Space, Some(_)) => Some(FEWER),
+        (After::Space | After::Comma, Some(_)) => Some(FEWER),
     }
 }

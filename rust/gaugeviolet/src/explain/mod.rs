@@ -6,12 +6,14 @@
 
 use std::fmt;
 
+mod column;
 mod field;
 mod hints;
 mod line_file;
 mod needed;
 mod quotation;
 mod rules;
+mod stop_times;
 mod timetable_text;
 mod typed;
 mod walker;
@@ -54,12 +56,29 @@ pub struct Explanation {
 }
 
 impl Refusal {
-    /// Explains the refusal of a line file, or of a timetable for it. Nothing where the library does not
-    /// refuse these bytes so; only that a line has no timetable (5) or that lent bytes were too few (6) is
-    /// believed.
-    pub fn explanation(&self, file: &[u8], timetable: Option<&[u8]>) -> Option<Explanation> {
+    /// Explains the refusal of a line file, or of the text that was lent with it: a timetable, and for 20
+    /// and 21 stop times. Nothing where the library does not refuse these bytes so; only that a line has no
+    /// timetable (5) or that lent bytes were too few (6) is believed.
+    ///
+    /// ```
+    /// let file = b"2\n1\n1\n1\nS 5 4\n1\n1 2 0 99 1 10\n";
+    /// let stop_times = b"trip_id,arrival_time,departure_time,stop_id,stop_sequence\n\
+    ///                    T1,0:14:00,0:14:00,1,1\n";
+    /// let refusal = gaugeviolet::import(file, stop_times, &mut []).unwrap_err();
+    /// let explanation = refusal.explanation(file, Some(stop_times)).unwrap();
+    /// assert_eq!(
+    ///     explanation.to_string(),
+    ///     "line 2 of the stop times, column 4, train 1 at station 1: arrival_time\n    \
+    ///          T1,0:14:00,0:14:00,1,1\n       \
+    ///             ^^^^^^^\n\
+    ///      found: `0:14:00`\n\
+    ///      allowed: a time HH:MM:00 from 00:00:00 to 47:59:00\n\
+    ///      hint: hours, minutes and seconds have two digits each; write 00:14:00\n"
+    /// );
+    /// ```
+    pub fn explanation(&self, file: &[u8], text: Option<&[u8]>) -> Option<Explanation> {
         let cause = self.cause()?;
-        if !self.is_of(cause, file, timetable) {
+        if !self.is_of(cause, file, text) {
             return None;
         }
         match cause {
@@ -72,17 +91,24 @@ impl Refusal {
                 "fewer lent bytes than the text has",
                 "4096 always suffice",
             )),
-            Cause::TimetableLength => timetable.map(too_long),
-            _ => self.of_timetable(cause, &Line::read(file).ok()?, timetable?),
+            Cause::TimetableLength => text.map(too_long),
+            Cause::StopTimesForm | Cause::StopTimesPath => {
+                self.of_stop_times(cause, &Line::read(file).ok()?, text?)
+            }
+            _ => self.of_timetable(cause, &Line::read(file).ok()?, text?),
         }
     }
 
     /// Whether the library refuses these bytes so.
-    fn is_of(&self, cause: Cause, file: &[u8], timetable: Option<&[u8]>) -> bool {
+    fn is_of(&self, cause: Cause, file: &[u8], text: Option<&[u8]>) -> bool {
         match cause {
             Cause::NoTimetable | Cause::LentBytes => true,
             _ if cause.is_of_timetable() => {
-                timetable.is_some_and(|text| crate::check(file, text) == Err(*self))
+                text.is_some_and(|text| crate::check(file, text) == Err(*self))
+            }
+            // Their faults come before that no bytes are lent.
+            _ if cause.is_of_stop_times() => {
+                text.is_some_and(|text| crate::import(file, text, &mut []) == Err(*self))
             }
             _ => crate::read(file) == Err(*self),
         }
@@ -95,6 +121,15 @@ impl Refusal {
         (told == (cause, self.place)).then(|| {
             let needed = needed::in_file(file, &fault, &known);
             explained(Text::LineFile, file, fault, needed)
+        })
+    }
+
+    fn of_stop_times(&self, cause: Cause, line: &Line, text: &[u8]) -> Option<Explanation> {
+        let fault = stop_times::walk(line, text).err()?;
+        let told = (cause_in_stop_times(fault.wrong), fault.line as u32);
+        (told == (cause, self.place)).then(|| {
+            let needed = needed::in_stop_times(line, text, &fault);
+            explained(Text::StopTimes, text, fault, needed)
         })
     }
 
@@ -123,10 +158,10 @@ impl Refusal {
 
 fn cause_in_file(wrong: Wrong) -> Cause {
     match wrong {
-        Wrong::Form | Wrong::After(_) => Cause::FileForm,
         Wrong::Range => Cause::FileRange,
         Wrong::SameStation => Cause::SameStation,
         Wrong::OutOfPlace => Cause::OutOfPlace,
+        _ => Cause::FileForm,
     }
 }
 
@@ -134,6 +169,13 @@ fn cause_in_timetable(wrong: Wrong) -> Cause {
     match wrong {
         Wrong::Form | Wrong::After(_) => Cause::TimetableForm,
         _ => Cause::TimetableRange,
+    }
+}
+
+fn cause_in_stop_times(wrong: Wrong) -> Cause {
+    match wrong {
+        Wrong::NotNext => Cause::StopTimesPath,
+        _ => Cause::StopTimesForm,
     }
 }
 
@@ -154,7 +196,7 @@ fn too_long(text: &[u8]) -> Explanation {
 
 /// A fault explained, with what is needed on its line.
 fn explained(text: Text, bytes: &[u8], fault: Fault, needed: Option<String>) -> Explanation {
-    let hint = hints::hint(bytes, &fault);
+    let hint = hints::hint(text, bytes, &fault);
     let Fault { line, from, to, .. } = fault;
     Explanation {
         quotation: Some(Quotation::part(text, bytes, line, from, to)),
@@ -198,6 +240,7 @@ impl fmt::Display for Explanation {
             let text = match quotation.text {
                 Text::LineFile => "",
                 Text::Timetable => " of the timetable",
+                Text::StopTimes => " of the stop times",
             };
             let (line, column) = (quotation.line, quotation.column);
             write!(f, "line {line}{text}, column {column}")?;

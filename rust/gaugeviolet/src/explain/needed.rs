@@ -250,3 +250,35 @@ fn of_list(line: &Line, fault: &Fault, list: u32) -> Option<String> {
         fault.line
     ))
 }
+
+/// What is needed on the fault's line of stop times.
+pub(super) fn in_stop_times(line: &Line, text: &[u8], fault: &Fault) -> Option<String> {
+    match fault.field {
+        Field::TripId { train, station }
+        | Field::ArrivalTime { train, station }
+        | Field::DepartureTime { train, station }
+        | Field::StopId { train, station }
+        | Field::StopSequence { train, station } => {
+            let told = fault.wrong == Wrong::NotNext || fault.from == text.len();
+            told.then(|| stop_due(line, fault, train, station))
+        }
+        Field::End => Some(format!(
+            "the line file has {}, so the text ends after line {}",
+            counted(line.trains().len() as u32, "train"),
+            fault.line - 1
+        )),
+        _ => None,
+    }
+}
+
+/// The line that is due, by the path of its train.
+fn stop_due(line: &Line, fault: &Fault, number: u32, station: u32) -> String {
+    let train = line.train(number);
+    let (origin, destination) = (train.origin, train.destination);
+    let sequence = origin.abs_diff(station) + 1;
+    format!(
+        "train {number} goes from station {origin} to station {destination}, so line {} is \
+         T{number},HH:MM:00,HH:MM:00,{station},{sequence}",
+        fault.line
+    )
+}

@@ -7,13 +7,15 @@ use super::walker::visible;
 /// The most characters of a line that are quoted.
 const QUOTED: usize = 72;
 
-/// Which of the two texts.
+/// Which of the texts.
 #[derive(Clone, Copy, Debug, PartialEq, Eq, Hash)]
 pub enum Text {
     /// The line file.
     LineFile,
     /// The timetable.
     Timetable,
+    /// The stop times.
+    StopTimes,
 }
 
 /// A line of a text and the part of it that a refusal is about.

@@ -13,6 +13,10 @@ pub(super) enum Wrong {
     SameStation,
     /// A booking or a due minute is out of order, or a booking not at a middle station of its train.
     OutOfPlace,
+    /// Arrival and departure differ where a train begins or ends.
+    NotRepeated,
+    /// A trip, a stop or a sequence is not the next one on the line's paths.
+    NotNext,
 }
 
 /// The first fault of a text, with the bytes that it is about.
@@ -33,6 +37,7 @@ pub(super) struct Fault {
 #[derive(Clone, Copy, Debug, PartialEq, Eq)]
 pub(super) enum After {
     Space,
+    Comma,
     LineFeed,
 }
 
@@ -40,7 +45,16 @@ impl After {
     fn byte(self) -> u8 {
         match self {
             After::Space => b' ',
+            After::Comma => b',',
             After::LineFeed => b'\n',
+        }
+    }
+
+    fn in_words(self) -> &'static str {
+        match self {
+            After::Space => "a space",
+            After::Comma => "a comma",
+            After::LineFeed => "the end of the line",
         }
     }
 }
@@ -78,9 +92,11 @@ pub(super) struct Walker<'a> {
     text: &'a [u8],
     at: usize,
     line: usize,
+    /// What stands between the fields of a line.
+    between: After,
 }
 
-/// A number that was read, and where.
+/// A field that was read, and where. Its value is that of its number.
 #[derive(Clone, Copy)]
 pub(super) struct Read {
     pub value: u32,
@@ -90,33 +106,50 @@ pub(super) struct Read {
 }
 
 impl<'a> Walker<'a> {
+    /// A text whose fields are separated by spaces.
     pub fn new(text: &'a [u8]) -> Walker<'a> {
         Walker {
             text,
             at: 0,
             line: 1,
+            between: After::Space,
         }
     }
 
-    /// The bytes up to the next space or line feed, or the end.
+    /// A text whose fields are separated by commas.
+    pub fn with_commas(text: &'a [u8]) -> Walker<'a> {
+        Walker {
+            between: After::Comma,
+            ..Walker::new(text)
+        }
+    }
+
+    /// The bytes up to the next separator or line feed, or the end.
     fn token(&self) -> &'a [u8] {
         let rest = &self.text[self.at..];
-        let end = rest.iter().position(|byte| b" \n".contains(byte));
+        let ends = [self.between.byte(), b'\n'];
+        let end = rest.iter().position(|byte| ends.contains(byte));
         &rest[..end.unwrap_or(rest.len())]
     }
 
     /// A number of one to `digits` digits without leading zero.
     pub fn number(&mut self, field: Field, digits: usize, allowed: &str) -> Result<Read, Fault> {
+        self.form(field, |token| numeral(token, digits), allowed)
+    }
+
+    /// A field with a value by its form.
+    pub fn form(
+        &mut self,
+        field: Field,
+        value: impl Fn(&[u8]) -> Option<u32>,
+        allowed: &str,
+    ) -> Result<Read, Fault> {
         let token = self.token();
-        let is_number = (1..=digits).contains(&token.len())
-            && token.iter().all(u8::is_ascii_digit)
-            && (token.len() == 1 || token[0] != b'0');
-        if !is_number {
+        let Some(value) = value(token) else {
             return Err(self.bad_token(field, allowed));
-        }
-        let value = |value: u32, byte: &u8| value * 10 + u32::from(byte - b'0');
+        };
         let read = Read {
-            value: token.iter().fold(0, value),
+            value,
             line: self.line,
             from: self.at,
             to: self.at + token.len(),
@@ -145,11 +178,12 @@ impl<'a> Walker<'a> {
         }
         let (found, to) = match found {
             None => ("the end of the text", self.at),
-            Some(b' ') => ("a space", self.at + 1),
-            Some(_) => ("the end of the line", self.at),
+            Some(b'\n') => (After::LineFeed.in_words(), self.at),
+            Some(_) => (self.between.in_words(), self.at + 1),
         };
         let allowed = match after {
             After::Space => "a space and the next field after it",
+            After::Comma => "a comma and the next field after it",
             After::LineFeed => "the end of the line (a line feed) after it",
         };
         Err(self.fault(Wrong::After(after), field, to, found.into(), allowed))
@@ -208,9 +242,9 @@ impl<'a> Walker<'a> {
         let token = self.token();
         let (found, to) = match (token, self.text.get(self.at)) {
             ([], None) => ("the end of the text".to_string(), self.at),
-            ([], Some(b' ')) => ("a space".to_string(), self.at + 1),
-            ([], _) if self.begins_line() => ("an empty line".to_string(), self.at),
-            ([], _) => ("the end of the line".to_string(), self.at),
+            ([], Some(b'\n')) if self.begins_line() => ("an empty line".to_string(), self.at),
+            ([], Some(b'\n')) => (After::LineFeed.in_words().to_string(), self.at),
+            ([], _) => (self.between.in_words().to_string(), self.at + 1),
             _ => (told(token), self.at + token.len()),
         };
         self.fault(Wrong::Form, field, to, found, allowed)
@@ -232,17 +266,27 @@ impl<'a> Walker<'a> {
         }
     }
 
-    fn read_fault(&self, wrong: Wrong, field: Field, read: Read, allowed: String) -> Fault {
+    /// A fault of a field that was read, and so has its form.
+    pub fn read_fault(&self, wrong: Wrong, field: Field, read: Read, allowed: String) -> Fault {
         Fault {
             wrong,
             field,
             line: read.line,
             from: read.from,
             to: read.to,
-            found: read.value.to_string(),
+            found: String::from_utf8_lossy(&self.text[read.from..read.to]).into_owned(),
             allowed,
         }
     }
+}
+
+/// The value of a number of one to `digits` digits without leading zero.
+pub(super) fn numeral(token: &[u8], digits: usize) -> Option<u32> {
+    let is_number = (1..=digits).contains(&token.len())
+        && token.iter().all(u8::is_ascii_digit)
+        && (token.len() == 1 || token[0] != b'0');
+    let value = |value: u32, byte: &u8| value * 10 + u32::from(byte - b'0');
+    is_number.then(|| token.iter().fold(0, value))
 }
 
 /// The most bytes of a token that are told.

@@ -4,29 +4,19 @@ use std::hint::black_box;
 
 use inputs::{shown, Seen};
 
-/// Bytes before and after the lent part that nobody may touch.
-const GUARD: usize = 64;
-/// The most bytes that a test lends.
-const MOST_LENT: usize = 8192;
+use crate::guarded::{Guarded, MOST_LENT};
 
 /// What has been compared so far.
 pub struct Compared {
     pub seen: Seen,
-    /// The former content of the lent bytes and their guards. No byte of it occurs in a line file,
-    /// so a written byte shows and so does one left out.
-    former: Vec<u8>,
-    buffer: Vec<u8>,
+    guarded: Guarded,
 }
 
 impl Compared {
     pub fn new() -> Compared {
-        let former: Vec<u8> = (0..2 * GUARD + MOST_LENT)
-            .map(|at| 0x80 | (at * 37 % 128) as u8)
-            .collect();
         Compared {
             seen: Seen::default(),
-            buffer: former.clone(),
-            former,
+            guarded: Guarded::new(),
         }
     }
 
@@ -73,30 +63,9 @@ impl Compared {
 
     /// Rewrites `file` with `lent` bytes lent between guards and looks at every byte afterwards.
     pub fn lent(&mut self, file: &[u8], lent: usize, expected: Result<&[u8], (u32, u32)>) {
-        let all = GUARD + lent + GUARD;
-        self.buffer[..all].copy_from_slice(&self.former[..all]);
-        let answer = gaugeviolet::rewrite(file, &mut self.buffer[GUARD..GUARD + lent]);
-        let told = || format!("rewriting {} with {lent} bytes lent", shown(file));
-        assert_eq!(
-            answer.map_err(pair),
-            expected.map(<[u8]>::len),
-            "{}",
-            told()
-        );
-        let written = expected.unwrap_or(&[]);
-        let (front, rest) = self.buffer[..all].split_at(GUARD);
-        let (text, past) = rest.split_at(written.len());
-        assert!(
-            front == &self.former[..GUARD],
-            "a byte before the lent ones changed, {}",
-            told()
-        );
-        assert!(text == written, "another text, {}: {}", told(), shown(text));
-        assert!(
-            past == &self.former[GUARD + written.len()..all],
-            "a byte past the text changed, {}",
-            told()
-        );
+        let told = || format!("rewriting {}", shown(file));
+        let rewrite = |lent: &mut [u8]| gaugeviolet::rewrite(file, lent);
+        self.guarded.lend(lent, expected, told, rewrite);
     }
 }
 

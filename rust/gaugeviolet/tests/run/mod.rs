@@ -8,7 +8,7 @@ use std::process::{Command, Output, Stdio};
 pub const PROGRAM: &str = env!("CARGO_BIN_EXE_gaugeviolet");
 
 /// All subcommands, and how many files each takes at least and at most.
-pub const COMMANDS: [(&str, usize, usize); 7] = [
+pub const COMMANDS: [(&str, usize, usize); 9] = [
     ("read", 1, 1),
     ("rewrite", 1, 1),
     ("plan", 1, 1),
@@ -16,6 +16,8 @@ pub const COMMANDS: [(&str, usize, usize); 7] = [
     ("lists", 1, 2),
     ("graph", 1, 2),
     ("why", 1, 2),
+    ("export", 2, 2),
+    ("import", 2, 2),
 ];
 
 /// A line whose planning takes longer than any test.

@@ -59,12 +59,14 @@ impl Failure {
         ))
     }
 
-    /// The refusal of a line file, or of a timetable for it: the sentence and the explanation.
-    pub fn refused(refusal: Refusal, line: &Named, timetable: Option<&Named>) -> Failure {
-        let of_timetable = refusal.cause().is_some_and(Cause::is_of_timetable);
-        let about = timetable.filter(|_| of_timetable).unwrap_or(line);
+    /// The refusal of a line file, or of a timetable or stop times for it: the sentence and the
+    /// explanation.
+    pub fn refused(refusal: Refusal, line: &Named, text: Option<&Named>) -> Failure {
+        let of_text = |cause: Cause| cause.is_of_timetable() || cause.is_of_stop_times();
+        let of_text = refusal.cause().is_some_and(of_text);
+        let about = text.filter(|_| of_text).unwrap_or(line);
         let mut words = format!("gaugeviolet: {}: {refusal}\n", in_words(about.name));
-        let bytes = timetable.map(|named| &named.bytes[..]);
+        let bytes = text.map(|named| &named.bytes[..]);
         if let Some(explanation) = refusal.explanation(&line.bytes, bytes) {
             words += &explanation.to_string();
         }

@@ -10,7 +10,8 @@ use crate::arguments::Arguments;
 use crate::command::{Failure, Named};
 use crate::{interrupt, planning};
 
-/// No file is read further: what is longer than 4,096 bytes is refused anyhow.
+/// No file is read further: what is longer than 4,096 bytes is refused anyhow, and stop times by a line
+/// that begins before that.
 pub const MOST_BYTES: usize = 65_536;
 
 /// A file's name as it is told to people.

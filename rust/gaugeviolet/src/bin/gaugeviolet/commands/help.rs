@@ -6,8 +6,8 @@ use super::{find, unknown, ALL};
 use crate::command::{Command, Failure};
 
 const ENDING: &str = "
-LINE is a line file and TIMETABLE a timetable for it; `-` is standard input. Without
-TIMETABLE the best one is worked out.
+LINE is a line file, TIMETABLE a timetable for it, and STOP_TIMES the same for journey
+planners; `-` is standard input. Without TIMETABLE the best one is worked out.
 
 Standard output has the answer, or `refused n p`: the number of the refusal and its
 place. What is wrong is told on standard error. The exit status is 0 for an answer,

@@ -1,8 +1,10 @@
 //! The subcommands. A new one is a file here and an entry in [`ALL`].
 
 mod check;
+mod export;
 mod graph;
 mod help;
+mod import;
 mod lists;
 mod plan;
 mod read;
@@ -15,7 +17,7 @@ use crate::arguments::{parse, Asked};
 use crate::command::{Command, Failure};
 
 /// All subcommands in the order of the help.
-const ALL: [&Command; 7] = [
+const ALL: [&Command; 9] = [
     &read::COMMAND,
     &rewrite::COMMAND,
     &plan::COMMAND,
@@ -23,6 +25,8 @@ const ALL: [&Command; 7] = [
     &lists::COMMAND,
     &graph::COMMAND,
     &why::COMMAND,
+    &export::COMMAND,
+    &import::COMMAND,
 ];
 
 /// Runs the subcommand that the first argument names.
