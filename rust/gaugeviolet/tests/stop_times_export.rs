@@ -272,13 +272,13 @@ fn damaged_line_files_with_good_and_bad_timetables() {
 
 const CUT_SHORT: Least = Least {
     name: "cut short",
-    inputs: 15_000,
-    accepted: 40,
+    inputs: 13_000,
+    accepted: 34,
     numbers: &[
-        (2, 5000, 172),
+        (2, 4700, 172),
         (3, 2, 2),
-        (6, 120, 1),
-        (8, 9000, 37),
+        (6, 102, 1),
+        (8, 8200, 37),
         (9, 3, 2),
     ],
 };
@@ -290,8 +290,16 @@ fn cut_short_at_every_byte() {
     compared.cut_short(FILE_A, TIMETABLE_A);
     let full = fully_due_planned(&mut random).pair();
     compared.cut_short(&full.file, &full.timetable);
-    for _ in 0..8 {
-        let (stations, trains) = (random.within(2, 12), random.within(1, 12));
+    for (stations, trains) in [
+        (2, 0),
+        (2, 1),
+        (3, 3),
+        (4, 7),
+        (12, 1),
+        (9, 3),
+        (5, 12),
+        (12, 8),
+    ] {
         let Pair { file, timetable } =
             due_planned(&mut random, stations, trains, Traffic::Full).pair();
         compared.cut_short(&file, &timetable);

@@ -272,9 +272,9 @@ fn stop_times_of_another_line() {
 
 const CUT_SHORT: Least = Least {
     name: "cut short",
-    inputs: 30_000,
-    accepted: 11,
-    numbers: &[(2, 5000, 172), (6, 33, 1), (20, 25_000, 145), (21, 50, 50)],
+    inputs: 21_000,
+    accepted: 10,
+    numbers: &[(2, 3700, 172), (6, 30, 1), (20, 17_000, 145), (21, 50, 50)],
 };
 
 #[test]
@@ -285,8 +285,7 @@ fn cut_short_at_every_byte() {
     let planned = fully_due_planned(&mut random);
     let text = any_stop_times(&mut random, &planned.line);
     compared.cut_short(&planned.pair().file, &text);
-    for _ in 0..8 {
-        let (stations, trains) = (random.within(2, 12), random.within(0, 12));
+    for (stations, trains) in [(2, 0), (2, 1), (4, 2), (12, 1), (9, 3), (5, 12), (12, 8)] {
         let line = inputs::line(&mut random, stations, trains, Density::Dense);
         compared.cut_short(&file_of(&line), &any_stop_times(&mut random, &line));
     }

@@ -88,8 +88,7 @@ const fn not_next(place: u32) -> Refusal {
     Refusal { number, place }
 }
 
-/// A station of a train's path, with the minutes of the train there.
-#[derive(Clone, Copy, PartialEq, Eq)]
+/// A station of a train's path, with the minutes of the train there: the fields of a line, in their order.
 struct Stop {
     trip: u16,
     arrival: u16,
@@ -207,13 +206,13 @@ fn number(field: &[u8]) -> Option<u16> {
 
 /// A minute as HH:MM:00, at most 47:59:00.
 fn minute(field: &[u8]) -> Option<u16> {
-    let &[h, i, b':', m, n, b':', b'0', b'0'] = field else {
+    let &[a, b, b':', c, d, b':', b'0', b'0'] = field else {
         return None;
     };
-    if ![h, i, m, n].iter().all(u8::is_ascii_digit) {
+    if ![a, b, c, d].iter().all(u8::is_ascii_digit) {
         return None;
     }
-    let (hours, minutes) = (worth(&[h, i]), worth(&[m, n]));
+    let (hours, minutes) = (worth(&[a, b]), worth(&[c, d]));
     (hours <= 47 && minutes <= 59).then_some(60 * hours + minutes)
 }
 

@@ -164,12 +164,13 @@ pub fn with_every_field_altered(text: &[u8]) -> impl Iterator<Item = Vec<u8>> + 
 
 /// The fields of all lines but the header: column and bytes of each.
 fn fields_of_stops(text: &[u8]) -> Vec<(usize, Range<usize>)> {
+    let first = HEADER.len() + 1;
     let mut fields = Vec::new();
-    let (mut column, mut start) = (0, HEADER.len() + 1);
-    for at in start..text.len() {
-        if text[at] == b',' || text[at] == b'\n' {
+    let (mut column, mut start) = (0, first);
+    for (at, &byte) in text.iter().enumerate().skip(first) {
+        if byte == b',' || byte == b'\n' {
             fields.push((column, start..at));
-            column = if text[at] == b',' { column + 1 } else { 0 };
+            column = if byte == b',' { column + 1 } else { 0 };
             start = at + 1;
         }
     }

@@ -7,11 +7,14 @@ use inputs::{shown, Seen};
 
 use crate::guarded::{Guarded, MOST_LENT};
 
-/// An operation on a line file and another text that writes to lent bytes and returns the text's length.
+/// What takes a line file and another text, writes to lent bytes and returns the length of what it wrote.
+type Writing<R> = fn(&[u8], &[u8], &mut [u8]) -> Result<usize, R>;
+
+/// An operation of the library, and the same one of the independent code.
 pub struct Operation {
     pub name: &'static str,
-    pub library: fn(&[u8], &[u8], &mut [u8]) -> Result<usize, gaugeviolet::Refusal>,
-    pub independent: fn(&[u8], &[u8], &mut [u8]) -> Result<usize, independent::Refusal>,
+    pub library: Writing<gaugeviolet::Refusal>,
+    pub independent: Writing<independent::Refusal>,
 }
 
 /// What has been compared so far.
