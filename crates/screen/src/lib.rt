@@ -4,12 +4,15 @@
 // Reading, rewriting and checking are the checking service's. They stand here under the same names since an archive has the functions of its own crate
 // alone, and the screen links one archive.
 ghost use mathlib.Core.Path.{_≡_};
+ghost use Rattle.gtfs.specs.Operations.{exporting, importing};
 ghost use Rattle.line.specs.File.{lineFile, answered};
 ghost use Rattle.screen.specs.Solved.{Solved};
 ghost use Rattle.screen.specs.Walking.{walkLength};
-ghost use Rattle.service.specs.Packing.{packedAnswer, packedVerdict};
+ghost use Rattle.service.specs.Packing.{packedAnswer, packedVerdict, LentPacked};
 ghost use Rattle.service.specs.Rewriting.{Rewritten};
 ghost use Rattle.timetable.specs.Check.{checkOf};
+use gtfs::exporting::export;
+use gtfs::importing::import_lines;
 use line::Answer;
 use line::reading::read;
 use service::pack;
@@ -64,4 +67,22 @@ pub extern "C" fn gaugeviolet_walk_length(file: &[u8]) -> u64
         }
         Answer::Refused(number, place) => pack(number, place),
     }
+}
+
+// Exports a timetable of a line file as the GTFS file stop_times.txt: the length of its text, written to the front of the lent bytes; or a refusal and no
+// byte changed.
+#[no_mangle]
+pub extern "C" fn gaugeviolet_export(file: &[u8], timetable: &[u8], out: &mut [u8]) -> u64
+    ensures { λ r. ⌜ LentPacked (exporting (now (file .entry)) (now (timetable .entry))) (now (out .entry)) (now (out .exit)) r ⌝ }
+{
+    pack_written(export(file, timetable, out))
+}
+
+// Imports the GTFS file stop_times.txt for a line file: the length of the train count and train lines of its minutes, written to the front of the lent
+// bytes; or a refusal and no byte changed.
+#[no_mangle]
+pub extern "C" fn gaugeviolet_import(file: &[u8], stop_times: &[u8], out: &mut [u8]) -> u64
+    ensures { λ r. ⌜ LentPacked (importing (now (file .entry)) (now («stop_times» .entry))) (now (out .entry)) (now (out .exit)) r ⌝ }
+{
+    pack_written(import_lines(file, stop_times, out))
 }

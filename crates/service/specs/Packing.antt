@@ -1,6 +1,10 @@
 -- Document 01's number and its place (or, of a success, 0 and a length) in one number: the number times 2³² and the value below that.
 use Prim.Native.Nat.{ℕ, _+_, _*_, _/_, _%_, _<_}
+use mathlib.Core.Path.{_≡_}
+use mathlib.Core.List.{List}
+use lib.ListN.{length}
 use Rattle.text.specs.declared.Written.{Written}
+use Rattle.text.specs.Writing.Lend.{Spelling, writtenOf, bytesAfter}
 use Rattle.line.specs.declared.Answer.{Answer}
 use Rattle.timetable.specs.declared.checking.Verdict.{Verdict}
 
@@ -36,3 +40,8 @@ packedVerdict (Verdict.Refused n p) = packed n p
 abbrev pub packedWritten : Written → ℕ
 packedWritten (Written.Length n) = packed 0 n
 packedWritten (Written.Refused n p) = packed n p
+
+-- an answer packed, and the lent bytes, where this is what there is to write
+pub record LentPacked (what : Spelling) (entry exit : List ℕ) (r : ℕ) : Type 0 where
+  pub answer : r ≡ packedWritten (writtenOf what (length entry))
+  pub bytes : exit ≡ bytesAfter (writtenOf what (length entry)) what entry

@@ -2,8 +2,13 @@
 use Prim.Native.Nat.{ℕ, _<_, _≤_}
 use mathlib.Core.Path.{_≡_, refl, sym, ap, _∙_}
 use mathlib.Core.List.{List}
+use native.Mathlib.Decide.{decLe}
 use native.Mathlib.Omega.{arith}
+use lib.ListN.{length}
 use Rattle.text.specs.declared.Cursor.{Cursor}
+use Rattle.text.specs.declared.Written.{Written}
+use Rattle.text.specs.Writing.Lend.{Spelling, bytesAfter, Lent}
+use Rattle.text.specs.Writing.LendLaws.{text-written, text-refused, refusal-lent}
 use Rattle.text.specs.Reading.Parsed.{Parsed}
 use Rattle.line.specs.declared.Line.{Line}
 use Rattle.line.specs.File.{lineFile, answered}
@@ -12,7 +17,7 @@ use Rattle.timetable.specs.declared.checking.Verdict.{Verdict}
 use Rattle.timetable.specs.Check.{checkOf}
 use Rattle.timetable.specs.ExactCheckLaws.{PassedBy, passes, passed}
 use Rattle.timetable.specs.RefusalLaws.{check-refusal}
-use Rattle.service.specs.Packing.{packed, Packs, numberIn, valueIn, packedAnswer, packedVerdict}
+use Rattle.service.specs.Packing.{packed, Packs, PacksWritten, numberIn, valueIn, packedAnswer, packedVerdict, packedWritten, LentPacked}
 
 pub unpacked-number : (n v : ℕ) → Packs v → numberIn (packed n v) ≡ n
 unpacked-number n v h = omega arith
@@ -26,6 +31,27 @@ Unpacks r n p = (numberIn r ≡ n) × (valueIn r ≡ p)
 
 pub packed-tells : (r n p : ℕ) → r ≡ packed n p → Packs p → Unpacks r n p
 packed-tells r n p e h = (ap numberIn e ∙ unpacked-number n p h, ap valueIn e ∙ unpacked-value n p h)
+
+-- ---- a writing
+
+-- what lending gives, packed
+pub lent-packed : {what : Spelling} {entry exit : List ℕ} {r : ℕ} {w : Written} → Lent what entry exit w → r ≡ packedWritten w → LentPacked what entry exit r
+lent-packed {what} {entry} lent p = record {
+  answer = p ∙ ap packedWritten (lent .answer);
+  bytes = lent .bytes ∙ ap (λ (y : Written). bytesAfter y what entry) (lent .answer);
+}
+
+-- a text of at most 4,096 bytes and a refusal at a place of at most 4,097 can be packed
+pub text-packs : {what : Spelling} {t entry exit : List ℕ} {w : Written} → what ≡ Spelling.text t → length t ≤ 4096 → Lent what entry exit w → PacksWritten w
+text-packs {t = t} {entry = entry} is fits lent =
+    let own = rw is at lent in
+    elim (decLe (length t) (length entry)) [
+      | yes h ↦ rw (text-written own h .0) (omega arith)
+      | no h ↦ rw (text-refused own (omega arith) .0) (omega arith)
+    ]
+
+pub refusal-packs : {what : Spelling} {n p : ℕ} {entry exit : List ℕ} {w : Written} → what ≡ Spelling.refused n p → p ≤ 4097 → Lent what entry exit w → PacksWritten w
+refusal-packs is small lent = rw (refusal-lent (rw is at lent) .0) (omega arith)
 
 -- ---- a reading
 

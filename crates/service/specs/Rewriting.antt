@@ -1,14 +1,12 @@
 -- A file read and its line written out again.
 use Prim.Native.Nat.{ℕ}
-use mathlib.Core.Path.{_≡_}
 use mathlib.Core.List.{List}
-use lib.ListN.{length}
-use Rattle.text.specs.Writing.Lend.{Spelling, writtenOf, bytesAfter}
+use Rattle.text.specs.Writing.Lend.{Spelling}
 use Rattle.line.specs.declared.Line.{Line}
 use Rattle.line.specs.declared.Answer.{Answer}
 use Rattle.line.specs.File.{lineFile, answered}
 use Rattle.line.specs.Writing.{spelling}
-use Rattle.service.specs.Packing.{packedWritten}
+use Rattle.service.specs.Packing.{LentPacked}
 
 -- what there is to write: the refusal of the file, or what there is to write for its line
 abbrev pub respelt : Answer → Line → Spelling
@@ -19,6 +17,5 @@ unfoldable pub rewriting : List ℕ → Spelling
 rewriting file = respelt (answered (lineFile file) .answer) (answered (lineFile file) .line)
 
 -- the answer and the lent bytes
-pub record Rewritten (file entry exit : List ℕ) (r : ℕ) : Type 0 where
-  pub answer : r ≡ packedWritten (writtenOf (rewriting file) (length entry))
-  pub bytes : exit ≡ bytesAfter (writtenOf (rewriting file) (length entry)) (rewriting file) entry
+abbrev pub Rewritten : List ℕ → List ℕ → List ℕ → ℕ → Type 0
+Rewritten file entry exit r = LentPacked (rewriting file) entry exit r

@@ -19,6 +19,7 @@ use Rattle.line.specs.LengthLaws.{text-fits}
 use Rattle.line.specs.Writing.{spelling}
 use Rattle.line.specs.RoundTripLaws.{Accepts, spelling-text, rewritten}
 use Rattle.service.specs.Packing.{packed, Packs, PacksWritten, packedWritten}
+use Rattle.service.specs.PackingLaws.{lent-packed, text-packs}
 use Rattle.service.specs.Rewriting.{respelt, rewriting, Rewritten}
 
 -- ---- the two cases, for a reading that answered x
@@ -28,29 +29,17 @@ module _ (file entry : List ℕ) (x : ReadLine) (r : ℕ) (read : x ≡ answered
   unfolding rewriting
   respelt-as a e = rw (← read, e) refl
 
-  -- what lending gives for what there is to write
-  lent-rewritten : {exit : List ℕ} {w : Written} → Lent (rewriting file) entry exit w → r ≡ packedWritten w → Rewritten file entry exit r
-  lent-rewritten lent p = record {
-    answer = p ∙ ap packedWritten (lent .answer);
-    bytes = lent .bytes ∙ ap (λ (y : Written). bytesAfter y (rewriting file) entry) (lent .answer);
-  }
-
   pub rewritten-line : {exit : List ℕ} {w : Written} → x .answer ≡ Answer.Accepted → Lent (spelling (x .line)) entry exit w → r ≡ packedWritten w →
       Rewritten file entry exit r
-  rewritten-line e lent p = lent-rewritten (lent-as (respelt-as Answer.Accepted e) lent) p
+  rewritten-line e lent p = lent-packed (lent-as (respelt-as Answer.Accepted e) lent) p
 
   pub rewritten-refused : (n p : ℕ) → x .answer ≡ Answer.Refused n p → r ≡ packed n p → Rewritten file entry entry r
-  rewritten-refused n p e q = lent-rewritten {w = Written.Refused n p} (lent-refused entry refl (respelt-as (Answer.Refused n p) e)) q
+  rewritten-refused n p e q = lent-packed {w = Written.Refused n p} (lent-refused entry refl (respelt-as (Answer.Refused n p) e)) q
 
 -- ---- the answer can be packed
 
 pub rewritten-packs : {l : Line} {entry exit : List ℕ} {w : Written} → Within l → Lent (spelling l) entry exit w → PacksWritten w
-rewritten-packs {l} {entry} within lent =
-    let own = rw (spelling-text l within) at lent in
-    elim (decLe (length (textOf l)) (length entry)) [
-      | yes h ↦ rw (text-written own h .0) (omega (arith, text-fits l within))
-      | no h ↦ rw (text-refused own (omega arith) .0) (omega arith)
-    ]
+rewritten-packs {l} within lent = text-packs (spelling-text l within) (text-fits l within) lent
 
 -- ---- the theorem
 

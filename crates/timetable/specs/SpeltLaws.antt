@@ -251,6 +251,7 @@ pub record TimetableRead (l : Line) (s : List ℕ) (t : Timetable) : Type 0 wher
   pub days : EachTrain l (InDays l (t .minutes))
   pub many-lists : length (t .rest .lists) ≡ listCount l
   pub many-minutes : length (t .minutes) ≡ 352
+  pub idle : (x : ℕ) → OfNoLeg l x → getD (t .minutes) x 0 ≡ 0
 
 pub timetable-spelt : (l : Line) → Within l → (s : List ℕ) (t : Timetable) (end : Cursor) → timetableFile l s ≡ Parsed.got t end →
     TimetableRead l s t
@@ -267,4 +268,5 @@ timetable-spelt l w s t end e =
       days = minutes .days;
       many-lists = rest .many;
       many-minutes = minutes .many;
+      idle = minutes .idle;
     })

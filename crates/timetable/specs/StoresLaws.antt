@@ -1,13 +1,14 @@
 -- What reading the minutes stores: each leg has two entries of its own, so those of other legs and of other trains stay as they were, and those of no
--- leg stay 0.
+-- leg stay 0. So minutes that are the same and were read are one list.
 use Prim.Native.Nat.{ℕ, zero, suc, _+_, _≤_, _<_, _%_}
-use mathlib.Core.Path.{_≡_, refl, _∙_}
+use mathlib.Core.Path.{_≡_, refl, sym, ap, _∙_}
 use mathlib.Core.List.{List}
 use native.Mathlib.Omega.{arith}
 use lib.ListN.{length, getD, set, replicate, length-set}
-use lib.Seq.{getD-set-same, getD-set-other}
+use lib.Seq.{getD-set-same, getD-set-other, ext-getD}
 use Rattle.text.specs.declared.Cursor.{Cursor}
 use Rattle.finite.specs.Below.{EachFrom}
+use Rattle.finite.specs.DecideLaws.{by-test, decides-eq}
 use Rattle.text.specs.Reading.Parsed.{Parsed}
 use Rattle.text.specs.Reading.ParsedLaws.{then-got, got-is}
 use Rattle.line.specs.declared.Train.{Train}
@@ -17,6 +18,7 @@ use Rattle.line.specs.File.{afterField}
 use Rattle.rules.specs.Statement.Paths.{train, legs, segmentOf, Routed, EachTrain, EachLeg}
 use Rattle.rules.specs.Statement.Minutes.{departs, arrives}
 use Rattle.rules.specs.Check.Tests.{departureOf, arrivalOf}
+use Rattle.rules.specs.Statement.Delay.{Same}
 use Rattle.rules.specs.StatementLaws.PathsLaws.{segment-below, segment-apart}
 use Rattle.timetable.specs.Reading.{timeAt, withLeg, legsAt, trainsAt}
 
@@ -126,3 +128,16 @@ module _ (l : Line) where
   -- with all trains stored into 0 everywhere, it is 0 still
   pub idle-zero : {m : List ℕ} → TrainsStored (l .traffic .«train_count») 0 (replicate 352 0) m → (x : ℕ) → OfNoLeg x → getD m x 0 ≡ 0
   idle-zero stored x off = stored .stays x (λ i _ high k _ here. off i (omega arith) k (omega arith)) ∙ zeros 352 x
+
+  -- minutes that are the same and have 0 where no train's leg is are one list
+  pub minutes-only : (m m′ : List ℕ) → length m ≡ length m′ → ((x : ℕ) → OfNoLeg x → getD m x 0 ≡ 0) → ((x : ℕ) → OfNoLeg x → getD m′ x 0 ≡ 0) → Same l m m′ →
+      m ≡ m′
+  minutes-only m m′ size idle idle′ same = ext-getD 0 m m′ size (λ x _. entry x)
+    where
+      entry : (x : ℕ) → getD m x 0 ≡ getD m′ x 0
+      entry x = by-test (decides-eq (getD m x 0) (getD m′ x 0)) (λ e. e) (λ other.
+          let off : OfNoLeg x = λ i h k here. (
+            (λ z. other (ap (λ (y : ℕ). getD m y 0) z ∙ same i h k here .0 ∙ ap (λ (y : ℕ). getD m′ y 0) (sym z))),
+            (λ z. other (ap (λ (y : ℕ). getD m y 0) z ∙ same i h k here .1 ∙ ap (λ (y : ℕ). getD m′ y 0) (sym z))),
+          ) in
+          idle x off ∙ sym (idle′ x off))
