@@ -1,7 +1,6 @@
 -- What export and import answer, whatever the bytes: a text of at most 4,096 bytes, or a refusal by a number from 1 to 21 at a place of at most 4,097.
 use Prim.Native.Nat.{ℕ, _≤_}
 use mathlib.Core.Path.{_≡_, refl, ap}
-use mathlib.Core.Logic.{⊎-elim}
 use mathlib.Core.List.{List}
 use native.Mathlib.Omega.{arith}
 use lib.ListN.{length}

@@ -1,6 +1,6 @@
 -- What holds of the cursors while stop_times.txt is read: a refusal is by 20 or 21, on the line at which the reading stood, which is no later than line 146.
 use Prim.Native.Nat.{ℕ, zero, suc, _+_, _*_, _≤_}
-use mathlib.Core.Path.{_≡_, refl, sym, ap, _∙_}
+use mathlib.Core.Path.{_≡_, refl}
 use mathlib.Core.Bool.{Bool, true, false}
 use mathlib.Core.List.{List}
 use native.Mathlib.Omega.{arith}

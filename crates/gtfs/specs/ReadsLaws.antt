@@ -1,8 +1,8 @@
 -- The text of minutes is read as those minutes: each line is read as its stop's, which is the one that is due, and stored into entries of its own.
 use Prim.Native.Nat.{ℕ, zero, suc, _+_, _-_, _≤_, _<_}
-use mathlib.Core.Path.{_≡_, refl, sym, ap, _∙_}
+use mathlib.Core.Path.{_≡_, refl, sym, _∙_}
 use mathlib.Core.Bool.{Bool, true, false, cond, _||_, false≢true}
-use mathlib.Core.List.{List, [], _++_}
+use mathlib.Core.List.{List, []}
 use native.Mathlib.Decide.{decLt}
 use native.Mathlib.Omega.{arith}
 use borrow.Author.Tests.{eqb-true, ne-eqb}
@@ -29,7 +29,7 @@ use Rattle.rules.specs.StatementLaws.PathsLaws.{legs-few}
 use Rattle.timetable.specs.Reading.{withLeg}
 use Rattle.timetable.specs.StoresLaws.{leg-stored, departure-stored, arrival-stored, earlier-stays}
 use Rattle.timetable.specs.SpeltLaws.{DaysAt}
-use Rattle.gtfs.specs.Stops.{stationBetween, isEnd, stopOn, timed, originTime, leavesAfter, timeAfter}
+use Rattle.gtfs.specs.Stops.{stationBetween, stopOn, timed, leavesAfter, timeAfter}
 use Rattle.gtfs.specs.Spell.{header, stopTimeText, stopsText, tripText, tripsText, stopTimesText}
 use Rattle.gtfs.specs.Reading.{dueAt, stopsAt, tripAt, tripsAt, stopTimesFile}
 use Rattle.gtfs.specs.LineLaws.{Plain, time-reads}

@@ -4,7 +4,7 @@ use Prim.Native.Nat.{ℕ, _≤_}
 use mathlib.Core.Path.{_≡_, refl, sym, ap, _∙_}
 use mathlib.Core.List.{List, []}
 use Rattle.text.specs.declared.Cursor.{Cursor}
-use Rattle.text.specs.Reading.Parsed.{Parsed, thenRead}
+use Rattle.text.specs.Reading.Parsed.{Parsed}
 use Rattle.text.specs.Writing.Lend.{Spelling}
 use Rattle.line.specs.declared.Line.{Line}
 use Rattle.line.specs.File.{lineFile, answered}
@@ -21,7 +21,7 @@ use Rattle.timetable.specs.ReadsLaws.{lines-back}
 use Rattle.timetable.specs.StoresLaws.{minutes-only}
 use Rattle.gtfs.specs.Spell.{stopTimesText}
 use Rattle.gtfs.specs.Reading.{stopTimesFile}
-use Rattle.gtfs.specs.Operations.{spelt, stopTimesOf, linesOf, exporting, minutesOf, importing}
+use Rattle.gtfs.specs.Operations.{exporting, minutesOf, importing}
 use Rattle.gtfs.specs.SpeltLaws.{StopTimesSpelt, stop-times-spelt}
 use Rattle.gtfs.specs.ReadsLaws.{stop-times-read}
 

@@ -1,13 +1,11 @@
 -- Minutes that are the same have the same text: only the minutes of legs are written.
 use Prim.Native.Nat.{ℕ, zero, suc, _+_}
-use mathlib.Core.Path.{_≡_, refl, ap, _∙_}
+use mathlib.Core.Path.{_≡_, refl}
 use mathlib.Core.List.{List}
-use lib.Dec.{ltb}
 use Rattle.line.specs.declared.Train.{Train}
-use Rattle.line.specs.Record.{legsOf}
 use Rattle.timetable.specs.SameTextLaws.{SameLeg}
-use Rattle.gtfs.specs.Stops.{leavesAfter, timeAfter, originTime}
-use Rattle.gtfs.specs.Spell.{stopTimeText, stopsText, tripText}
+use Rattle.gtfs.specs.Stops.{leavesAfter}
+use Rattle.gtfs.specs.Spell.{stopsText, tripText}
 
 module _ (m m′ : List ℕ) (t : Train) (i : ℕ) (same : (q : ℕ) → SameLeg m m′ t i q) where
   leaves-same : (j : ℕ) → leavesAfter t m i j ≡ leavesAfter t m′ i j

@@ -2,7 +2,7 @@
 -- one. The departure that a line has belongs to the next leg, so it is carried until that leg's arrival is read.
 use Prim.Native.Nat.{ℕ, zero, suc, _+_, _≤_, _<_}
 use mathlib.Core.Path.{_≡_, refl, sym, ap, _∙_}
-use mathlib.Core.Bool.{Bool, true, false, cond, _||_}
+use mathlib.Core.Bool.{Bool, true, false, _||_}
 use mathlib.Core.List.{List, [], _++_}
 use native.Mathlib.Omega.{arith}
 use borrow.Author.Tests.{ltb-false, lt-ltb, le-ltb, eq-eqb}
@@ -28,7 +28,7 @@ use Rattle.timetable.specs.Reading.{withLeg}
 use Rattle.timetable.specs.StoresLaws.{LegsStored, leg-stored, departure-stored, arrival-stored, TrainsStored, earlier-stays, OfNoLeg, idle-zero}
 use Rattle.timetable.specs.SpeltLaws.{DaysAt}
 use Rattle.gtfs.specs.declared.stops.StopTime.{StopTime}
-use Rattle.gtfs.specs.Stops.{isEnd, stopOn, timed, leavesAfter, timeAfter, originTime}
+use Rattle.gtfs.specs.Stops.{stopOn, leavesAfter, timeAfter, originTime}
 use Rattle.gtfs.specs.Spell.{header, stopTimeText, stopsText, tripText, tripsText, stopTimesText}
 use Rattle.gtfs.specs.Reading.{dueAt, stopsAt, tripAt, tripsAt, stopTimesFile}
 use Rattle.gtfs.specs.LineLaws.{bytes-so, time-spelt}

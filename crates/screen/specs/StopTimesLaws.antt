@@ -1,14 +1,14 @@
 -- What export and import answer can be packed; and what the packed answer of each says, number and value unpacked: 0 with the length of the text, else the
 -- refusal with its place and every lent byte as before.
 use Prim.Native.Nat.{ℕ, _≤_, _<_}
-use mathlib.Core.Path.{_≡_, refl, sym, ap, _∙_}
+use mathlib.Core.Path.{_≡_, refl, ap, _∙_}
 use mathlib.Core.List.{List, _++_}
 use native.Mathlib.Omega.{arith}
 use lib.ListN.{length, drop}
 use Rattle.text.specs.declared.Written.{Written}
-use Rattle.text.specs.Writing.Lend.{Spelling, writtenOf, bytesAfter, Lent}
+use Rattle.text.specs.Writing.Lend.{Spelling, Lent}
 use Rattle.text.specs.Writing.LendLaws.{lent-there, text-written, text-refused, refusal-lent}
-use Rattle.gtfs.specs.BoundsLaws.{RefusalBounded, SpellingBounded}
+use Rattle.gtfs.specs.BoundsLaws.{SpellingBounded}
 use Rattle.service.specs.Packing.{packedWritten, PacksWritten, LentPacked}
 use Rattle.service.specs.PackingLaws.{Unpacks, packed-tells, text-packs, refusal-packs}
 

@@ -1,24 +1,20 @@
 -- Laws of rewriting: its two cases as the code has them, that its answer can be packed, and the theorem that an accepted file is written out again with the
 -- same bytes.
-use Prim.Native.Nat.{ℕ, _≤_}
-use mathlib.Core.Path.{_≡_, refl, sym, ap, _∙_}
+use Prim.Native.Nat.{ℕ}
+use mathlib.Core.Path.{_≡_, refl}
 use mathlib.Core.List.{List}
-use native.Mathlib.Decide.{decLe}
-use native.Mathlib.Omega.{arith}
-use lib.ListN.{length}
 use Rattle.text.specs.declared.Written.{Written}
-use Rattle.text.specs.Writing.Lend.{Spelling, bytesAfter, Lent}
-use Rattle.text.specs.Writing.LendLaws.{lent-as, lent-refused, text-written, text-refused}
+use Rattle.text.specs.Writing.Lend.{Spelling, Lent}
+use Rattle.text.specs.Writing.LendLaws.{lent-as, lent-refused}
 use Rattle.line.specs.declared.Line.{Line}
 use Rattle.line.specs.declared.Answer.{Answer}
 use Rattle.line.specs.declared.ReadLine.{ReadLine}
 use Rattle.line.specs.Within.{Within}
 use Rattle.line.specs.File.{lineFile, answered}
-use Rattle.line.specs.Spell.{textOf}
 use Rattle.line.specs.LengthLaws.{text-fits}
 use Rattle.line.specs.Writing.{spelling}
 use Rattle.line.specs.RoundTripLaws.{Accepts, spelling-text, rewritten}
-use Rattle.service.specs.Packing.{packed, Packs, PacksWritten, packedWritten}
+use Rattle.service.specs.Packing.{packed, PacksWritten, packedWritten}
 use Rattle.service.specs.PackingLaws.{lent-packed, text-packs}
 use Rattle.service.specs.Rewriting.{respelt, rewriting, Rewritten}
 

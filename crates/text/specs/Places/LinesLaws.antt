@@ -17,7 +17,7 @@ use Rattle.text.specs.declared.Step.{Step}
 use Rattle.text.specs.declared.NumberField.{NumberField}
 use Rattle.text.specs.declared.Bounded.{Bounded}
 use Rattle.text.specs.declared.Field.{Field}
-use Rattle.text.specs.Reading.Choice.{pick, onDigit, onNumber, onStep, onField, onBounded}
+use Rattle.text.specs.Reading.Choice.{pick, onDigit, onNumber, onStep, onBounded}
 use Rattle.text.specs.Reading.Bytes.{byteAt, ahead, passing, digitOf, pastOf}
 use Rattle.text.specs.Reading.BytesLaws.{digit-worth, past-found}
 use Rattle.text.specs.Reading.Numbers.{more, numberAt, fieldAt}

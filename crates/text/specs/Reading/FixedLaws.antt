@@ -1,6 +1,6 @@
 -- Laws of parts of a fixed form: each step, what is read is its text, and a text is read as its value.
 use Prim.Native.Nat.{ℕ, _+_, _*_, _/_, _%_, _<_, _≤_}
-use mathlib.Core.Path.{_≡_, refl, sym, ap, _∙_}
+use mathlib.Core.Path.{_≡_, refl, ap, _∙_}
 use mathlib.Core.List.{List, [], _∷_, _++_}
 use native.Mathlib.Omega.{arith}
 use native.Mathlib.Numerals.{add-one}
@@ -15,7 +15,6 @@ use Rattle.text.specs.declared.Step.{Step}
 use Rattle.text.specs.Reading.Choice.{onDigit, onNumber, onStep}
 use Rattle.text.specs.Reading.Bytes.{byteAt, from, ahead, passing, digitOf, pastOf}
 use Rattle.text.specs.Reading.BytesLaws.{from-byte, from-ahead, past-spelt, past-reads, digit-byte, digit-small, digit-spelt}
-use Rattle.text.specs.Reading.Limits.{boundedOf}
 use Rattle.text.specs.Reading.Parsed.{Parsed}
 use Rattle.text.specs.Reading.ParsedLaws.{bad-got, bounded-fits, limited-value, limited-got, Reads}
 use Rattle.text.specs.Reading.Fixed.{pastAll, textAt, pairAt, pairFieldAt, pairedAt}

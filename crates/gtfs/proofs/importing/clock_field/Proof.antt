@@ -1,16 +1,11 @@
 -- `gtfs::importing::clock_field` meets its contract: hour, minute and seconds in turn; the hour is at most 47 and the minute at most 59, so the sum
 -- fits. Assumes nothing.
-use mathlib.Core.Path.{_≡_, _∙_, sym, ap}
+use mathlib.Core.Path.{_∙_, sym, ap}
 use native.Mathlib.Omega.{arith}
-use denote.Ref.{now}
-use Rattle.text.specs.declared.Cursor.{Cursor}
-use Rattle.text.specs.declared.Field.{Field}
 use Rattle.text.specs.Places.Lines.{Counted, AnyNumber}
 use Rattle.text.specs.Places.LinesLaws.{keeps-counted, stands-got, stands-paired}
-use Rattle.text.specs.Reading.Fixed.{pairedAt}
 use Rattle.text.specs.Reading.FixedLaws.{paired-spelt}
-use Rattle.text.specs.Reading.Parsed.{Parsed}
-use Rattle.text.specs.Reading.Told.{toldField, toldEnding}
+use Rattle.text.specs.Reading.Told.{toldField}
 use Rattle.line.specs.FileLaws.{ended-told}
 use Rattle.gtfs.specs.LineLaws.{clock-no-hour, clock-no-minute, clock-no-seconds, clock-got}
 use borrow.Author.Needs.{needs}

@@ -1,6 +1,6 @@
 -- `gtfs::importing::due_line` meets its contract: a line that was read is held to the stop that is due, first by its times and then by its numbers.
 -- Assumes nothing.
-use mathlib.Core.Path.{_≡_, _∙_, sym}
+use mathlib.Core.Path.{_∙_, sym}
 use borrow.Author.Tests.{not-true, not-false}
 use Rattle.line.specs.FileLaws.{ended-told}
 use Rattle.gtfs.specs.StopsLaws.{due-malformed, due-unequal, due-other, due-value}

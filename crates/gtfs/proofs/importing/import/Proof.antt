@@ -1,5 +1,5 @@
 -- `gtfs::importing::import` meets its contract: a file that is refused, or an accepted one, whose line is within the limits. Assumes nothing.
-use mathlib.Core.Path.{_≡_, _∙_, sym, ap}
+use mathlib.Core.Path.{_∙_, sym, ap}
 use denote.Ref.{now}
 use Rattle.line.specs.declared.Line.{Line}
 use Rattle.timetable.specs.CheckLoopLaws.{file-within}

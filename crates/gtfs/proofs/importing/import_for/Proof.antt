@@ -1,5 +1,5 @@
 -- `gtfs::importing::import_for` meets its contract: the minutes that were read, or none with the refusal. Assumes nothing.
-use mathlib.Core.Path.{_≡_, _∙_, sym, ap}
+use mathlib.Core.Path.{_∙_, sym, ap}
 use Rattle.line.specs.FileLaws.{ended-told}
 use Rattle.gtfs.specs.Operations.{imported}
 use borrow.Author.Needs.{needs}

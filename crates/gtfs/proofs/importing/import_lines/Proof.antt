@@ -1,5 +1,5 @@
 -- `gtfs::importing::import_lines` meets its contract: a file that is refused, or an accepted one, whose line is within the limits. Assumes nothing.
-use mathlib.Core.Path.{_≡_, _∙_, sym, ap, refl}
+use mathlib.Core.Path.{ap, refl}
 use denote.Ref.{now}
 use Rattle.text.specs.Writing.LendLaws.{lent-as, lent-refused}
 use Rattle.line.specs.declared.Line.{Line}

@@ -1,5 +1,5 @@
 -- `gtfs::importing::read_stop_times` meets its contract: the header, the trips, and then the end of the text, each refused as it is found. Assumes nothing.
-use mathlib.Core.Path.{_≡_, _∙_, sym}
+use mathlib.Core.Path.{_∙_, sym}
 use native.Mathlib.Omega.{arith}
 use Rattle.text.specs.Places.Lines.{Counted, AnyNumber}
 use Rattle.text.specs.Places.LinesLaws.{keeps-counted, stands-got, stands-text}

@@ -1,6 +1,6 @@
 -- `gtfs::importing::stop_time` meets its contract: the parts of a line in turn, each refused as it is found; after each there are no more lines than
 -- bytes. Assumes nothing.
-use mathlib.Core.Path.{_≡_, _∙_, sym, ap}
+use mathlib.Core.Path.{_∙_, sym, ap}
 use mathlib.Core.List.{_∷_, []}
 use Rattle.text.specs.Places.Lines.{Counted, AnyNumber}
 use Rattle.text.specs.Places.LinesLaws.{keeps-counted, stands-got, stands-text, field-counted}

@@ -1,5 +1,5 @@
 -- `gtfs::importing::trip_lines` meets its contract: the line of the origin, and from its departure on the other stops. Assumes nothing.
-use mathlib.Core.Path.{_≡_, _∙_, sym}
+use mathlib.Core.Path.{_∙_, sym}
 use native.Mathlib.Omega.{arith}
 use Rattle.text.specs.Places.Lines.{Counted, AnyNumber}
 use Rattle.text.specs.Places.LinesLaws.{keeps-counted, stands-got}

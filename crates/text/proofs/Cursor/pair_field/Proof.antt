@@ -1,6 +1,6 @@
 -- `text::Cursor::pair_field` meets its contract: each digit that was read stands inside the text, so the position after it fits, and both are below 10.
 -- Assumes nothing.
-use mathlib.Core.Path.{_≡_, _∙_, sym, ap}
+use mathlib.Core.Path.{_∙_, sym}
 use native.Mathlib.Omega.{arith}
 use denote.Ref.{now}
 use Rattle.text.specs.Reading.Bytes.{ahead}

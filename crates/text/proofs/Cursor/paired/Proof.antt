@@ -1,6 +1,5 @@
 -- `text::Cursor::paired` meets its contract: two digits and the byte after them, and then the limits. Assumes nothing.
 use mathlib.Core.Path.{_∙_, ap}
-use Rattle.text.specs.declared.NumberField.{NumberField}
 use Rattle.text.specs.Reading.Parsed.{limited}
 use Rattle.text.specs.Reading.Fixed.{pairedAt}
 use borrow.Author.Needs.{needs}
