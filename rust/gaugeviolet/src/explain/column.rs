@@ -2,15 +2,11 @@
 
 use super::field::Field;
 use super::stop_times::{time, COLUMNS};
+use super::token::Token;
 use super::walker::{numeral, Fault};
 
 /// The bytes that stand in the place of a column.
-pub(super) struct Column<'a> {
-    token: &'a [u8],
-    field: Field,
-    /// What follows them: a comma, a line feed, or nothing where the text ends.
-    next: Option<u8>,
-}
+pub(super) struct Column<'a>(Token<'a>);
 
 impl<'a> Column<'a> {
     /// The kinds of mistake, those that others would hide first.
@@ -27,11 +23,7 @@ impl<'a> Column<'a> {
     ];
 
     pub fn at(text: &'a [u8], fault: &Fault) -> Column<'a> {
-        Column {
-            token: &text[fault.from..fault.to],
-            field: fault.field,
-            next: text.get(fault.to).copied(),
-        }
+        Column(Token::at(text, fault))
     }
 
     /// What is wrong with it, by the first kind of mistake that it shows.
@@ -39,34 +31,29 @@ impl<'a> Column<'a> {
         Self::MISTAKES.iter().find_map(|mistake| mistake(self))
     }
 
-    fn has(&self, byte: u8) -> bool {
-        self.token.contains(&byte)
-    }
-
     fn line_end(&self) -> Option<String> {
-        let ends = self.next == Some(b'\n') && self.token.ends_with(b"\r");
-        ends.then(|| {
+        self.0.ends_line_with_return().then(|| {
             "the line ends with CR LF, as many programs write it; save it with line feeds alone"
                 .into()
         })
     }
 
     fn unprintable(&self) -> Option<String> {
-        if !self.token.is_ascii() {
+        if !self.0.bytes.is_ascii() {
             return Some("there is a character that is not ASCII; take it away".into());
         }
         let control = |&byte: &u8| byte != b'\t' && byte.is_ascii_control();
-        let control = self.token.iter().any(control);
+        let control = self.0.bytes.iter().any(control);
         control.then(|| "there is a byte that cannot be printed; take it away".into())
     }
 
     fn quotes(&self) -> Option<String> {
-        let quoted = self.has(b'"') || self.has(b'\'');
+        let quoted = self.0.has(b'"') || self.0.has(b'\'');
         quoted.then(|| "fields are written without quotes".into())
     }
 
     fn separator(&self) -> Option<String> {
-        let found = match self.token {
+        let found = match self.0.bytes {
             token if token.contains(&b';') => "a semicolon",
             token if token.contains(&b'\t') => "a tab",
             token if token.contains(&b' ') => "a space",
@@ -79,17 +66,17 @@ impl<'a> Column<'a> {
 
     /// In GTFS some fields may be left empty.
     fn empty(&self) -> Option<String> {
-        (self.token == b",").then(|| "the field is empty; here every stop has all five".into())
+        (self.0.bytes == b",").then(|| "the field is empty; here every stop has all five".into())
     }
 
     fn header(&self) -> Option<String> {
-        let Field::ColumnName { column } = self.field else {
+        let Field::ColumnName { column } = self.0.field else {
             return None;
         };
         let name = COLUMNS[column as usize - 1].as_bytes();
-        Some(if self.token.eq_ignore_ascii_case(name) {
+        Some(if self.0.bytes.eq_ignore_ascii_case(name) {
             "the names of the columns are written in small letters".into()
-        } else if column == 1 && self.token.starts_with(b"T") {
+        } else if column == 1 && self.0.bytes.starts_with(b"T") {
             format!("the header is missing; line 1 is {}", COLUMNS.join(","))
         } else {
             "the columns are these five in this order, and no others".into()
@@ -97,10 +84,10 @@ impl<'a> Column<'a> {
     }
 
     fn trip(&self) -> Option<String> {
-        let Field::TripId { train, .. } = self.field else {
+        let Field::TripId { train, .. } = self.0.field else {
             return None;
         };
-        let digits = self.token.strip_prefix(b"T").unwrap_or_default();
+        let digits = self.0.bytes.strip_prefix(b"T").unwrap_or_default();
         let numbered = !digits.is_empty() && digits.iter().all(u8::is_ascii_digit);
         Some(match numbered {
             true if digits[0] == b'0' => "a number has no leading zero".into(),
@@ -113,16 +100,16 @@ impl<'a> Column<'a> {
 
     fn time(&self) -> Option<String> {
         if !matches!(
-            self.field,
+            self.0.field,
             Field::ArrivalTime { .. } | Field::DepartureTime { .. }
         ) {
             return None;
         }
-        if let Some(minute) = numeral(self.token, 4).filter(|&minute| minute < 2880) {
+        if let Some(minute) = numeral(self.0.bytes, 4).filter(|&minute| minute < 2880) {
             let written = time(minute);
             return Some(format!("times are HH:MM:SS; minute {minute} is {written}"));
         }
-        let text = std::str::from_utf8(self.token).ok()?;
+        let text = std::str::from_utf8(self.0.bytes).ok()?;
         let parts: Vec<&str> = text.split(':').collect();
         let numbers: Option<Vec<u32>> = parts.iter().map(|part| one_or_two(part)).collect();
         Some(match numbers?[..] {
@@ -145,14 +132,14 @@ impl<'a> Column<'a> {
 
     /// A stop or a sequence.
     fn number(&self) -> Option<String> {
-        let what = match self.field {
+        let what = match self.0.field {
             Field::StopId { .. } => "stops are told by the numbers of the stations",
             Field::StopSequence { .. } => "the sequence is a number: 1, 2, 3 and so on",
             _ => return None,
         };
-        let digits = self.token.iter().all(u8::is_ascii_digit);
+        let digits = self.0.bytes.iter().all(u8::is_ascii_digit);
         Some(match digits {
-            true if self.token[0] == b'0' => "a number has no leading zero".into(),
+            true if self.0.bytes[0] == b'0' => "a number has no leading zero".into(),
             true => "the number has too many digits".into(),
             false => what.into(),
         })

@@ -15,6 +15,7 @@ mod quotation;
 mod rules;
 mod stop_times;
 mod timetable_text;
+mod token;
 mod typed;
 mod walker;
 

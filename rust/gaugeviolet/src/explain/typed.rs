@@ -1,15 +1,11 @@
 //! What people type in the place of a field, and what they mean by it.
 
 use super::field::Field;
+use super::token::Token;
 use super::walker::Fault;
 
 /// The bytes that stand in the place of a field.
-pub(super) struct Typed<'a> {
-    token: &'a [u8],
-    field: Field,
-    /// What follows them: a space, a line feed, or nothing where the text ends.
-    next: Option<u8>,
-}
+pub(super) struct Typed<'a>(Token<'a>);
 
 impl<'a> Typed<'a> {
     /// The kinds of mistake, those that others would hide first.
@@ -28,11 +24,7 @@ impl<'a> Typed<'a> {
     ];
 
     pub fn at(text: &'a [u8], fault: &Fault) -> Typed<'a> {
-        Typed {
-            token: &text[fault.from..fault.to],
-            field: fault.field,
-            next: text.get(fault.to).copied(),
-        }
+        Typed(Token::at(text, fault))
     }
 
     /// What is wrong with it, by the first kind of mistake that it shows.
@@ -40,17 +32,12 @@ impl<'a> Typed<'a> {
         Self::MISTAKES.iter().find_map(|mistake| mistake(self))
     }
 
-    fn has(&self, byte: u8) -> bool {
-        self.token.contains(&byte)
-    }
-
     fn is_kind(&self) -> bool {
-        matches!(self.field, Field::SegmentKind { .. })
+        matches!(self.0.field, Field::SegmentKind { .. })
     }
 
     fn line_end(&self) -> Option<String> {
-        let ends = self.next == Some(b'\n') && self.token.ends_with(b"\r");
-        ends.then(|| {
+        self.0.ends_line_with_return().then(|| {
             "the line ends with CR LF, as editors on Windows write it; save it with line feeds alone"
                 .into()
         })
@@ -58,9 +45,9 @@ impl<'a> Typed<'a> {
 
     fn tab(&self) -> Option<String> {
         let other = |&byte: &u8| byte != b'\t' && !byte.is_ascii_graphic();
-        if !self.has(b'\t') || self.token.iter().any(other) {
+        if !self.0.has(b'\t') || self.0.bytes.iter().any(other) {
             None
-        } else if self.next != Some(b' ') && self.token.ends_with(b"\t") {
+        } else if self.0.next != Some(b' ') && self.0.bytes.ends_with(b"\t") {
             Some("there is a tab at the end of the line; take it away".into())
         } else {
             Some("there is a tab; fields are separated by one space".into())
@@ -68,19 +55,19 @@ impl<'a> Typed<'a> {
     }
 
     fn unprintable(&self) -> Option<String> {
-        if !self.token.is_ascii() {
+        if !self.0.bytes.is_ascii() {
             let hint =
                 "there is a character that is not ASCII; it may look like a space or a digit";
             return Some(hint.into());
         }
-        let control = self.token.iter().any(u8::is_ascii_control);
+        let control = self.0.bytes.iter().any(u8::is_ascii_control);
         control.then(|| "there is a byte that cannot be printed; take it away".into())
     }
 
     /// A time of day such as `6:00`, `6.00`, `6h00` or `0600`.
     fn time_of_day(&self) -> Option<String> {
-        let text = std::str::from_utf8(self.token).ok()?;
-        if !self.field.is_time() {
+        let text = std::str::from_utf8(self.0.bytes).ok()?;
+        if !self.0.field.is_time() {
             return None;
         }
         if let Some(minutes) = clock(text, &[':', '.', 'h']) {
@@ -91,19 +78,19 @@ impl<'a> Typed<'a> {
                 "a number has no leading zero; if a time of day is meant, write {minutes}"
             ));
         }
-        let on_a_clock = self.has(b':') || is_half_day(text);
+        let on_a_clock = self.0.has(b':') || is_half_day(text);
         on_a_clock.then(|| "times are minutes from midnight; 6:00 is written 360".into())
     }
 
     /// Hours and minutes where so many minutes are due.
     fn hours(&self) -> Option<String> {
-        let text = std::str::from_utf8(self.token).ok()?;
-        let minutes = clock(text, &[':']).filter(|_| self.field.is_duration())?;
+        let text = std::str::from_utf8(self.0.bytes).ok()?;
+        let minutes = clock(text, &[':']).filter(|_| self.0.field.is_duration())?;
         Some(format!("times are minutes; write {minutes}"))
     }
 
     fn separator(&self) -> Option<String> {
-        let name = match (self.has(b','), self.has(b';')) {
+        let name = match (self.0.has(b','), self.0.has(b';')) {
             (true, _) => "comma",
             (_, true) => "semicolon",
             _ => return None,
@@ -114,7 +101,7 @@ impl<'a> Typed<'a> {
     }
 
     fn letter_of_kind(&self) -> Option<String> {
-        let [letter, rest @ ..] = self.token else {
+        let [letter, rest @ ..] = self.0.bytes else {
             return None;
         };
         if !self.is_kind() {
@@ -127,9 +114,9 @@ impl<'a> Typed<'a> {
     }
 
     fn digits(&self) -> Option<String> {
-        if !self.token.iter().all(u8::is_ascii_digit) {
+        if !self.0.bytes.iter().all(u8::is_ascii_digit) {
             None
-        } else if self.token[0] == b'0' {
+        } else if self.0.bytes[0] == b'0' {
             Some("a number has no leading zero".into())
         } else {
             Some("the number has too many digits".into())
@@ -138,17 +125,17 @@ impl<'a> Typed<'a> {
 
     fn letter_for_digit(&self) -> Option<String> {
         let alike = |byte: &u8| byte.is_ascii_digit() || b"OolI".contains(byte);
-        let all = self.token.iter().all(alike);
+        let all = self.0.bytes.iter().all(alike);
         all.then(|| "there is a letter that looks like a digit: O and 0, l and 1".into())
     }
 
     fn sign(&self) -> Option<String> {
-        let signed = matches!(self.token, [b'-' | b'+', ..]);
-        (signed || self.has(b'.')).then(|| "numbers are whole and have no sign".into())
+        let signed = matches!(self.0.bytes, [b'-' | b'+', ..]);
+        (signed || self.0.has(b'.')).then(|| "numbers are whole and have no sign".into())
     }
 
     fn comment(&self) -> Option<String> {
-        let begins = self.token.starts_with(b"#") || self.token.starts_with(b"//");
+        let begins = self.0.bytes.starts_with(b"#") || self.0.bytes.starts_with(b"//");
         begins.then(|| "comments are not allowed".into())
     }
 }
