@@ -37,11 +37,6 @@ spans-then (Parsed.bad k p) f low high w g = (w .0, omega (arith, w .1))
 pub spans-as : {A : Type 0} {n m n′ m′ : ℕ} (r : Parsed A) → n ≡ n′ → m ≡ m′ → Spans n m r → Spans n′ m′ r
 spans-as r p q w = rw (← p, ← q) w
 
--- refused by a test on the line where a part began, or else read
-pub spans-test : {A : Type 0} {n m : ℕ} (b : Bool) (k : ℕ) (r : Parsed A) → n ≤ m → Spans n m r → Spans n m (pick b (Parsed.bad k n) r)
-spans-test true k r low w = (omega arith, low)
-spans-test false k r low w = w
-
 -- ---- a byte, a number, and both
 
 -- the line after the byte b
