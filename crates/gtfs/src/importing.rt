@@ -28,7 +28,7 @@ const FAULTS: Faults = Faults {
 };
 
 // Times of day as stop_times.txt has them.
-#[derive(Drop)]
+#[derive(Clone, Copy)]
 pub struct Clock {}
 
 impl Clock {
@@ -39,7 +39,7 @@ impl Clock {
 }
 
 // Numbers of one to four digits, whatever their value.
-#[derive(Drop)]
+#[derive(Clone, Copy)]
 pub struct Numeral {}
 
 impl Numeral {
@@ -47,14 +47,14 @@ impl Numeral {
 }
 
 // A line that was read, with how the reading ended; refused, it says nothing.
-#[derive(Drop)]
+#[derive(Clone, Copy)]
 pub struct StopTimePart {
     pub ending: Ending,
     pub time: StopTime,
 }
 
 // What an import gives: the minutes, those of no leg 0; refused, all are 0.
-#[derive(Drop)]
+#[derive(Clone, Copy)]
 pub struct Imported {
     pub answer: Answer,
     pub minutes: [u16; 352],

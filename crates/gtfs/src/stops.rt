@@ -7,7 +7,7 @@ ghost use Rattle.gtfs.specs.Stops.{station_between, stop_on, timed};
 use line::{Train, legs_between};
 
 // A station of a train's path: the train's number, the station's, which of the path's it is, from 1, and whether the path begins or ends there.
-#[derive(Drop)]
+#[derive(Clone, Copy)]
 pub struct Stop {
     pub trip: u16,
     pub station: u16,
@@ -16,7 +16,7 @@ pub struct Stop {
 }
 
 // What a line of stop_times.txt says.
-#[derive(Drop)]
+#[derive(Clone, Copy)]
 pub struct StopTime {
     pub trip: u16,
     pub arrival: u16,

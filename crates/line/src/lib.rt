@@ -1,4 +1,6 @@
 // The line of a railway: its record, the limits of its fields, and its file, read and written.
+#![tactic(auto)]
+
 ghost use Rattle.std.specs.Prelude.{◌≡◌, ◌+◌, ◌-◌, ◌<◌};
 ghost use Rattle.text.specs.Reading.Limits.{bounded_of};
 ghost use Rattle.line.specs.Ranges.{time, station, train_number, list_count};
@@ -13,7 +15,7 @@ pub mod writing;
 // The longest line file.
 pub const MAX_BYTES: usize = 4096;
 
-#[derive(Drop)]
+#[derive(Clone, Copy)]
 pub enum Kind {
     S,
     F,
@@ -21,7 +23,7 @@ pub enum Kind {
 }
 
 // The track between two stations: its kind, the gap to a following train and to an opposing one.
-#[derive(Drop)]
+#[derive(Clone, Copy)]
 pub struct Segment {
     pub kind: Kind,
     pub following: u16,
@@ -29,7 +31,7 @@ pub struct Segment {
 }
 
 // A run for each segment of its path, and a stop at each station between two of them, in travel order.
-#[derive(Drop)]
+#[derive(Clone, Copy)]
 pub struct Train {
     pub origin: u16,
     pub destination: u16,
@@ -41,7 +43,7 @@ pub struct Train {
 }
 
 // The stations with their tracks, and the segments between them: segment p joins stations p and p + 1.
-#[derive(Drop)]
+#[derive(Clone, Copy)]
 pub struct Track {
     pub station_count: u16,
     pub tracks: [u16; 12],
@@ -49,14 +51,14 @@ pub struct Track {
 }
 
 // The trains.
-#[derive(Drop)]
+#[derive(Clone, Copy)]
 pub struct Traffic {
     pub train_count: u16,
     pub trains: [Train; 12],
 }
 
 // The train does not leave this station of its path before the minute.
-#[derive(Drop)]
+#[derive(Clone, Copy)]
 pub struct Booking {
     pub train: u16,
     pub station: u16,
@@ -64,28 +66,28 @@ pub struct Booking {
 }
 
 // The bookings, in rising order of train and then of station.
-#[derive(Drop)]
+#[derive(Clone, Copy)]
 pub struct Booked {
     pub booking_count: u16,
     pub bookings: [Booking; 120],
 }
 
 // A train of a list of trains, and the minutes listed for it: in the list of dues, its due minute.
-#[derive(Drop)]
+#[derive(Clone, Copy)]
 pub struct Listed {
     pub train: u16,
     pub minutes: u16,
 }
 
 // A list of trains, rising by train.
-#[derive(Drop)]
+#[derive(Clone, Copy)]
 pub struct TrainList {
     pub count: u16,
     pub listed: [Listed; 12],
 }
 
 // Entries beyond a count are 0 (a kind is S) after reading and ignored in writing.
-#[derive(Drop)]
+#[derive(Clone, Copy)]
 pub struct Line {
     pub track: Track,
     pub traffic: Traffic,
@@ -93,21 +95,21 @@ pub struct Line {
     pub dues: TrainList,
 }
 
-#[derive(Drop)]
+#[derive(Clone, Copy)]
 pub enum Answer {
     Accepted,
     Refused(u8, usize),
 }
 
 // What reading a file gives: accepted with its line, or refused with an empty one.
-#[derive(Drop)]
+#[derive(Clone, Copy)]
 pub struct ReadLine {
     pub answer: Answer,
     pub line: Line,
 }
 
 // Whole minutes.
-#[derive(Drop)]
+#[derive(Clone, Copy)]
 pub struct Time {}
 
 impl Time {
@@ -126,7 +128,7 @@ impl Time {
 }
 
 // Stations are numbered from 1.
-#[derive(Drop)]
+#[derive(Clone, Copy)]
 pub struct Station {}
 
 impl Station {

@@ -9,7 +9,7 @@ ghost use Rattle.line.specs.Parts.{track_from, end_of, CanComplete, completed_fr
 use crate::ReadLine;
 use crate::reading::{TrackPart, complete_from, track_from};
 
-#[derive(Drop)]
+#[derive(Clone, Copy)]
 pub struct Reader<'a> {
     pub src: &'a [u8],
     pub at: usize,

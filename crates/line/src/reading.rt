@@ -18,27 +18,27 @@ use crate::{
 };
 use text::{Cursor, Ending, Faults, Field, LINE_FEED, Limits, SPACE, Step, ending_of};
 
-#[derive(Drop)]
+#[derive(Clone, Copy)]
 pub enum Letter {
     Found(Kind),
     Other,
 }
 
 // A kind and the space after it.
-#[derive(Drop)]
+#[derive(Clone, Copy)]
 pub enum KindField {
     Value(Kind, Cursor),
     Malformed,
 }
 
-#[derive(Drop)]
+#[derive(Clone, Copy)]
 pub struct Path {
     pub origin: u16,
     pub destination: u16,
 }
 
 // What stands before the runs and stops on a train's line.
-#[derive(Drop)]
+#[derive(Clone, Copy)]
 pub struct Head {
     pub origin: u16,
     pub destination: u16,
@@ -48,52 +48,52 @@ pub struct Head {
 }
 
 // Each part of the file with how it ended; refused, its value says nothing.
-#[derive(Drop)]
+#[derive(Clone, Copy)]
 pub struct PathPart {
     pub ending: Ending,
     pub path: Path,
 }
 
-#[derive(Drop)]
+#[derive(Clone, Copy)]
 pub struct HeadPart {
     pub ending: Ending,
     pub head: Head,
 }
 
-#[derive(Drop)]
+#[derive(Clone, Copy)]
 pub struct StationLines {
     pub ending: Ending,
     pub tracks: [u16; 12],
 }
 
-#[derive(Drop)]
+#[derive(Clone, Copy)]
 pub struct SegmentLines {
     pub ending: Ending,
     pub segments: [Segment; 11],
 }
 
-#[derive(Drop)]
+#[derive(Clone, Copy)]
 pub struct TrainLines {
     pub ending: Ending,
     pub trains: [Train; 12],
 }
 
 // Each section: the lines with their count.
-#[derive(Drop)]
+#[derive(Clone, Copy)]
 pub struct StationSection {
     pub ending: Ending,
     pub count: u16,
     pub tracks: [u16; 12],
 }
 
-#[derive(Drop)]
+#[derive(Clone, Copy)]
 pub struct SegmentSection {
     pub ending: Ending,
     pub count: u16,
     pub segments: [Segment; 11],
 }
 
-#[derive(Drop)]
+#[derive(Clone, Copy)]
 pub struct TrainSection {
     pub ending: Ending,
     pub count: u16,
@@ -101,72 +101,72 @@ pub struct TrainSection {
 }
 
 // The train and station of a booking, and the line where the station stands.
-#[derive(Drop)]
+#[derive(Clone, Copy)]
 pub struct Place {
     pub train: u16,
     pub station: u16,
     pub line: usize,
 }
 
-#[derive(Drop)]
+#[derive(Clone, Copy)]
 pub struct PlacePart {
     pub ending: Ending,
     pub place: Place,
 }
 
 // A booking's line, the lines of bookings, and their section.
-#[derive(Drop)]
+#[derive(Clone, Copy)]
 pub struct BookingPart {
     pub ending: Ending,
     pub booking: Booking,
 }
 
-#[derive(Drop)]
+#[derive(Clone, Copy)]
 pub struct BookingLines {
     pub ending: Ending,
     pub bookings: [Booking; 120],
 }
 
-#[derive(Drop)]
+#[derive(Clone, Copy)]
 pub struct BookingSection {
     pub ending: Ending,
     pub booked: Booked,
 }
 
 // A line of a list of trains, its lines, and the section.
-#[derive(Drop)]
+#[derive(Clone, Copy)]
 pub struct ListedPart {
     pub ending: Ending,
     pub listed: Listed,
 }
 
-#[derive(Drop)]
+#[derive(Clone, Copy)]
 pub struct ListLines {
     pub ending: Ending,
     pub listed: [Listed; 12],
 }
 
-#[derive(Drop)]
+#[derive(Clone, Copy)]
 pub struct ListSection {
     pub ending: Ending,
     pub list: TrainList,
 }
 
 // What the sections past the third give.
-#[derive(Drop)]
+#[derive(Clone, Copy)]
 pub struct FurtherSections {
     pub booked: Booked,
     pub dues: TrainList,
 }
 
-#[derive(Drop)]
+#[derive(Clone, Copy)]
 pub struct FurtherPart {
     pub ending: Ending,
     pub sections: FurtherSections,
 }
 
 // The stations and segments, and where the reader stands after them; where they are refused, where it stood before.
-#[derive(Drop)]
+#[derive(Clone, Copy)]
 pub struct TrackPart {
     pub ending: Ending,
     pub at: usize,

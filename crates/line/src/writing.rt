@@ -22,7 +22,7 @@ use crate::{
 use text::{Bounded, LINE_FEED, Limits, SPACE, Written, lend_text, put_byte, put_field};
 
 // A bad field of a record, with the number and the line that it would have.
-#[derive(Drop)]
+#[derive(Clone, Copy)]
 pub enum Fault {
     None,
     At(u8, usize),

@@ -7,7 +7,7 @@ ghost use Rattle.orders.specs.Raise.LegTimes.{CanGoBehind, GoesBehind, source_of
 use crate::tables::{Tables, following_at, opposing_at, shared_at};
 
 // When train j may go after that of leg e: a departure, and an arrival (0: none is asked for).
-#[derive(Drop)]
+#[derive(Clone, Copy)]
 pub struct Behind {
     pub departure: u16,
     pub arrival: u16,

@@ -13,7 +13,7 @@ use rules::delay::{free_after, free_arrival, weighted_delay};
 use rules::directions::directions_of;
 
 // The minutes of the trains alone on the line, what they cost, and whether all end in time.
-#[derive(Drop)]
+#[derive(Clone, Copy)]
 pub struct FirstPlan {
     pub in_time: bool,
     pub minutes: [u16; 352],

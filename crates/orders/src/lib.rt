@@ -1,4 +1,6 @@
 // The least minutes under a set of choices.
+#![tactic(auto)]
+
 pub mod arcs;
 pub mod bits;
 pub mod first;

@@ -51,7 +51,7 @@ fn raise_leg(
 }
 
 // How many legs of a path were raised, and what the minutes cost.
-#[derive(Drop)]
+#[derive(Clone, Copy)]
 pub struct Path {
     pub legs: usize,
     pub cost: u32,

@@ -1,5 +1,7 @@
 // Reads a line file on standard input and prints its best timetable, or `refused n p` with the number and the place. Where the input cannot be read to its
 // end nothing is planned, as a part of a file can be a right one. That, and an answer that cannot be written, is told on standard error.
+#![tactic(auto)]
+
 ghost use Rattle.std.specs.Prelude.{length};
 ghost use Rattle.plan.specs.Reading.{Fits};
 
@@ -7,7 +9,7 @@ use solver::solving::solve;
 use text::Written;
 
 // The bytes of standard input to its end, or as many as there is room for; or a reading failed.
-#[derive(Drop)]
+#[derive(Clone, Copy)]
 pub enum Input {
     Whole(usize),
     Broken,

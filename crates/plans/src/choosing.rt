@@ -1,6 +1,6 @@
 // Raising for a choice: the least minutes of a plan with one choice more, from those of the plan, and a first look whether there are any.
 ghost use Rattle.std.specs.Prelude.{◌≡◌, true, length};
-ghost use Rattle.plans.specs.Contracts.Choosing.{CanRaise, Fails, RaisesChoice};
+ghost use Rattle.plans.specs.Clauses.Choosing.{CanRaise, Fails, RaisesChoice};
 
 use crate::ways::Way;
 use orders::prospects::{come_after_fails, follow_fails};

@@ -1,5 +1,5 @@
 // What a plan costs, in time or not.
-ghost use Rattle.plans.specs.Contracts.WayCosts.{CanCost, CostsWay};
+ghost use Rattle.plans.specs.Clauses.WayCosts.{CanCost, CostsWay};
 
 use crate::choosing::raised;
 use crate::tally::NO_CUT;

@@ -1,12 +1,12 @@
 // What a search of a line ends with: the best timetable, or that there is none.
 ghost use Rattle.std.specs.Prelude.{◌≡◌};
-ghost use Rattle.plans.specs.Contracts.FoundBest.{found_of};
+ghost use Rattle.plans.specs.Clauses.FoundBest.{found_of};
 
 use crate::tally::Tally;
 
 // Whether there is a timetable; the minutes and the weighted delay of the best, all 0 where there is none; and how many plans were taken up, cut off at
 // 4,294,967,295.
-#[derive(Drop)]
+#[derive(Clone, Copy)]
 pub struct Found {
     pub found: bool,
     pub minutes: [u16; 352],

@@ -2,7 +2,7 @@
 ghost use Rattle.std.specs.Prelude.{◌≡◌, ◌<◌, length};
 ghost use Rattle.line.specs.Within.{Within};
 ghost use Rattle.plans.specs.Theory.Ranking.{ahead_from};
-ghost use Rattle.plans.specs.Contracts.Keys.{key_entry, key_of, minute_at, keyed, better_by};
+ghost use Rattle.plans.specs.Clauses.Keys.{key_entry, key_of, minute_at, keyed, better_by};
 
 use crate::tally::Tally;
 use line::{Line, legs_between};

@@ -1,9 +1,9 @@
 // The best so far, as the walk carries it: its minutes are lent beside it.
 ghost use Rattle.std.specs.Prelude.{◌≡◌, ◌+◌};
-ghost use Rattle.plans.specs.Contracts.Tallies.{cut_of, cut_off};
+ghost use Rattle.plans.specs.Clauses.Tallies.{cut_of, cut_off};
 
 // Whether one was found, its weighted delay, and how many plans were taken up, cut off at 4,294,967,295.
-#[derive(Drop)]
+#[derive(Clone, Copy)]
 pub struct Tally {
     pub found: bool,
     pub delay: u32,

@@ -3,14 +3,14 @@ ghost use Rattle.std.specs.Prelude.{◌≡◌, false, ◌+◌, ◌*◌, ◌≤�
 ghost use Rattle.rules.specs.declared.conflicts.Conflict.{Conflict as SomeConflict};
 ghost use Rattle.orders.specs.Plan.Bits.{with_bit};
 ghost use Rattle.plans.specs.Conflict.Ways.{two_of, way_of, way_count};
-ghost use Rattle.plans.specs.Contracts.WaysTold.{leg_out, InRange, TellsWay, TellsOnSegment, Steps, NextPair};
+ghost use Rattle.plans.specs.Clauses.WaysTold.{leg_out, InRange, TellsWay, TellsOnSegment, Steps, NextPair};
 
 use orders::bits::{has_bit, next_bit};
 use rules::conflicts::{Conflict, SegmentConflict, StationConflict};
 
 // A way out, where there is one: the row of its mark and the train that the mark names, the leg of the train that goes first, and whether it is at a
 // station. `step` is how far on the next number is that may have a way.
-#[derive(Drop)]
+#[derive(Clone, Copy)]
 pub struct Way {
     pub some: bool,
     pub step: usize,

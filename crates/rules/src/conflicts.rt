@@ -8,7 +8,7 @@ use crate::stations::crowd_on;
 use line::{Line, Segment};
 
 // Two trains on a segment of which neither goes first. Numbers less 1.
-#[derive(Drop)]
+#[derive(Clone, Copy)]
 pub struct SegmentConflict {
     pub segment: usize,
     pub lower: usize,
@@ -16,14 +16,14 @@ pub struct SegmentConflict {
 }
 
 // One train more than tracks, all standing at one minute: bit i of the mask for train i. Numbers less 1.
-#[derive(Drop)]
+#[derive(Clone, Copy)]
 pub struct StationConflict {
     pub station: usize,
     pub minute: u16,
     pub trains: u16,
 }
 
-#[derive(Drop)]
+#[derive(Clone, Copy)]
 pub enum Conflict {
     Nothing,
     OnSegment(SegmentConflict),
@@ -31,7 +31,7 @@ pub enum Conflict {
 }
 
 // What of a line the scan looks at: how many stations and trains there are, the segments, and the tracks of the stations.
-#[derive(Drop)]
+#[derive(Clone, Copy)]
 pub struct Layout {
     pub stations: usize,
     pub trains: usize,

@@ -29,14 +29,14 @@ pub fn arrives_on(m: &[u16], p: usize, i: usize) -> u16
 }
 
 // How a train goes over a segment.
-#[derive(Drop)]
+#[derive(Clone, Copy)]
 pub struct Passage {
     pub way: u16,
     pub departs: u16,
     pub arrives: u16,
 }
 
-#[derive(Drop)]
+#[derive(Clone, Copy)]
 pub enum TrainFound {
     Train(usize),
     Nobody,

@@ -15,7 +15,7 @@ use crate::passages::{arrives_on, departs_on, wide};
 use line::{Line, Train, legs_between};
 
 // A rule that is broken, with its place, or none.
-#[derive(Drop)]
+#[derive(Clone, Copy)]
 pub enum Breach {
     None,
     Rule(u8, usize),

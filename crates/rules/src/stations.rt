@@ -10,7 +10,7 @@ use crate::passages::{arrives_on, departs_on};
 use line::Time;
 
 // When a train stands at a station: from its arrival to its departure, both included.
-#[derive(Drop)]
+#[derive(Clone, Copy)]
 pub struct Stay {
     pub passes: bool,
     pub came: u16,
@@ -18,13 +18,13 @@ pub struct Stay {
 }
 
 // When the trains stand at a station, by train; one that does not stop there leaves before it comes.
-#[derive(Drop)]
+#[derive(Clone, Copy)]
 pub struct Stays {
     pub came: [u16; 16],
     pub leaves: [u16; 16],
 }
 
-#[derive(Drop)]
+#[derive(Clone, Copy)]
 pub enum MinuteFound {
     Minute(u16),
     Never,

@@ -5,7 +5,7 @@ use Rattle.line.specs.declared.Answer.{Answer}
 use Rattle.line.specs.declared.ReadLine.{ReadLine}
 use Rattle.line.specs.File.{line_file, answered}
 use Rattle.plans.specs.Instance.Planning.{planning}
-use Rattle.plans.specs.Contracts.Tallies.{cut_off}
+use Rattle.plans.specs.Clauses.Tallies.{cut_off}
 use Rattle.walk.specs.Walk.{walk}
 use Rattle.service.specs.Packing.{packed}
 

@@ -3,6 +3,8 @@
 //
 // Reading, rewriting and checking are the checking service's. They stand here under the same names since an archive has the functions of its own crate
 // alone, and the screen links one archive.
+#![tactic(auto)]
+
 ghost use Rattle.std.specs.Prelude.{◌≡◌};
 ghost use Rattle.gtfs.specs.Operations.{exporting, importing};
 ghost use Rattle.line.specs.File.{line_file, answered};

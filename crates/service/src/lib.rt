@@ -1,5 +1,7 @@
 // The checking service: reading, rewriting and checking on byte slices and numbers. It sees no solver. Each answer is one number that packs document 01's
 // number and its place, or 0 and the length of what was written.
+#![tactic(auto)]
+
 ghost use Rattle.std.specs.Prelude.{◌≡◌};
 ghost use Rattle.line.specs.File.{line_file, answered};
 ghost use Rattle.service.specs.Packing.{packed, Packs, PacksAnswer, PacksWritten, packed_answer, packed_verdict, packed_written};

@@ -3,7 +3,7 @@
 // one.
 ghost use Rattle.std.specs.Prelude.{◌≡◌};
 ghost use Rattle.line.specs.Within.{Within, Arrays};
-ghost use Rattle.plans.specs.Contracts.FoundBest.{Finds};
+ghost use Rattle.plans.specs.Clauses.FoundBest.{Finds};
 ghost use Rattle.solver.specs.Search.Finding.{CanFind, MayImprove, Searches};
 
 use crate::drawing::drawn;

@@ -20,7 +20,7 @@ use rules::conflicts::{Conflict, Layout};
 const FORCED_MOST: usize = 200;
 
 // The next forced choice of a plan: none where that is over. Where it is not and there is no such way, nothing better is in the plan.
-#[derive(Drop)]
+#[derive(Clone, Copy)]
 pub struct Forced {
     pub over: bool,
     pub way: Way,

@@ -1,4 +1,6 @@
 // The search for the best timetable, and solving a line file by it.
+#![tactic(auto)]
+
 pub mod ahead;
 pub mod drawing;
 pub mod finding;

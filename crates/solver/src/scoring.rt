@@ -26,7 +26,7 @@ fn rise(cost: u32, x: u32) -> u32
 }
 
 // Of the ways priced so far: how many are alive, and the two lowest prices.
-#[derive(Drop)]
+#[derive(Clone, Copy)]
 pub struct Alive {
     pub ways: u32,
     pub least: u32,

@@ -23,7 +23,7 @@ const AT_NO_COST: u32 = 2;
 // Hints of which nothing is promised. What a scan may leave out: it begins at place `start`, and at places without a bit in `look` there was no conflict at
 // the former minutes. How a search goes: it may look ahead (`long`), it has done so for the conflict to settle (`ahead`), and its scores and prices are
 // varied by a row of drawn numbers, unless that is 0; the plan without choices costs `first`.
-#[derive(Drop)]
+#[derive(Clone, Copy)]
 pub struct Hint {
     pub start: usize,
     pub look: u32,
@@ -34,14 +34,14 @@ pub struct Hint {
 }
 
 // A conflict and its score.
-#[derive(Drop)]
+#[derive(Clone, Copy)]
 pub struct Scored {
     pub conflict: Conflict,
     pub score: u32,
 }
 
 // The highest scored conflict of a scan, and a hint for the next one.
-#[derive(Drop)]
+#[derive(Clone, Copy)]
 pub struct Selected {
     pub conflict: Conflict,
     pub score: u32,

@@ -14,7 +14,7 @@ use Rattle.rules.specs.StatementLaws.BestLaws.{best_least}
 use Rattle.rules.specs.StatementLaws.StartingLaws.{lawful_former, none_later, least-later}
 use Rattle.rules.specs.Check.DaysLaws.{clear_lawful}
 use Rattle.plans.specs.declared.found.Found.{Found}
-use Rattle.plans.specs.Contracts.FoundBest.{Finds}
+use Rattle.plans.specs.Clauses.FoundBest.{Finds}
 use Rattle.starts.specs.declared.knowing.Known.{Known}
 use Rattle.starts.specs.Knowing.{Knows, Follows, Carries}
 

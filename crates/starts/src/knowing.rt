@@ -16,7 +16,7 @@ use text::Bounded;
 pub const NO_TIMETABLE: u32 = 4294967295;
 
 // Whether the line has a timetable, and then the minutes and the weighted delay of one that has the least.
-#[derive(Drop)]
+#[derive(Clone, Copy)]
 pub struct Known {
     pub found: bool,
     pub minutes: [u16; 352],

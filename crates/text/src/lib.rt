@@ -1,4 +1,6 @@
 // Fields of a text: the byte at a cursor, a number and the byte after it; and fields written into a lent buffer.
+#![tactic(auto)]
+
 ghost use Rattle.std.specs.Prelude.{◌≡◌, ◌∷◌, [], ◌+◌, ◌-◌, ◌≤◌, ◌<◌, length, take};
 ghost use Rattle.text.specs.Reading.Bytes.{byte_at, digit_of, past_of};
 ghost use Rattle.text.specs.Places.Lines.{Counted};
@@ -18,46 +20,46 @@ pub const SPACE: u8 = 32;
 const END: u32 = 256;
 
 // The reading position, and the line that it stands on, from 1.
-#[derive(Drop)]
+#[derive(Clone, Copy)]
 pub struct Cursor {
     pub at: usize,
     pub line: usize,
 }
 
-#[derive(Drop)]
+#[derive(Clone, Copy)]
 pub enum Digit {
     Worth(u32),
     Other,
 }
 
-#[derive(Drop)]
+#[derive(Clone, Copy)]
 pub enum Number {
     Value(u32, Cursor),
     Malformed,
 }
 
-#[derive(Drop)]
+#[derive(Clone, Copy)]
 pub enum Step {
     Next(Cursor),
     Wrong,
 }
 
 // A number and the byte after it.
-#[derive(Drop)]
+#[derive(Clone, Copy)]
 pub enum NumberField {
     Value(u32, Cursor),
     Malformed,
 }
 
 // A number within the limits of its type, or outside them.
-#[derive(Drop)]
+#[derive(Clone, Copy)]
 pub enum Bounded {
     Within(u16),
     Outside,
 }
 
 // The limits of a type, both included.
-#[derive(Drop)]
+#[derive(Clone, Copy)]
 pub struct Limits {
     pub min: u16,
     pub max: u16,
@@ -93,28 +95,28 @@ impl Limits {
 }
 
 // The numbers with which a field is refused.
-#[derive(Drop)]
+#[derive(Clone, Copy)]
 pub struct Faults {
     pub form: u8,
     pub range: u8,
 }
 
 // A number field within its limits, or the refusal with its place.
-#[derive(Drop)]
+#[derive(Clone, Copy)]
 pub enum Field {
     Value(u16, Cursor),
     Refused(u8, usize),
 }
 
 // How a part of a file ends: past its last byte, or refused.
-#[derive(Drop)]
+#[derive(Clone, Copy)]
 pub enum Ending {
     Done(Cursor),
     Refused(u8, usize),
 }
 
 // The answer of an operation that writes: the length of the text, or the refusal with its place.
-#[derive(Drop)]
+#[derive(Clone, Copy)]
 pub enum Written {
     Length(usize),
     Refused(u8, usize),

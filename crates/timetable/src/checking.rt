@@ -15,7 +15,7 @@ use rules::rules::{Breach, breach_of};
 use text::Ending;
 
 // The timetable keeps every rule and its lists and total are those of its minutes; or the number and place of the first fault.
-#[derive(Drop)]
+#[derive(Clone, Copy)]
 pub enum Verdict {
     Passed,
     Refused(u8, usize),

@@ -19,28 +19,28 @@ use text::{
 };
 
 // The minutes read so far, with how the reading ended; refused, they say nothing.
-#[derive(Drop)]
+#[derive(Clone, Copy)]
 pub struct MinutesPart {
     pub ending: Ending,
     pub at: [u16; 352],
 }
 
 // An order list, its trains by index, one less than the numbers in the text.
-#[derive(Drop)]
+#[derive(Clone, Copy)]
 pub struct ListPart {
     pub ending: Ending,
     pub list: OrderList,
 }
 
 // The order lists, as many as the line has.
-#[derive(Drop)]
+#[derive(Clone, Copy)]
 pub struct ListsPart {
     pub ending: Ending,
     pub lists: [OrderList; 22],
 }
 
 // The order lists and the total.
-#[derive(Drop)]
+#[derive(Clone, Copy)]
 pub struct RestPart {
     pub ending: Ending,
     pub lists: [OrderList; 22],
@@ -48,7 +48,7 @@ pub struct RestPart {
 }
 
 // The whole text; refused, all is 0 and no list has a train.
-#[derive(Drop)]
+#[derive(Clone, Copy)]
 pub struct TimetablePart {
     pub ending: Ending,
     pub minutes: [u16; 352],

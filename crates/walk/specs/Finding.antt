@@ -3,8 +3,8 @@ use Rattle.std.specs.Prelude.{◌≡◌}
 use Rattle.line.specs.declared.Line.{Line}
 use Rattle.plans.specs.declared.found.Found.{Found}
 use Rattle.plans.specs.Instance.Planning.{planning}
-use Rattle.plans.specs.Contracts.Tallies.{cut_off}
-use Rattle.plans.specs.Contracts.FoundBest.{Finds}
+use Rattle.plans.specs.Clauses.Tallies.{cut_off}
+use Rattle.plans.specs.Clauses.FoundBest.{Finds}
 use Rattle.walk.specs.Walk.{walk}
 
 pub record FindsWalked (l : Line) (r : Found) : Type 0 where

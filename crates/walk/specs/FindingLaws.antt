@@ -23,11 +23,11 @@ use Rattle.plans.specs.Instance.Planning.{in_time, planning}
 use Rattle.plans.specs.Instance.PlanningLaws.{decides_in_time}
 use Rattle.plans.specs.Instance.LineSearchedLaws.{planning_laws}
 use Rattle.walk.specs.WalkBestLaws.{walk_best, walk-nothing}
-use Rattle.plans.specs.Contracts.Tallies.{best_of, cut_off}
+use Rattle.plans.specs.Clauses.Tallies.{best_of, cut_off}
 use Rattle.walk.specs.Taking.{taken_up, plan_part, Walks}
 use Rattle.walk.specs.TakingLaws.{taken_up_lem, taken_none, taken_cut, taken_some}
-use Rattle.plans.specs.Contracts.FoundBest.{found_of}
-use Rattle.plans.specs.Contracts.FoundBestLaws.{finds_of}
+use Rattle.plans.specs.Clauses.FoundBest.{found_of}
+use Rattle.plans.specs.Clauses.FoundBestLaws.{finds_of}
 use Rattle.walk.specs.Finding.{FindsWalked}
 
 module _ (l : Line) (w : Within l) (a : Arrays l) where

@@ -13,16 +13,16 @@ use Rattle.walk.specs.Walk.{Walked}
 use Rattle.plans.specs.Theory.BestSoFar.{improves}
 use Rattle.plans.specs.Conflict.Ways.{way_of, way_count}
 use Rattle.plans.specs.Instance.Planning.{planning}
-use Rattle.plans.specs.Contracts.Keys.{better_by}
-use Rattle.plans.specs.Contracts.Tallies.{best_of, cut_of, cut_off, Tallied}
-use Rattle.plans.specs.Contracts.WaysTold.{TellsWay, Steps}
+use Rattle.plans.specs.Clauses.Keys.{better_by}
+use Rattle.plans.specs.Clauses.Tallies.{best_of, cut_of, cut_off, Tallied}
+use Rattle.plans.specs.Clauses.WaysTold.{TellsWay, Steps}
 use Rattle.walk.specs.Scanning.{ClearBelow, clear_segments}
 use Rattle.walk.specs.ScanningLaws.{clear_told}
-use Rattle.plans.specs.Contracts.Choosing.{Planned, Given, NoRaise, Fails, RaisesChoice, Raises, IsWay}
+use Rattle.plans.specs.Clauses.Choosing.{Planned, Given, NoRaise, Fails, RaisesChoice, Raises, IsWay}
 use Rattle.walk.specs.Taking.{Tries, TriesFirst, Walks, plan_part, way_part, ways_part}
-use Rattle.plans.specs.Contracts.TryingLaws.{way_there, way_absent, is_way, put_back}
-use Rattle.plans.specs.Contracts.NextPlansLaws.{cut_low, way_added, way_chooses, way_raises, way-least, next_planned, next_falls}
-use Rattle.plans.specs.Contracts.GivenLaws.{conflict_known, told}
+use Rattle.plans.specs.Clauses.TryingLaws.{way_there, way_absent, is_way, put_back}
+use Rattle.plans.specs.Clauses.NextPlansLaws.{cut_low, way_added, way_chooses, way_raises, way-least, next_planned, next_falls}
+use Rattle.plans.specs.Clauses.GivenLaws.{conflict_known, told}
 use Rattle.walk.specs.WalksLaws.{walks_cut, walks_clear, walks_split, counted_tallied, walks_dead, walks_alive, walks_skip, walks_more}
 use Rattle.plans.specs.declared.tally.Tally.{Tally}
 use Rattle.plans.specs.declared.ways.Way.{Way}

@@ -15,8 +15,8 @@ use Rattle.walk.specs.Scanning.{ClearBelow}
 use Rattle.walk.specs.Walk.{Walked, in_order, look_least, follow, take_up}
 use Rattle.plans.specs.Conflict.Ways.{way_of, way_count}
 use Rattle.plans.specs.Instance.Planning.{planning}
-use Rattle.plans.specs.Contracts.Tallies.{best_of, cut_off, Tallied}
-use Rattle.plans.specs.Contracts.Choosing.{Given, IsWay}
+use Rattle.plans.specs.Clauses.Tallies.{best_of, cut_off, Tallied}
+use Rattle.plans.specs.Clauses.Choosing.{Given, IsWay}
 use Rattle.plans.specs.declared.tally.Tally.{Tally}
 use Rattle.plans.specs.declared.ways.Way.{Way}
 

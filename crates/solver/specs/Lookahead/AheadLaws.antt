@@ -4,9 +4,9 @@ use Rattle.std.proofs.Common.{◌∙◌, ap, subst}
 use Rattle.rules.specs.declared.conflicts.Conflict.{Conflict}
 use Rattle.rules.specs.declared.conflicts.Layout.{Layout}
 use Rattle.plans.specs.Conflict.Ways.{way_count}
-use Rattle.plans.specs.Contracts.Choosing.{NoRaise}
-use Rattle.plans.specs.Contracts.Tallies.{cut_of}
-use Rattle.plans.specs.Contracts.NextPlansLaws.{none_raised}
+use Rattle.plans.specs.Clauses.Choosing.{NoRaise}
+use Rattle.plans.specs.Clauses.Tallies.{cut_of}
+use Rattle.plans.specs.Clauses.NextPlansLaws.{none_raised}
 use Rattle.plans.specs.declared.tally.Tally.{Tally}
 use Rattle.solver.specs.Selection.Pricing.{CanPriceWays, PricesWays}
 use Rattle.solver.specs.Selection.Selecting.{CanSelect, ChoosesOne, KnownReal, FindsReal}

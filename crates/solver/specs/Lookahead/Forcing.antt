@@ -13,8 +13,8 @@ use Rattle.plans.specs.Conflict.Ways.{ways_of}
 use Rattle.plans.specs.Conflict.RealConflicts.{Real}
 use Rattle.plans.specs.Instance.Planning.{planning}
 use Rattle.plans.specs.Theory.Search.{NoneBetter, Narrows}
-use Rattle.plans.specs.Contracts.Tallies.{best_of}
-use Rattle.plans.specs.Contracts.Choosing.{Tabled, Planned, NoRaise, Raises, IsWay}
+use Rattle.plans.specs.Clauses.Tallies.{best_of}
+use Rattle.plans.specs.Clauses.Choosing.{Tabled, Planned, NoRaise, Raises, IsWay}
 use Rattle.plans.specs.declared.tally.Tally.{Tally}
 use Rattle.plans.specs.declared.ways.Way.{Way}
 use Rattle.solver.specs.Selection.Pricing.{CanPrice, DeadBelow}

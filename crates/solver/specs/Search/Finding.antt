@@ -5,7 +5,7 @@ use Rattle.rules.specs.declared.conflicts.Layout.{Layout}
 use Rattle.orders.specs.Plan.Marks.{free}
 use Rattle.plans.specs.Instance.Planning.{planning}
 use Rattle.plans.specs.Theory.Search.{Onward, NoneBetter}
-use Rattle.plans.specs.Contracts.Tallies.{best_of, Tallied}
+use Rattle.plans.specs.Clauses.Tallies.{best_of, Tallied}
 use Rattle.plans.specs.declared.tally.Tally.{Tally}
 use Rattle.solver.specs.Search.Searching.{Held, Whole}
 

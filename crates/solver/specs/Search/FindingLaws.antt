@@ -15,11 +15,11 @@ use Rattle.plans.specs.Theory.Search.{Onward, Searched}
 use Rattle.plans.specs.Theory.SearchLaws.{onward_then, searched_dead}
 use Rattle.plans.specs.Instance.Planning.{planning}
 use Rattle.plans.specs.Instance.LineSearchedLaws.{searched_best, searched_nothing}
-use Rattle.plans.specs.Contracts.FoundBest.{found_of, Finds}
-use Rattle.plans.specs.Contracts.FoundBestLaws.{finds_of}
-use Rattle.plans.specs.Contracts.FirstLaws.{first_late}
-use Rattle.plans.specs.Contracts.NextPlansLaws.{cut_low, recounted, recounted_best}
-use Rattle.plans.specs.Contracts.Tallies.{best_of, cut_of, Tallied}
+use Rattle.plans.specs.Clauses.FoundBest.{found_of, Finds}
+use Rattle.plans.specs.Clauses.FoundBestLaws.{finds_of}
+use Rattle.plans.specs.Clauses.FirstLaws.{first_late}
+use Rattle.plans.specs.Clauses.NextPlansLaws.{cut_low, recounted, recounted_best}
+use Rattle.plans.specs.Clauses.Tallies.{best_of, cut_of, Tallied}
 use Rattle.plans.specs.declared.tally.Tally.{Tally}
 use Rattle.solver.specs.Search.Searching.{Held, Sought}
 use Rattle.solver.specs.Search.SearchingLaws.{held_after}

@@ -13,7 +13,7 @@ use Rattle.orders.specs.Plan.Choices.{on_segment}
 use Rattle.orders.specs.Plan.TidyPlans.{Fitting}
 use Rattle.plans.specs.Instance.Planning.{planning}
 use Rattle.plans.specs.Theory.Search.{Under}
-use Rattle.plans.specs.Contracts.Choosing.{Tabled, Planned}
+use Rattle.plans.specs.Clauses.Choosing.{Tabled, Planned}
 use Rattle.plans.specs.declared.ways.Way.{Way}
 
 -- ---- a plan to search, and what becomes of it

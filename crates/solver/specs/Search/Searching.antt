@@ -11,8 +11,8 @@ use Rattle.plans.specs.Conflict.Ways.{way_of, way_count}
 use Rattle.plans.specs.Conflict.RealConflicts.{Real}
 use Rattle.plans.specs.Instance.Planning.{planning}
 use Rattle.plans.specs.Theory.Search.{Onward, Under, NoneBetter}
-use Rattle.plans.specs.Contracts.Tallies.{best_of, Tallied}
-use Rattle.plans.specs.Contracts.Choosing.{Given, IsWay}
+use Rattle.plans.specs.Clauses.Tallies.{best_of, Tallied}
+use Rattle.plans.specs.Clauses.Choosing.{Given, IsWay}
 use Rattle.plans.specs.declared.tally.Tally.{Tally}
 use Rattle.plans.specs.declared.ways.Way.{Way}
 

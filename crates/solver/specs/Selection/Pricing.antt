@@ -7,7 +7,7 @@ use Rattle.rules.specs.declared.conflicts.Conflict.{Conflict}
 use Rattle.orders.specs.Plan.Choices.{Choice}
 use Rattle.plans.specs.Conflict.Ways.{way_of, way_count}
 use Rattle.plans.specs.Conflict.RealConflicts.{Real}
-use Rattle.plans.specs.Contracts.Choosing.{Tabled, Planned, NoRaise, IsWay}
+use Rattle.plans.specs.Clauses.Choosing.{Tabled, Planned, NoRaise, IsWay}
 use Rattle.plans.specs.declared.ways.Way.{Way}
 
 -- ---- one way

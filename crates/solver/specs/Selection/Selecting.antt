@@ -10,7 +10,7 @@ use Rattle.rules.specs.Statement.Paths.{segment_count, segment}
 use Rattle.rules.specs.Conflict.Directions.{directions_of}
 use Rattle.rules.specs.Conflict.Conflicts.{conflict_of, layout_of}
 use Rattle.plans.specs.Conflict.RealConflicts.{Real}
-use Rattle.plans.specs.Contracts.Choosing.{Tabled, Planned}
+use Rattle.plans.specs.Clauses.Choosing.{Tabled, Planned}
 use Rattle.solver.specs.declared.selecting.Scored.{Scored}
 
 -- ---- the conflict that is settled

@@ -2,7 +2,7 @@
 use native.Mathlib.Omega.{arith}
 use Rattle.orders.specs.LeastMinutes.CarriedLaws.{delay-most}
 use Rattle.orders.specs.Waived.WaivedLine.{waived}
-use Rattle.plans.specs.Contracts.WayCostsLaws.{waived_chooses, raises_tells}
+use Rattle.plans.specs.Clauses.WayCostsLaws.{waived_chooses, raises_tells}
 use Rattle.plans.proofs.costing.way_cost.Statement.{statement}
 use Rattle.plans.proofs.costing.way_cost.Tie as tie
 

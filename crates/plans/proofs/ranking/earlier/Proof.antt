@@ -4,8 +4,8 @@ use mathlib.Core.Path.{◌≡◌, refl}
 use native.Mathlib.Omega.{arith}
 use borrow.Author.Rules.{rules}
 use Rattle.plans.specs.Theory.Ranking.{ahead_from}
-use Rattle.plans.specs.Contracts.Keys.{keyed}
-use Rattle.plans.specs.Contracts.KeysLaws.{earlier_apart, earlier_alike, earlier_end}
+use Rattle.plans.specs.Clauses.Keys.{keyed}
+use Rattle.plans.specs.Clauses.KeysLaws.{earlier_apart, earlier_alike, earlier_end}
 use Rattle.plans.proofs.ranking.earlier.Statement.{statement}
 use Rattle.plans.proofs.ranking.earlier.Tie as tie
 

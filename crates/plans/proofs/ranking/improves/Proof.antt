@@ -1,7 +1,7 @@
 -- `plans::ranking::improves` meets its contract, test by test. Assumes nothing.
 use mathlib.Core.Path.{◌∙◌}
 use borrow.Author.Rules.{rules}
-use Rattle.plans.specs.Contracts.KeysLaws.{better_nothing, better_delay, better_earlier}
+use Rattle.plans.specs.Clauses.KeysLaws.{better_nothing, better_delay, better_earlier}
 use Rattle.plans.proofs.ranking.improves.Statement.{statement}
 use Rattle.plans.proofs.ranking.improves.Tie as tie
 

@@ -5,7 +5,7 @@ use native.Mathlib.Omega.{arith}
 use borrow.Author.Rules.{rules}
 use Rattle.line.specs.RunnableLaws.{within_runnable}
 use Rattle.rules.specs.StatementLaws.PathsLaws.{routed_leg}
-use Rattle.plans.specs.Contracts.KeysLaws.{entry_none, entry-leg}
+use Rattle.plans.specs.Clauses.KeysLaws.{entry_none, entry-leg}
 use Rattle.plans.proofs.ranking.key_entry.Statement.{statement}
 use Rattle.plans.proofs.ranking.key_entry.Tie as tie
 

@@ -6,8 +6,8 @@ use borrow.Author.Rules.{rules}
 use lib.ListN.{length, get_or, length-set, length-replicate}
 use Rattle.finite.specs.Below.{EachBelow}
 use Rattle.rules.specs.Lists.OrdersLaws.{entries_more}
-use Rattle.plans.specs.Contracts.Keys.{key_entry}
-use Rattle.plans.specs.Contracts.KeysLaws.{key_all}
+use Rattle.plans.specs.Clauses.Keys.{key_entry}
+use Rattle.plans.specs.Clauses.KeysLaws.{key_all}
 use Rattle.plans.proofs.ranking.key_of.Statement.{statement}
 use Rattle.plans.proofs.ranking.key_of.Tie as tie
 

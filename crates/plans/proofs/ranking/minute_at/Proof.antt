@@ -1,7 +1,7 @@
 -- `plans::ranking::minute_at` meets its contract. Assumes nothing.
 use native.Mathlib.Omega.{arith}
 use borrow.Author.Rules.{rules}
-use Rattle.plans.specs.Contracts.KeysLaws.{minute_in, minute_out}
+use Rattle.plans.specs.Clauses.KeysLaws.{minute_in, minute_out}
 use Rattle.plans.proofs.ranking.minute_at.Statement.{statement}
 use Rattle.plans.proofs.ranking.minute_at.Tie as tie
 

@@ -1,6 +1,6 @@
 -- `plans::ways::leg_out` meets its contract. Assumes nothing.
 use borrow.Author.Rules.{rules}
-use Rattle.plans.specs.Contracts.WaysToldLaws.{leg-outbound, leg_inbound}
+use Rattle.plans.specs.Clauses.WaysToldLaws.{leg-outbound, leg_inbound}
 use Rattle.plans.proofs.ways.leg_out.Statement.{statement}
 use Rattle.plans.proofs.ways.leg_out.Tie as tie
 

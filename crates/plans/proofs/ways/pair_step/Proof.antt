@@ -2,7 +2,7 @@
 -- else there is no pair any more. Assumes nothing.
 use native.Mathlib.Omega.{arith}
 use borrow.Author.Rules.{rules}
-use Rattle.plans.specs.Contracts.WaysToldLaws.{lowest_most, pair_same, pair-next-row, pair_last}
+use Rattle.plans.specs.Clauses.WaysToldLaws.{lowest_most, pair_same, pair-next-row, pair_last}
 use Rattle.plans.proofs.ways.pair_step.Statement.{statement}
 use Rattle.plans.proofs.ways.pair_step.Tie as tie
 

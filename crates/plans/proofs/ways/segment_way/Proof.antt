@@ -1,7 +1,7 @@
 -- `plans::ways::segment_way` meets its contract: the lower train first, or the higher. Assumes nothing.
 use mathlib.Core.Path.{refl}
 use borrow.Author.Rules.{rules}
-use Rattle.plans.specs.Contracts.WaysToldLaws.{tells_lower, tells_higher}
+use Rattle.plans.specs.Clauses.WaysToldLaws.{tells_lower, tells_higher}
 use Rattle.plans.proofs.ways.segment_way.Statement.{statement}
 use Rattle.plans.proofs.ways.segment_way.Tie as tie
 

@@ -2,7 +2,7 @@
 -- left out. Assumes nothing.
 use mathlib.Core.Path.{refl, sym, ◌∙◌}
 use borrow.Author.Rules.{rules}
-use Rattle.plans.specs.Contracts.WaysToldLaws.{tells_pair, tells_none, steps_pair}
+use Rattle.plans.specs.Clauses.WaysToldLaws.{tells_pair, tells_none, steps_pair}
 use Rattle.plans.proofs.ways.station_way.Statement.{statement}
 use Rattle.plans.proofs.ways.station_way.Tie as tie
 

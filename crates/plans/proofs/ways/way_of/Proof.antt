@@ -1,6 +1,6 @@
 -- `plans::ways::way_of` meets its contract, variant by variant. Assumes nothing.
 use borrow.Author.Rules.{rules}
-use Rattle.plans.specs.Contracts.WaysToldLaws.{tells_nothing, tells_as, steps_one}
+use Rattle.plans.specs.Clauses.WaysToldLaws.{tells_nothing, tells_as, steps_one}
 use Rattle.plans.proofs.ways.way_of.Statement.{statement}
 use Rattle.plans.proofs.ways.way_of.Tie as tie
 

@@ -1,6 +1,6 @@
 -- `plans::ways::with_bit` meets its contract. Assumes nothing.
 use borrow.Author.Rules.{rules}
-use Rattle.plans.specs.Contracts.WaysToldLaws.{bit_put}
+use Rattle.plans.specs.Clauses.WaysToldLaws.{bit_put}
 use Rattle.plans.proofs.ways.with_bit.Statement.{statement}
 use Rattle.plans.proofs.ways.with_bit.Tie as tie
 

@@ -10,9 +10,9 @@ use Rattle.orders.specs.Plan.Choices.{Choice}
 use Rattle.orders.specs.Plan.Marks.{Plan, also}
 use Rattle.plans.specs.Instance.Planning.{planning}
 use Rattle.plans.specs.Theory.Search.{Narrows}
-use Rattle.plans.specs.Contracts.Tallies.{best_of}
-use Rattle.plans.specs.Contracts.Choosing.{IsWay}
-use Rattle.plans.specs.Contracts.GivenLaws.{key_long}
+use Rattle.plans.specs.Clauses.Tallies.{best_of}
+use Rattle.plans.specs.Clauses.Choosing.{IsWay}
+use Rattle.plans.specs.Clauses.GivenLaws.{key_long}
 use Rattle.solver.specs.Selection.PricingLaws.{planned_after}
 use Rattle.solver.specs.Search.Searching.{Held}
 use Rattle.solver.specs.Search.SearchingLaws.{cut_few}

@@ -7,8 +7,8 @@ use native.Mathlib.Omega.{arith}
 use borrow.Author.Rules.{rules}
 use Rattle.rules.specs.Scan.StationLaws.{directions_size}
 use Rattle.plans.specs.Conflict.Ways.{way_of}
-use Rattle.plans.specs.Contracts.WaysToldLaws.{steps_within}
-use Rattle.plans.specs.Contracts.TryingLaws.{way_there, count_most, range_of, way_of_real}
+use Rattle.plans.specs.Clauses.WaysToldLaws.{steps_within}
+use Rattle.plans.specs.Clauses.TryingLaws.{way_there, count_most, range_of, way_of_real}
 use Rattle.solver.specs.Selection.PricingLaws.{planned_after}
 use Rattle.solver.proofs.scoring.way_score.Statement.{statement}
 use Rattle.solver.proofs.scoring.way_score.Tie as tie

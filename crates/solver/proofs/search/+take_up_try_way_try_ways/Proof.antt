@@ -10,9 +10,9 @@ use Rattle.finite.specs.Below.{count}
 use Rattle.rules.specs.Scan.StationLaws.{directions_size}
 use Rattle.orders.specs.LeastMinutes.NoLater.{slack}
 use Rattle.plans.specs.Conflict.Ways.{way_of}
-use Rattle.plans.specs.Contracts.TryingLaws.{way_there, way_absent, count_most, range_of, way_of_real}
-use Rattle.plans.specs.Contracts.NextPlansLaws.{cut_low, row_few, second_there, way_chooses, next_falls}
-use Rattle.plans.specs.Contracts.GivenLaws.{key_long}
+use Rattle.plans.specs.Clauses.TryingLaws.{way_there, way_absent, count_most, range_of, way_of_real}
+use Rattle.plans.specs.Clauses.NextPlansLaws.{cut_low, row_few, second_there, way_chooses, next_falls}
+use Rattle.plans.specs.Clauses.GivenLaws.{key_long}
 use Rattle.solver.specs.Selection.Pricing.{Cheapest, untried}
 use Rattle.solver.specs.Selection.PricingLaws.{untried_falls}
 use Rattle.solver.specs.Search.Searching.{TriesSome}

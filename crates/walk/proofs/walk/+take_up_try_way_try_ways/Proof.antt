@@ -11,14 +11,14 @@ use lib.ListN.{length-replicate}
 use Rattle.rules.specs.Scan.StationLaws.{directions_size}
 use Rattle.orders.specs.LeastMinutes.NoLater.{slack}
 use Rattle.plans.specs.Conflict.Ways.{way_of}
-use Rattle.plans.specs.Contracts.WaysToldLaws.{steps_within}
+use Rattle.plans.specs.Clauses.WaysToldLaws.{steps_within}
 use Rattle.walk.specs.Taking.{TriesFirst}
 use Rattle.walk.specs.WalksLaws.{walks_none}
-use Rattle.plans.specs.Contracts.TryingLaws.{way_there, count_most, conflict_range, is_way}
-use Rattle.plans.specs.Contracts.GivenLaws.{key_long, laid_out, conflict_known}
+use Rattle.plans.specs.Clauses.TryingLaws.{way_there, count_most, conflict_range, is_way}
+use Rattle.plans.specs.Clauses.GivenLaws.{key_long, laid_out, conflict_known}
 use Rattle.walk.specs.TakenLaws.{clear_known, given_cut, given_clear, given_split, counted_low, given_fails, given_dead, next_given}
 use Rattle.walk.specs.TakenLaws.{given_alive, given_after, tries_more, tries_skip}
-use Rattle.plans.specs.Contracts.NextPlansLaws.{row_few, second_there, way_chooses, next_falls}
+use Rattle.plans.specs.Clauses.NextPlansLaws.{row_few, second_there, way_chooses, next_falls}
 use Rattle.walk.proofs.walk.take_up.Reads as take-up
 use Rattle.walk.proofs.walk.take_up.Kinds as take-up-kinds
 use Rattle.walk.proofs.walk.+take_up_try_way_try_ways.Lts-take_up as take-up-lts

@@ -20,8 +20,8 @@ use Rattle.plans.specs.Conflict.Ways.{way_of, way_count, ways_of}
 use Rattle.plans.specs.Conflict.WaysLaws.{not_kept}
 use Rattle.plans.specs.Conflict.RealConflicts.{Real}
 use Rattle.plans.specs.Conflict.RealConflictsLaws.{conflict_real}
-use Rattle.plans.specs.Contracts.WaysTold.{Tells, TellsWay, InRange}
-use Rattle.plans.specs.Contracts.Choosing.{IsWay}
+use Rattle.plans.specs.Clauses.WaysTold.{Tells, TellsWay, InRange}
+use Rattle.plans.specs.Clauses.Choosing.{IsWay}
 use Rattle.plans.specs.declared.ways.Way.{Way}
 
 -- ---- a way, as told

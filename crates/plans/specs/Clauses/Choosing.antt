@@ -17,10 +17,10 @@ use Rattle.orders.specs.Plan.TidyPlans.{Fitting, Tidy}
 use Rattle.orders.specs.LineTables.Tables.{tables_of}
 use Rattle.orders.specs.Lift.Lifting.{Alive}
 use Rattle.plans.specs.Instance.Planning.{in_time}
-use Rattle.plans.specs.Contracts.Keys.{key_of}
+use Rattle.plans.specs.Clauses.Keys.{key_of}
 use Rattle.orders.specs.LeastMinutes.Carried.{Carried}
-use Rattle.plans.specs.Contracts.Tallies.{Tallied}
-use Rattle.plans.specs.Contracts.WaysTold.{Tells}
+use Rattle.plans.specs.Clauses.Tallies.{Tallied}
+use Rattle.plans.specs.Clauses.WaysTold.{Tells}
 use Rattle.plans.specs.declared.tally.Tally.{Tally}
 use Rattle.plans.specs.declared.ways.Way.{Way}
 

@@ -4,7 +4,7 @@ use Rattle.line.specs.declared.Line.{Line}
 use Rattle.rules.specs.Statement.Rules.{Lawful}
 use Rattle.rules.specs.Statement.Delay.{weighted_delay, Best}
 use Rattle.plans.specs.declared.tally.Tally.{Tally}
-use Rattle.plans.specs.Contracts.FoundBest.{found_of, Finds}
+use Rattle.plans.specs.Clauses.FoundBest.{found_of, Finds}
 
 module _ (l : Line) (y : Tally) (best : List ℕ) where
   pub finds_of : (y.found ≡ true → Best l best) → (y.found ≡ true → y.delay ≡ weighted_delay l best) → (y.found ≡ false → (m : List ℕ) → Lawful l m → ⊥) →

@@ -11,7 +11,7 @@ use Rattle.orders.specs.Plan.TidyPlans.{Fitting, Tidy}
 use Rattle.orders.specs.LineTables.Tables.{tables_of}
 use Rattle.orders.specs.Waived.WaivedLine.{waived}
 use Rattle.orders.specs.LeastMinutes.Carried.{Carried, TellsCost}
-use Rattle.plans.specs.Contracts.WaysTold.{Tells}
+use Rattle.plans.specs.Clauses.WaysTold.{Tells}
 use Rattle.plans.specs.declared.ways.Way.{Way}
 
 -- as `Chooses`, of a plan that may break rule 13

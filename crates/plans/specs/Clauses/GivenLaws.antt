@@ -9,10 +9,10 @@ use Rattle.rules.specs.Conflict.ConflictsLaws.{conflict_told}
 use Rattle.rules.specs.Scan.Scanning.{LaidOut}
 use Rattle.plans.specs.Theory.BestSoFar.{improves}
 use Rattle.plans.specs.Instance.Planning.{planning}
-use Rattle.plans.specs.Contracts.Keys.{better_by}
-use Rattle.plans.specs.Contracts.KeysLaws.{key_size, better_improves}
-use Rattle.plans.specs.Contracts.Tallies.{best_of}
-use Rattle.plans.specs.Contracts.Choosing.{Given}
+use Rattle.plans.specs.Clauses.Keys.{better_by}
+use Rattle.plans.specs.Clauses.KeysLaws.{key_size, better_improves}
+use Rattle.plans.specs.Clauses.Tallies.{best_of}
+use Rattle.plans.specs.Clauses.Choosing.{Given}
 use Rattle.plans.specs.declared.tally.Tally.{Tally}
 
 module _ (l : Line) (m marks best t ds key : List ℕ) (layout : Layout) (cost : ℕ) (y : Tally) (g : Given l m marks best t ds key layout cost y) where

@@ -19,8 +19,8 @@ use Rattle.plans.specs.Instance.Planning.{in_time}
 use Rattle.plans.specs.Instance.PlanningLaws.{decides_in_time}
 use Rattle.orders.specs.LeastMinutes.Carried.{start, Carried, TellsCost}
 use Rattle.orders.specs.LeastMinutes.CarriedLaws.{start_below, tells_cost}
-use Rattle.plans.specs.Contracts.Choosing.{Chooses, NoRaise, Raises}
-use Rattle.plans.specs.Contracts.WayCosts.{ChoosesWaived}
+use Rattle.plans.specs.Clauses.Choosing.{Chooses, NoRaise, Raises}
+use Rattle.plans.specs.Clauses.WayCosts.{ChoosesWaived}
 use Rattle.plans.specs.declared.ways.Way.{Way}
 
 module _ (l : Line) (w : Runnable l) (a : Arrays l) where

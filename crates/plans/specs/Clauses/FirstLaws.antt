@@ -23,8 +23,8 @@ use Rattle.plans.specs.Theory.SearchLaws.{under_start, under_least}
 use Rattle.plans.specs.Instance.Planning.{planning}
 use Rattle.plans.specs.Instance.PlanningLaws.{decides_in_time}
 use Rattle.plans.specs.Instance.LineSearchedLaws.{planning_laws}
-use Rattle.plans.specs.Contracts.Keys.{key_of}
-use Rattle.plans.specs.Contracts.Choosing.{Given}
+use Rattle.plans.specs.Clauses.Keys.{key_of}
+use Rattle.plans.specs.Clauses.Choosing.{Given}
 use Rattle.plans.specs.declared.tally.Tally.{Tally}
 
 module _ (l : Line) (w : Within l) (a : Arrays l) where

@@ -13,7 +13,7 @@ use Rattle.orders.specs.Plan.Bits.{in_mask, NextBit, with_bit}
 use Rattle.orders.specs.Plan.BitsLaws.{with_bit_or}
 use Rattle.orders.specs.Plan.Choices.{on_segment, at_station}
 use Rattle.plans.specs.Conflict.Ways.{two_of, way_of, way_count}
-use Rattle.plans.specs.Contracts.WaysTold.{leg_out, Tells, TellsWay, TellsOnSegment, Steps, NextPair}
+use Rattle.plans.specs.Clauses.WaysTold.{leg_out, Tells, TellsWay, TellsOnSegment, Steps, NextPair}
 use Rattle.plans.specs.declared.ways.Way.{Way}
 
 -- ---- a mask, by shifts

@@ -22,8 +22,8 @@ use Rattle.plans.specs.Theory.RankingLaws.{from_apart, from-alike, ahead-first}
 use Rattle.plans.specs.Theory.BestSoFar.{nothing, found, improves}
 use Rattle.plans.specs.Instance.Planning.{departures, planning}
 use Rattle.plans.specs.Instance.PlanningLaws.{decides_leg}
-use Rattle.plans.specs.Contracts.Keys.{key_entry, key_of, minute_at, keyed, better_by}
-use Rattle.plans.specs.Contracts.Tallies.{best_of, Tallied}
+use Rattle.plans.specs.Clauses.Keys.{key_entry, key_of, minute_at, keyed, better_by}
+use Rattle.plans.specs.Clauses.Tallies.{best_of, Tallied}
 
 -- ---- the entries
 

@@ -26,9 +26,9 @@ use Rattle.plans.specs.Theory.Search.{Under, NoneBetter}
 use Rattle.plans.specs.Theory.SearchLaws.{under_also}
 use Rattle.plans.specs.Instance.Planning.{in_time, planning}
 use Rattle.plans.specs.Instance.LineSearchedLaws.{planning_laws}
-use Rattle.plans.specs.Contracts.Tallies.{best_of, cut_of, Tallied}
-use Rattle.plans.specs.Contracts.Choosing.{Tabled, Planned, Chooses, NoRaise, RaisesChoice, Raises, IsWay}
-use Rattle.plans.specs.Contracts.TryingLaws.{row_low, second_low, marks_added}
+use Rattle.plans.specs.Clauses.Tallies.{best_of, cut_of, Tallied}
+use Rattle.plans.specs.Clauses.Choosing.{Tabled, Planned, Chooses, NoRaise, RaisesChoice, Raises, IsWay}
+use Rattle.plans.specs.Clauses.TryingLaws.{row_low, second_low, marks_added}
 use Rattle.plans.specs.declared.tally.Tally.{Tally}
 use Rattle.plans.specs.declared.ways.Way.{Way}
 
