@@ -1,0 +1,13 @@
+-- `gtfs::exporting::leaves_after` meets its contract: the next leg's departure, or where there is none the arrival. Assumes nothing.
+use mathlib.Core.Path.{◌∙◌, sym}
+use native.Mathlib.Omega.{arith}
+use Rattle.gtfs.specs.SpeltLaws.{leaves_on, leaves_last}
+use Rattle.gtfs.proofs.exporting.leaves_after.Goals as goal
+
+pub returns-then-next-legs_between : goal.returns-then-next-legs_between
+returns-then-next-legs_between c = c.departure_of.ensures ∙ sym (leaves_on _ _ _ _ (omega (arith, c.if-next-legs_between.true, c.legs_between.ensures)))
+
+pub returns-else-next-legs_between : goal.returns-else-next-legs_between
+returns-else-next-legs_between c =
+    let legs = c.legs_between in
+    c.arrival_of.ensures ∙ sym (leaves_last _ _ _ _ (omega (arith, c.if-next-legs_between.false, legs.ensures, c.requires)))

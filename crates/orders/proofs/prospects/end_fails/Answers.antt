@@ -1,0 +1,35 @@
+-- `orders::prospects::end_fails` meets its contract: minutes in time arrive by the leg at its limit at the latest; and they cost at least what the minutes
+-- of now cost with this one arrival put later.
+use mathlib.Core.Path.{refl}
+use mathlib.Core.Bool.{false≢true}
+use native.Mathlib.Omega.{arith}
+use borrow.Author.Tests.{ltb-true}
+use Rattle.orders.specs.Raise.CostLaws.{cost-most}
+use Rattle.orders.specs.Look.ProspectsLaws.{none_late, none_dear}
+use Rattle.orders.proofs.prospects.end_fails.Goals as goal
+
+pub returns-then-arrival-limit_at : goal.returns-then-arrival-limit_at
+returns-then-arrival-limit_at c = none_late _ _ _ _ _ _ _ _ c.requires _ c.limit_at.ensures c.if-arrival-limit_at.true
+
+pub returns-then-arrival-former : goal.returns-then-arrival-former
+returns-then-arrival-former c = absurd (false≢true q)
+
+pub more_cost-requires : goal.more_cost-requires
+more_cost-requires c =
+    let r = c.requires in
+    let e = c.args.e in (
+      r.shaped.tables_size,
+      r.leg.0,
+      r.shaped.weight-most e r.leg.0,
+      omega (arith, c.if-arrival-former.false),
+      omega (arith, c.if-arrival-limit_at.false, c.limit_at.ensures, r.shaped.limit_most e r.leg.0),
+    )
+
+pub overflow_add-result : goal.overflow_add-result
+overflow_add-result c =
+    let r = c.requires in
+    omega (arith, c.more_cost.ensures.1, r.cost_is, cost-most c.args.t.now c.args.m.now r.shaped.weight-most r.within)
+
+pub returns : goal.returns
+returns c =
+    none_dear _ _ _ _ _ _ _ _ c.requires _ _ refl (omega (arith, c.if-arrival-former.false)) c.more_cost.ensures.0 (ltb-true _ _ q)

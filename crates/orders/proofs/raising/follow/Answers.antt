@@ -1,0 +1,40 @@
+-- `orders::raising::follow` meets its contract: the choice is seen to arc by arc. The first lift leaves at most the arc between arrivals, and every solution
+-- has its minutes (`Halfway`); the second gives the least minutes or none. Each has as its source the event that its arc starts from.
+use mathlib.Core.Path.{refl}
+use mathlib.Core.Logic.{inl, inr}
+use native.Mathlib.Omega.{arith}
+use Rattle.orders.specs.Lift.TwoArcsLaws.{departure_dead, arrival_still, arrival_lifted, }
+use Rattle.orders.specs.Lift.LiftingLaws.{ready_leg}
+use Rattle.orders.proofs.raising.follow.Goals as goal
+
+pub lift-c-requires : goal.lift-c-requires
+lift-c-requires c =
+    let r = c.requires.0.ready in (
+      ready_leg _ _ _ _ _ _ _ _ r (r.shaped.beside_used c.args.e c.args.j r.leg c.requires.1 c.requires.2),
+      inl c.if-m-f.true,
+      omega (arith, c.times_behind-b.ensures.1),
+      omega arith,
+    )
+
+pub returns-then-c : goal.returns-then-c
+returns-then-c c =
+    departure_dead _ _ _ _ _ _ _ _ _ c.requires.0.ready.leg c.requires.1 c.requires.2 refl c.times_behind-b.ensures.0 _ _ _
+    c.source_of-src.ensures c.requires.0 _ _ c.lift-c.ensures c.if-c.true
+
+pub lift-requires : goal.lift-requires
+lift-requires c =
+    let r = (half c).choosing.ready in (
+      ready_leg _ _ _ _ _ _ _ _ r (r.shaped.beside_used c.args.e c.args.j r.leg c.requires.1 c.requires.2),
+      inr c.if-m-f-2.true,
+      omega arith,
+      omega (arith, c.times_behind-b.ensures.2),
+    )
+
+pub returns-then-m-f-2 : goal.returns-then-m-f-2
+returns-then-m-f-2 c =
+    arrival_lifted _ _ _ _ _ _ _ _ _ c.requires.0.ready.leg c.requires.1 c.requires.2 refl c.times_behind-b.ensures.0 _ _ _ (half c)
+    c.if-m-f-2.true _ _ c.lift.ensures
+
+pub returns : goal.returns
+returns c =
+    arrival_still _ _ _ _ _ _ _ _ _ c.requires.0.ready.leg c.requires.1 c.requires.2 refl c.times_behind-b.ensures.0 _ _ _ (half c) c.if-m-f-2.false

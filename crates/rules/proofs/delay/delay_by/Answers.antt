@@ -1,0 +1,78 @@
+-- The answers; the idea of the proof is at the head of the invariants.
+use Rattle.std.proofs.Common.{◌≡◌, ◌-◌, ◌*◌, ◌≤◌, length, sym, ◌∙◌, ⊎_elim, mul-le-mul, arith}
+use lib.ListN.{length-map}
+use Rattle.finite.specs.Below.{sum}
+use Rattle.line.specs.Runnable.{TrainRunnable}
+use Rattle.rules.specs.StatementLaws.PathsLaws.{train_runnable, routed_runnable, legs_few}
+use Rattle.rules.specs.Check.Dues.{cost_by}
+use Rattle.rules.specs.Check.RulesLaws.{sum-next}
+use Rattle.rules.specs.Check.DuesLaws.{cost-start, cost_late, cost_none, cost-end}
+use Rattle.rules.proofs.delay.delay_by.Goals as goal
+
+pub loop-i-init : goal.loop-i-init
+loop-i-init c =
+    (omega arith, cost-start c.args.line.traffic.trains c.args.dues.now c.args.m.now, omega arith)
+
+pub overflow_sub-last : goal.overflow_sub-last
+overflow_sub-last c =
+    let runnable : let a = c.args in TrainRunnable a.line.track.station_count (train a.line c.loop-i.i) = let size : length c.args.line.traffic.trains ≡ 12 = sym (length-map c.args.line.traffic.trains _) ∙ c.well_formed.0.1.1.1.0.1.1.1.0.1.0.1 in
+    train_runnable c.args.line c.loop-i.i c.requires.0 size c.loop-i-test.true in
+    let path : Routed (train c.args.line c.loop-i.i) = routed_runnable _ _ (runnable) c.requires.0.stations.1 in
+    omega (arith, c.legs_between-last.ensures, legs_few _ (path))
+
+pub arrival_of-requires : goal.arrival_of-requires
+arrival_of-requires c =
+    let runnable : let a = c.args in TrainRunnable a.line.track.station_count (train a.line c.loop-i.i) = let size : length c.args.line.traffic.trains ≡ 12 = sym (length-map c.args.line.traffic.trains _) ∙ c.well_formed.0.1.1.1.0.1.1.1.0.1.0.1 in
+    train_runnable c.args.line c.loop-i.i c.requires.0 size c.loop-i-test.true in
+    let path : Routed (train c.args.line c.loop-i.i) = routed_runnable _ _ (runnable) c.requires.0.stations.1 in
+    (
+      path,
+      c.requires.2,
+      omega (arith, c.loop-i-test.true, c.requires.0.trains),
+      omega (arith, c.legs_between-last.ensures, legs_few _ (path)),
+    )
+
+pub bounds-dues-i : goal.bounds-dues-i
+bounds-dues-i c =
+    omega (arith, c.requires.1.size, c.requires.0.trains.1, c.loop-i-test.true)
+
+pub overflow_mul-total : goal.overflow_mul-total
+overflow_mul-total c =
+    let runnable : let a = c.args in TrainRunnable a.line.track.station_count (train a.line c.loop-i.i) = let size : length c.args.line.traffic.trains ≡ 12 = sym (length-map c.args.line.traffic.trains _) ∙ c.well_formed.0.1.1.1.0.1.1.1.0.1.0.1 in
+    train_runnable c.args.line c.loop-i.i c.requires.0 size c.loop-i-test.true in
+    let most : c.wide.result * (c.wide-arrival.result - c.wide-due.result) ≤ 99 * 65535 = mul-le-mul {n₂ = 99} {m₂ = 65535} (omega (arith, c.wide.ensures.0, (runnable).weight))
+    (omega (arith, c.wide-arrival.ensures.1)) in
+    omega (arith, most)
+
+pub overflow_add-total : goal.overflow_add-total
+overflow_add-total c =
+    let runnable : let a = c.args in TrainRunnable a.line.track.station_count (train a.line c.loop-i.i) = let size : length c.args.line.traffic.trains ≡ 12 = sym (length-map c.args.line.traffic.trains _) ∙ c.well_formed.0.1.1.1.0.1.1.1.0.1.0.1 in
+    train_runnable c.args.line c.loop-i.i c.requires.0 size c.loop-i-test.true in
+    let most : c.wide.result * (c.wide-arrival.result - c.wide-due.result) ≤ 99 * 65535 = mul-le-mul {n₂ = 99} {m₂ = 65535} (omega (arith, c.wide.ensures.0, (runnable).weight))
+    (omega (arith, c.wide-arrival.ensures.1)) in
+    omega (arith, most, c.loop-i.invariant.2, c.loop-i-test.true, c.requires.0.trains)
+
+pub loop-i-preserved : goal.loop-i-preserved
+loop-i-preserved c =
+    let i = c.loop-i in
+    let here = c.loop-i-test.true in
+    let last = c.wide-arrival.ensures.0 ∙ c.arrival_of.ensures in
+    let legs = c.legs_between-last.ensures in
+    let due = c.wide-due.ensures.0 in
+    let trains = c.args.line.traffic.trains in
+    ⊎_elim
+    (λ w.
+    let late = cost_late trains c.args.dues.now c.args.m.now i.i legs last due w.1.ensures.0 in (
+      omega (arith, here),
+      w.2 ∙ sum-next (cost_by trains c.args.dues.now c.args.m.now) i.i i.invariant.1 late,
+      omega (arith, w.2, i.invariant.2, most (record { before = record { before = c; if1 = w.0 }; wide3 = w.1 })),
+    ))
+    (λ w.
+    let none = cost_none trains c.args.dues.now c.args.m.now i.i legs last due w.0.left in
+    let next = sum-next (cost_by trains c.args.dues.now c.args.m.now) i.i i.invariant.1 none in
+    (omega (arith, here), omega (arith, w.1, next), omega (arith, w.1, i.invariant.2)))
+    c.if-due-arrival.branch
+
+pub returns : goal.returns
+returns c =
+    cost-end c.args.line c.args.dues.now c.args.m.now c.requires.1 c.loop-i.invariant.1 (omega arith)

@@ -1,0 +1,32 @@
+-- The answers; the idea of the proof is at the head of the invariants.
+use Rattle.std.proofs.Common.{◌≡◌, ℕ, ◌-◌, ⊎_elim, arith}
+use Rattle.finite.specs.Below.{count as count_of}
+use Rattle.rules.specs.Conflict.Conflicts.{standing_at}
+use Rattle.rules.specs.Scan.Scanning.{stands_by}
+use Rattle.rules.specs.Scan.StationLaws.{earliest_start, earliest_on, earliest_sooner, earliest_minute, earliest_never}
+use Rattle.rules.specs.Scan.ScanningLaws.{standing_of}
+use Rattle.rules.proofs.stations.earliest_crowd.Goals as goal
+
+pub loop-i-init : goal.loop-i-init
+loop-i-init c = (omega arith, earliest_start _ _ _ _ _)
+
+pub loop-i-preserved : goal.loop-i-preserved
+loop-i-preserved c =
+    let w = c.loop-i in
+    let a = c.args in
+    let x = c.stays_at-stays in
+    let comes = x.ensures.comes w.i (omega arith) in
+    let total : (t k : ℕ) → k ≡ count_of (stands_by x.result.came x.result.leaves t) 16 → k ≡ standing_at a.ds.now a.m.now a.n a.s t =
+    standing_of _ _ _ _ _ x.ensures (omega arith) in
+    ⊎_elim
+    (λ u. (omega arith, rw u.5 (earliest_sooner _ _ _ _ _ _ _ _ comes w.invariant.1 u.0.taken (omega (arith, total _ _ u.3.ensures, u.4.taken)))))
+    (⊎_elim
+    (λ u. (omega arith, rw u.5 (earliest_on _ _ _ _ _ _ _ _ comes w.invariant.1 (λ d. absurd (omega (arith, d, total _ _ u.3.ensures, u.4.left))))))
+    (λ u. (omega arith, rw u.1 (earliest_on _ _ _ _ _ _ _ _ comes w.invariant.1 (λ d. omega (arith, u.0.left))))))
+    c.if-t-earliest.branch
+
+pub returns-then-earliest-lt-END : goal.returns-then-earliest-lt-END
+returns-then-earliest-lt-END c = earliest_minute _ _ _ _ _ _ _ (omega arith) (omega arith) c.loop-i.invariant.1
+
+pub returns : goal.returns
+returns c = earliest_never _ _ _ _ _ _ _ (omega arith) (omega arith) c.loop-i.invariant.1

@@ -1,0 +1,38 @@
+-- `solver::forcing::settle` meets its contract: the mark of the way's choice is set, and raising finds the least minutes with it, or none. Assumes nothing.
+use mathlib.Core.Path.{refl}
+use native.Mathlib.Omega.{arith}
+use Rattle.plans.specs.Clauses.NextPlansLaws.{row_few, second_there, way_added, way_chooses, way_raises}
+use Rattle.solver.proofs.forcing.settle.Goals as goal
+
+pub offset_bounds-marks-row : goal.offset_bounds-marks-row
+offset_bounds-marks-row c = let p = c.requires in omega (arith, row_few p.line p.tabled.within _ _ p.choice _ p.is_way)
+
+pub bounds-marks-row : goal.bounds-marks-row
+bounds-marks-row c = let p = c.requires in row_few p.line p.tabled.within _ _ p.choice _ p.is_way
+
+pub with_bit-requires : goal.with_bit-requires
+with_bit-requires c = let p = c.requires in second_there p.line p.tabled.within _ _ p.choice _ p.is_way
+
+pub offset_bounds-marks-row-2 : goal.offset_bounds-marks-row-2
+offset_bounds-marks-row-2 c = let p = c.requires in omega (arith, row_few p.line p.tabled.within _ _ p.choice _ p.is_way)
+
+pub bounds-marks-row-2 : goal.bounds-marks-row-2
+bounds-marks-row-2 c = let p = c.requires in row_few p.line p.tabled.within _ _ p.choice _ p.is_way
+
+pub raised-requires : goal.raised-requires
+raised-requires c =
+    let p = c.requires in
+    record {
+      line = p.line;
+      choice = p.choice;
+      plan = c.args.marks.now;
+      chooses = way_chooses p.line _ _ _ _ _ p.tabled p.planned p.choice _ p.is_way _ c.with_bit.ensures _ refl;
+      cut_low = p.cut_low;
+    }
+
+pub returns : goal.returns
+returns c =
+    let v = c.with_bit.ensures in (
+      way_raises l _ _ _ _ _ tabled planned x _ i _ v _ refl _ _ _ c.raised.ensures,
+      way_added l _ _ _ _ _ tabled planned x _ i _ v,
+    )

@@ -1,0 +1,66 @@
+-- The answers; the idea of the proof is at the head of the invariants.
+use Prim.Native.Nat.{ℕ, ◌-◌}
+use mathlib.Core.Path.{◌≡◌}
+use mathlib.Core.Logic.{⊎_elim}
+use native.Mathlib.Omega.{arith}
+use lib.ListN.{length, length-set, length-replicate}
+use Rattle.rules.specs.Scan.StationLaws.{directions_size}
+use Rattle.plans.specs.Conflict.Ways.{way_of}
+use Rattle.plans.specs.Clauses.WaysToldLaws.{steps_within}
+use Rattle.plans.specs.Clauses.TryingLaws.{way_there, count_most, range_of, way_of_real}
+use Rattle.solver.specs.Selection.PricingLaws.{prices_none, prices_skip, prices_more, planned_after}
+use Rattle.solver.proofs.pricing.way_prices.Goals as goal
+
+pub loop-w-init : goal.loop-w-init
+loop-w-init c = (omega arith, prices_none _ _ _ _ _ _ _ _, length-replicate {A = ℕ} 144 4294967295)
+
+pub way_of-way-requires : goal.way_of-way-requires
+way_of-way-requires c =
+    let a = c.requires in (
+      range_of a.line a.tabled.within a.tabled.raisable.arrays _ c.args.conflict a.real,
+      directions_size _ _ a.tabled.raisable.directions,
+      omega (arith, a.count_is, count_most c.args.conflict, c.loop-w-test.true),
+    )
+
+pub way_price-requires : goal.way_price-requires
+way_price-requires c =
+    let i = c.loop-w in
+    let a = c.requires in
+    let there = way_there _ _ (way_of c.args.conflict i.w) c.way_of-way.ensures.0 c.if-way.true in
+    record {
+      line = a.line;
+      choice = there.0;
+      tabled = a.tabled;
+      planned = planned_after _ _ _ _ _ i.invariant.1.marks_same a.planned;
+      is_way =
+          way_of_real a.line a.tabled.within a.tabled.raisable.arrays _ c.args.conflict a.real _ _ _ i.w a.count_is
+          c.loop-w-test.true there.0 there.1 there.2;
+      cut_low = a.cut_low;
+    }
+
+pub overflow_add-w : goal.overflow_add-w
+overflow_add-w c = omega (arith, c.way_of-way.ensures.1.up_to_lem)
+
+pub loop-w-smaller : goal.loop-w-smaller
+loop-w-smaller c = omega (arith, c.way_of-way.ensures.1.on, c.loop-w-test.true)
+
+pub loop-w-preserved : goal.loop-w-preserved
+loop-w-preserved c =
+    let i = c.loop-w in
+    let count = c.requires.count_is in
+    let low = c.loop-w-test.true in
+    let way = c.way_of-way.ensures in (
+      steps_within _ _ _ _ count low way.1,
+      ⊎_elim
+          (λ w. rw (w.3, w.4) (prices_more _ _ _ _ _ _ _ _ count _ low _ _ i.invariant.1 _ way.0 way.1 w.0.taken _ _ w.2.ensures
+          (omega (arith, i.invariant.2, count_most c.args.conflict))))
+          (λ w. rw (w.1, w.2) (prices_skip _ _ _ _ _ _ _ _ count _ low _ _ i.invariant.1 _ way.0 way.1 w.0.left))
+          c.if-way.branch,
+      ⊎_elim (λ w. rw w.4 (simp length-set i.invariant.2)) (λ w. rw w.2 i.invariant.2) c.if-way.branch,
+    )
+
+pub returns : goal.returns
+returns c =
+    let i = c.loop-w in
+    let all : i.w ≡ c.args.n = omega (arith, c.loop-w-test.false, i.invariant.0) in
+    rw (← all) i.invariant.1

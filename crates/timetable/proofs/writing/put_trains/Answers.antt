@@ -1,0 +1,37 @@
+-- The answers; the idea of the proof is at the head of the invariants.
+use Prim.Native.Nat.{◌-◌}
+use mathlib.Core.Path.{◌≡◌, sym, ◌∙◌}
+use native.Mathlib.Nat.{sub-zero}
+use native.Mathlib.Omega.{arith}
+use lib.ListN.{length, length-map}
+use Rattle.text.specs.Writing.SpliceLaws.{putting_start, putting_step, putting_end}
+use Rattle.line.specs.RunnableLaws.{within_runnable}
+use Rattle.rules.specs.StatementLaws.PathsLaws.{routed}
+use Rattle.timetable.specs.WritingLaws.{next-train, no_train_lem, train_room}
+use Rattle.timetable.proofs.writing.put_trains.Goals as goal
+
+pub loop-i-init : goal.loop-i-init
+loop-i-init c = (rw sub-zero putting_start, omega arith)
+
+pub put_train-at-requires : goal.put_train-at-requires
+put_train-at-requires c =
+    let here = c.loop-i-test.true in
+    let w = c.loop-i in
+    let size : length c.args.line.traffic.trains ≡ 12 = sym (length-map c.args.line.traffic.trains _) ∙ c.well_formed.1.1.0.1.1.1.0.1.1.1.0.1.0.1 in (
+      routed c.args.line w.i (within_runnable c.args.line c.requires.0) size here,
+      c.requires.1,
+      omega (arith, here, c.requires.0.trains),
+      train_room c.args.line c.args.m.now c.args.line.traffic.train_count w.i w.invariant.0 here c.requires.2,
+    )
+
+pub loop-i-preserved : goal.loop-i-preserved
+loop-i-preserved c =
+    let here = c.loop-i-test.true in
+    let w = c.loop-i in
+    let step = next-train c.args.line c.args.m.now c.args.line.traffic.train_count w.i here in
+    (putting_step _ w.invariant.0 step c.put_train-at.ensures, omega (arith, here))
+
+pub returns : goal.returns
+returns c =
+    let w = c.loop-i in
+    putting_end w.invariant.0 (no_train_lem c.args.line c.args.m.now c.args.line.traffic.train_count w.i (omega arith))

@@ -1,0 +1,49 @@
+-- `walk::finding::best_of` meets its contract: the walk from the first plan is the whole walk, or no minutes of that plan are in time.
+use mathlib.Core.Path.{refl, sym, subst}
+use mathlib.Core.Bool.{false}
+use native.Mathlib.Omega.{arith}
+use borrow.Author.Tests.{not-true, not-false}
+use lib.ListN.{replicate}
+use Rattle.line.specs.RunnableLaws.{within_runnable}
+use Rattle.orders.specs.LeastMinutes.NoLater.{WithinDays}
+use Rattle.orders.specs.LeastMinutes.Carried.{Carried}
+use Rattle.orders.specs.Plan.Marks.{free}
+use Rattle.walk.specs.ScanningLaws.{clear_none}
+use Rattle.plans.specs.Clauses.Choosing.{Given}
+use Rattle.plans.specs.Clauses.FirstLaws.{first_given}
+use Rattle.walk.specs.Finding.{FindsWalked}
+use Rattle.walk.specs.FindingLaws.{finds_walked, finds_nothing}
+use Rattle.walk.proofs.finding.best_of.Goals as goal
+
+abbrev first : tie.After-key → tie.After-first-minutes
+first c = (laid c).before.before.before.before.before.before.before
+
+pub first_minutes-first-requires : goal.first_minutes-first-requires
+first_minutes-first-requires c = within_runnable c.args.line c.requires.0
+
+pub returns-then-not-first : goal.returns-then-not-first
+returns-then-not-first c =
+    subst (FindsWalked c.args.line) (sym c.found_of.ensures)
+    (finds_nothing c.args.line c.requires.0 c.requires.1 (c.first_minutes-first.ensures.late (not-true _ c.if-not-first.true))
+    (record { found = false; delay = 0; steps = 1 }) (replicate 352 0) refl refl)
+
+pub tables_of-t-requires : goal.tables_of-t-requires
+tables_of-t-requires c = within_runnable c.args.line c.requires.0
+
+pub take_up-tally-requires : goal.take_up-tally-requires
+unfolding free
+take_up-tally-requires c =
+    let timely : let l = (first c).before.args.line in let m = (first c).first-minutes.result.minutes in WithinDays m × EachTrain l (NotLate l m) = (first c).first-minutes.ensures.timely (not-false _ c.if-not-first.false) in
+    let carried : Carried (first c).before.args.line free (first c).first-minutes.result.minutes (first c).first-minutes.result.cost = (first c).first-minutes.ensures.carried (timely).0 in
+    let given : Given (first c).before.args.line (first c).first-minutes.result.minutes (replicate 368 0) (replicate 352 0) c.tables_of-t.result c.directions_of-ds.result c.key_of-key.result c.layout_of-layout.result (first c).first-minutes.result.cost (record { found = false; delay = 0; steps = 1 }) = let a = (first c).before in
+    first_given a.args.line a.pre.0 a.pre.1 _ _ (carried) (timely).1 _ _ _ _ c.tables_of-t.ensures
+    c.directions_of-ds.ensures c.key_of-key.ensures c.layout_of-layout.ensures _ refl (omega arith) in
+    record { line = (first c).before.args.line; given = given; former_size = (given).planned.carried.least.fit.size; known = clear_none _ _ _ }
+
+pub returns : goal.returns
+unfolding free
+returns c =
+    let a = (first c).before in
+    subst (FindsWalked a.args.line) (sym c.found_of-2.ensures)
+    (finds_walked a.args.line a.pre.0 a.pre.1 (first c).first-minutes.result.minutes (carried c).least (replicate 352 0) refl refl
+    (c.take_up-tally.ensures a.args.line (given c)))

@@ -1,0 +1,26 @@
+-- The answers; the idea of the proof is at the head of the invariants.
+use Prim.Native.Nat.{◌-◌}
+use mathlib.Core.Path.{refl, sym, ◌∙◌}
+use native.Mathlib.Omega.{arith}
+use denote.Enum.Declared.{tag_of}
+use Rattle.rules.specs.Conflict.ConflictsLaws.{conflict_stays, segment-on, segment_found, segment_none}
+use Rattle.walk.specs.ScanningLaws.{clear_within, clear_below}
+use Rattle.rules.specs.contracts.conflicts.Conflict.{the_type}
+use Rattle.walk.proofs.scanning.conflict_from.Goals as goal
+
+pub loop-p-init : goal.loop-p-init
+loop-p-init c =
+    (clear_below c.args.layout _ _ _ c.requires.1, clear_within c.args.layout _ _ _ c.requires.1)
+
+pub returns-in_default : goal.returns-in_default
+returns-in_default c =
+    let w = c.loop-p in
+    segment_found _ _ _ _ _ _ _ (omega arith) w.invariant.0 (sym c.pair_on-found.ensures) (conflict_stays (tag_of the_type) refl _ c.in_default.keys2)
+
+pub loop-p-preserved : goal.loop-p-preserved
+loop-p-preserved c =
+    let y = c.args.layout in
+    (segment-on y.segments _ _ _ _ c.loop-p.invariant.0 (sym c.pair_on-found.ensures ∙ c.in-Nothing.is), omega arith)
+
+pub returns : goal.returns
+returns c = segment_none _ _ _ _ _ _ (omega arith) c.loop-p.invariant.0
