@@ -13,22 +13,22 @@ use Rattle.gtfs.proofs.exporting.write_stop_times.Goals as goal
 
 pub put_stop_times-count-requires : goal.put_stop_times-count-requires
 put_stop_times-count-requires c =
-    let size : length c.args.t2 ≡ 352 = search rules in
-    (c.requires.0, size, stop_times_fit c.args.line c.args.t2 c.requires.0)
+    let size : length c.args.minutes ≡ 352 = search rules in
+    (c.requires.0, size, stop_times_fit c.args.line c.args.minutes c.requires.0)
 
 pub slice_bounds-text-end : goal.slice_bounds-text-end
 slice_bounds-text-end c =
     let put = c.put_stop_times-count in
-    omega (arith, stop_times_fit c.args.line c.args.t2 c.requires.0, put.ensures.next, put.auto.0)
+    omega (arith, stop_times_fit c.args.line c.args.minutes c.requires.0, put.ensures.next, put.auto.0)
 
 pub slice_bounds-lend_text-end : goal.slice_bounds-lend_text-end
 slice_bounds-lend_text-end c =
     let put = c.put_stop_times-count in
-    sym (length-take-le _ _ (omega (arith, stop_times_fit c.args.line c.args.t2 c.requires.0, put.ensures.next, put.auto.0)))
+    sym (length-take-le _ _ (omega (arith, stop_times_fit c.args.line c.args.minutes c.requires.0, put.ensures.next, put.auto.0)))
 
 pub returns : goal.returns
 returns c =
     let put = c.put_stop_times-count in
-    let fits : length (stop_times_text c.args.line c.args.t2) ≤ length (replicate {A = ℕ} 4096 0) =
-    rw (length-replicate {A = ℕ} 4096 0) (stop_times_fit c.args.line c.args.t2 c.requires.0) in
-    lent_front (replicate 4096 0) (stop_times_text c.args.line c.args.t2) refl fits put.ensures c.lend_text.ensures
+    let fits : length (stop_times_text c.args.line c.args.minutes) ≤ length (replicate {A = ℕ} 4096 0) =
+    rw (length-replicate {A = ℕ} 4096 0) (stop_times_fit c.args.line c.args.minutes c.requires.0) in
+    lent_front (replicate 4096 0) (stop_times_text c.args.line c.args.minutes) refl fits put.ensures c.lend_text.ensures

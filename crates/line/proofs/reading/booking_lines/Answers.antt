@@ -1,10 +1,10 @@
 -- The answers; the idea of the proof is at the head of the invariants.
-use Prim.Native.Nat.{ℕ, suc, ◌<◌, ◌-◌, ◌+◌}
+use Prim.Native.Nat.{ℕ, suc, ◌≤◌, ◌<◌, ◌-◌, ◌+◌}
 use mathlib.Core.Path.{◌≡◌, ◌∙◌, sym, refl}
 use mathlib.Core.List.{List}
 use native.Mathlib.Omega.{arith}
 use native.Mathlib.Nat.{sub-zero}
-use lib.ListN.{set, replicate, take}
+use lib.ListN.{length, set, replicate, take, length-map}
 use Rattle.text.specs.declared.Cursor.{Cursor}
 use Rattle.text.specs.declared.Ending.{Ending}
 use Rattle.text.specs.Reading.Parsed.{Parsed}
@@ -72,10 +72,11 @@ booking_rest-rest-requires c =
 
 pub lines-preserved : goal.lines-preserved
 lines-preserved c =
+    let room : c.args.traffic.train_count ≤ length c.args.traffic.trains = omega (arith, c.requires.1, sym (length-map c.args.traffic.trains _) ∙ c.well_formed.1.1.1.1.0.1.1.1.0.1.0.1) in
     let rest = c.booking_rest-rest in
     let a = c.args in
     let place = sym c.booking_place-part.ensures ∙ ended_told _ c.in-Done.is in
-    let told = rest.ensures ∙ sym (booking_placed _ _ _ (room c) c.lines.before _ _ place) in
+    let told = rest.ensures ∙ sym (booking_placed _ _ _ (room) c.lines.before _ _ place) in
     let counted = part_counted _ _ (stands-booking _ Counted (keeps_counted _) AnyNumber any_line_number _ _ _ _ c.lines.invariant.2) told
     c.in-Done-ended.is in (
       line_read a.stations a.t5 a.count c.lines.i c.lines.before a.s.now c.lines.cursor c.lines.bookings _ c.lines.invariant.0 (omega arith)
@@ -95,19 +96,21 @@ returns-then-i-count c =
 pub returns-in_default : goal.returns-in_default
 unfolding padded
 returns-in_default c =
+    let room : c.args.traffic.train_count ≤ length c.args.traffic.trains = omega (arith, c.requires.1, sym (length-map c.args.traffic.trains _) ∙ c.well_formed.1.1.1.1.0.1.1.1.0.1.0.1) in
     let part = c.booking_place-part in
     let a = c.args in
     let refused = c.in_default.is in
     let place = sym part.ensures ∙ ended_told _ refused in
     line_refused a.stations a.t5 a.count c.lines.i c.lines.before a.s.now c.lines.cursor c.lines.bookings _ c.lines.invariant.0 (omega arith)
-    part.result.ending no_booking (ended_told _ refused ∙ sym (booking_no_place _ _ _ (room c) c.lines.before _ _ place)) _ refused
+    part.result.ending no_booking (ended_told _ refused ∙ sym (booking_no_place _ _ _ (room) c.lines.before _ _ place)) _ refused
 
 pub returns-in_default-ended : goal.returns-in_default-ended
 unfolding padded
 returns-in_default-ended c =
+    let room : c.args.traffic.train_count ≤ length c.args.traffic.trains = omega (arith, c.requires.1, sym (length-map c.args.traffic.trains _) ∙ c.well_formed.1.1.1.1.0.1.1.1.0.1.0.1) in
     let rest = c.booking_rest-rest in
     let a = c.args in
     let place = sym c.booking_place-part.ensures ∙ ended_told _ c.in-Done.is in
-    let told = rest.ensures ∙ sym (booking_placed _ _ _ (room c) c.lines.before _ _ place) in
+    let told = rest.ensures ∙ sym (booking_placed _ _ _ (room) c.lines.before _ _ place) in
     line_refused a.stations a.t5 a.count c.lines.i c.lines.before a.s.now c.lines.cursor c.lines.bookings _ c.lines.invariant.0 (omega arith)
     rest.result.ending rest.result.booking told _ c.in_default-ended.is

@@ -13,13 +13,13 @@ loop-i-init c = (putting_start, omega arith)
 pub put_booking-at-requires : goal.put_booking-at-requires
 put_booking-at-requires c =
     let w = c.loop-i in
-    each_room booking_text booking_then c.args.count c.args.t3 w.i (omega arith) w.invariant.0 no_booking (omega arith) c.requires.1
+    each_room booking_text booking_then c.args.count c.args.bookings w.i (omega arith) w.invariant.0 no_booking (omega arith) c.requires.1
 
 pub loop-i-preserved : goal.loop-i-preserved
 loop-i-preserved c =
     let w = c.loop-i in
     (
-      each_put booking_text booking_then c.args.count c.args.t3 w.i (omega arith) w.invariant.0 no_booking (omega arith)
+      each_put booking_text booking_then c.args.count c.args.bookings w.i (omega arith) w.invariant.0 no_booking (omega arith)
           c.put_booking-at.ensures,
       omega arith,
     )
@@ -27,4 +27,4 @@ loop-i-preserved c =
 pub returns : goal.returns
 returns c =
     let w = c.loop-i in
-    each_end booking_text booking_then c.args.count c.args.t3 w.i (omega arith) w.invariant.0 (omega arith)
+    each_end booking_text booking_then c.args.count c.args.bookings w.i (omega arith) w.invariant.0 (omega arith)

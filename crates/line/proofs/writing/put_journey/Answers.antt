@@ -15,8 +15,8 @@ loop-k-init c = (putting_start, omega arith)
 pub put_field-after_run-requires : goal.put_field-after_run-requires
 put_field-after_run-requires c =
     let w = c.loop-k in
-    let short : Fits w16 (get_or c.args.t3 w.k 0) = search rules in (
-      omega (arith, journey_room c.args.t3 c.args.t4 c.args.legs w.k (omega arith) w.invariant.0 (omega arith) c.requires.2),
+    let short : Fits w16 (get_or c.args.runs w.k 0) = search rules in (
+      omega (arith, journey_room c.args.runs c.args.stops c.args.legs w.k (omega arith) w.invariant.0 (omega arith) c.requires.2),
       omega (arith, short.fits),
     )
 
@@ -24,10 +24,10 @@ pub put_field-at-requires : goal.put_field-at-requires
 put_field-at-requires c =
     let put = c.put_field-after_run in
     let w = c.loop-k in
-    let short : Fits w16 (get_or c.args.t4 w.k 0) = search rules in (
+    let short : Fits w16 (get_or c.args.stops w.k 0) = search rules in (
       omega (
         arith,
-        journey_room c.args.t3 c.args.t4 c.args.legs w.k (omega arith) w.invariant.0 (omega arith) c.requires.2,
+        journey_room c.args.runs c.args.stops c.args.legs w.k (omega arith) w.invariant.0 (omega arith) c.requires.2,
         put.ensures.next,
         put.auto.0,
       ),
@@ -40,17 +40,17 @@ loop-k-preserved c =
     let run = c.put_field-after_run in
     let w = c.loop-k in
     (
-      journey_put c.args.t3 c.args.t4 c.args.legs w.k (omega arith) w.invariant.0 (omega arith) (put_then run.ensures stop.ensures),
+      journey_put c.args.runs c.args.stops c.args.legs w.k (omega arith) w.invariant.0 (omega arith) (put_then run.ensures stop.ensures),
       omega arith,
     )
 
 pub put_field-requires : goal.put_field-requires
 put_field-requires c =
     let w = c.loop-k in
-    let short : Fits w16 (get_or c.args.t3 w.k 0) = search rules in
-    (journey_last_room c.args.t3 c.args.t4 c.args.legs w.k (omega arith) w.invariant.0 (omega arith) c.requires.2, omega (arith, short.fits))
+    let short : Fits w16 (get_or c.args.runs w.k 0) = search rules in
+    (journey_last_room c.args.runs c.args.stops c.args.legs w.k (omega arith) w.invariant.0 (omega arith) c.requires.2, omega (arith, short.fits))
 
 pub returns : goal.returns
 returns c =
     let w = c.loop-k in
-    journey_end c.args.t3 c.args.t4 c.args.legs w.k (omega arith) w.invariant.0 (omega arith) c.put_field.ensures
+    journey_end c.args.runs c.args.stops c.args.legs w.k (omega arith) w.invariant.0 (omega arith) c.put_field.ensures

@@ -13,13 +13,13 @@ loop-i-init c = (putting_start, omega arith)
 pub put_listed-at-requires : goal.put_listed-at-requires
 put_listed-at-requires c =
     let w = c.loop-i in
-    each_room listed_text listed_then c.args.count c.args.t3 w.i (omega arith) w.invariant.0 no_listed (omega arith) c.requires.1
+    each_room listed_text listed_then c.args.count c.args.listed w.i (omega arith) w.invariant.0 no_listed (omega arith) c.requires.1
 
 pub loop-i-preserved : goal.loop-i-preserved
 loop-i-preserved c =
     let w = c.loop-i in
     (
-      each_put listed_text listed_then c.args.count c.args.t3 w.i (omega arith) w.invariant.0 no_listed (omega arith)
+      each_put listed_text listed_then c.args.count c.args.listed w.i (omega arith) w.invariant.0 no_listed (omega arith)
           c.put_listed-at.ensures,
       omega arith,
     )
@@ -27,4 +27,4 @@ loop-i-preserved c =
 pub returns : goal.returns
 returns c =
     let w = c.loop-i in
-    each_end listed_text listed_then c.args.count c.args.t3 w.i (omega arith) w.invariant.0 (omega arith)
+    each_end listed_text listed_then c.args.count c.args.listed w.i (omega arith) w.invariant.0 (omega arith)

@@ -13,13 +13,13 @@ loop-i-init c = (putting_start, omega arith)
 pub put_segment-at-requires : goal.put_segment-at-requires
 put_segment-at-requires c =
     let w = c.loop-i in
-    each_room segment_text segment_then c.args.count c.args.t3 w.i (omega arith) w.invariant.0 no_segment (omega arith) c.requires.1
+    each_room segment_text segment_then c.args.count c.args.segments w.i (omega arith) w.invariant.0 no_segment (omega arith) c.requires.1
 
 pub loop-i-preserved : goal.loop-i-preserved
 loop-i-preserved c =
     let w = c.loop-i in
     (
-      each_put segment_text segment_then c.args.count c.args.t3 w.i (omega arith) w.invariant.0 no_segment (omega arith)
+      each_put segment_text segment_then c.args.count c.args.segments w.i (omega arith) w.invariant.0 no_segment (omega arith)
           c.put_segment-at.ensures,
       omega arith,
     )
@@ -27,4 +27,4 @@ loop-i-preserved c =
 pub returns : goal.returns
 returns c =
     let w = c.loop-i in
-    each_end segment_text segment_then c.args.count c.args.t3 w.i (omega arith) w.invariant.0 (omega arith)
+    each_end segment_text segment_then c.args.count c.args.segments w.i (omega arith) w.invariant.0 (omega arith)

@@ -16,14 +16,14 @@ loop-i-init c = (putting_start, omega arith)
 pub put_field-at-requires : goal.put_field-at-requires
 put_field-at-requires c =
     let w = c.loop-i in
-    let short : Fits w16 (get_or c.args.t3 w.i 0) = search rules in
-    (each_room station_text station_then c.args.count c.args.t3 w.i (omega arith) w.invariant.0 0 (omega arith) c.requires.1, omega (arith, short.fits))
+    let short : Fits w16 (get_or c.args.tracks w.i 0) = search rules in
+    (each_room station_text station_then c.args.count c.args.tracks w.i (omega arith) w.invariant.0 0 (omega arith) c.requires.1, omega (arith, short.fits))
 
 pub loop-i-preserved : goal.loop-i-preserved
 loop-i-preserved c =
     let w = c.loop-i in
     (
-      each_put station_text station_then c.args.count c.args.t3 w.i (omega arith) w.invariant.0 0 (omega arith)
+      each_put station_text station_then c.args.count c.args.tracks w.i (omega arith) w.invariant.0 0 (omega arith)
           c.put_field-at.ensures,
       omega arith,
     )
@@ -31,4 +31,4 @@ loop-i-preserved c =
 pub returns : goal.returns
 returns c =
     let w = c.loop-i in
-    each_end station_text station_then c.args.count c.args.t3 w.i (omega arith) w.invariant.0 (omega arith)
+    each_end station_text station_then c.args.count c.args.tracks w.i (omega arith) w.invariant.0 (omega arith)

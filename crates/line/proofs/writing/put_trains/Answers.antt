@@ -20,17 +20,17 @@ loop-i-init c = (putting_start, omega arith)
 pub put_train-at-requires : goal.put_train-at-requires
 put_train-at-requires c =
     let w = c.loop-i in
-    let path = each_at HasPath c.args.count c.args.t3 w.i beyond (omega arith) (omega arith) c.requires.1 in (
+    let path = each_at HasPath c.args.count c.args.trains w.i beyond (omega arith) (omega arith) c.requires.1 in (
       path.0,
       path.1,
-      each_room train_text train_then c.args.count c.args.t3 w.i (omega arith) w.invariant.0 beyond (omega arith) c.requires.2,
+      each_room train_text train_then c.args.count c.args.trains w.i (omega arith) w.invariant.0 beyond (omega arith) c.requires.2,
     )
 
 pub loop-i-preserved : goal.loop-i-preserved
 loop-i-preserved c =
     let w = c.loop-i in
     (
-      each_put train_text train_then c.args.count c.args.t3 w.i (omega arith) w.invariant.0 beyond (omega arith)
+      each_put train_text train_then c.args.count c.args.trains w.i (omega arith) w.invariant.0 beyond (omega arith)
           c.put_train-at.ensures,
       omega arith,
     )
@@ -38,4 +38,4 @@ loop-i-preserved c =
 pub returns : goal.returns
 returns c =
     let w = c.loop-i in
-    each_end train_text train_then c.args.count c.args.t3 w.i (omega arith) w.invariant.0 (omega arith)
+    each_end train_text train_then c.args.count c.args.trains w.i (omega arith) w.invariant.0 (omega arith)

@@ -10,14 +10,14 @@ use Rattle.line.proofs.writing.station_faults.Goals as goal
 pub returns-in_default : goal.returns-in_default
 returns-in_default c =
     let w = c.loop-i in
-    lines_found track_fault c.args.t1 c.args.count w.i (w.i + 2) (search rules)
+    lines_found track_fault c.args.tracks c.args.count w.i (w.i + 2) (search rules)
     0 c.loop-i-test.true c.number_fault-fault.ensures c.in_default.is
     ∙ w.invariant.0
 
 pub loop-i-preserved : goal.loop-i-preserved
 loop-i-preserved c =
     let w = c.loop-i in (
-      lines_clean track_fault c.args.t1 c.args.count w.i (w.i + 2) (search rules)
+      lines_clean track_fault c.args.tracks c.args.count w.i (w.i + 2) (search rules)
           0 _ (omega arith) c.loop-i-test.true c.number_fault-fault.ensures c.in-None.is
           ∙ w.invariant.0,
       omega arith,
@@ -26,5 +26,5 @@ loop-i-preserved c =
 pub returns : goal.returns
 returns c =
     let w = c.loop-i in
-    lines_end track_fault c.args.t1 c.args.count w.i (w.i + 2) (search rules) (omega arith)
+    lines_end track_fault c.args.tracks c.args.count w.i (w.i + 2) (search rules) (omega arith)
     ∙ w.invariant.0

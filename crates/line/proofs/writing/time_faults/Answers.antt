@@ -10,14 +10,14 @@ use Rattle.line.proofs.writing.time_faults.Goals as goal
 pub returns-in_default : goal.returns-in_default
 returns-in_default c =
     let w = c.loop-i in
-    lines_found (λ _ n. number_fault c.args.limits n c.args.line) c.args.t1 c.args.count w.i w.i (search rules)
+    lines_found (λ _ n. number_fault c.args.limits n c.args.line) c.args.times c.args.count w.i w.i (search rules)
     0 c.loop-i-test.true c.number_fault-fault.ensures c.in_default.is
     ∙ w.invariant.0 ∙ sym (times_lines _ _ _ 0)
 
 pub loop-i-preserved : goal.loop-i-preserved
 loop-i-preserved c =
     let w = c.loop-i in (
-      lines_clean (λ _ n. number_fault c.args.limits n c.args.line) c.args.t1 c.args.count w.i w.i (search rules)
+      lines_clean (λ _ n. number_fault c.args.limits n c.args.line) c.args.times c.args.count w.i w.i (search rules)
           0 _ (omega arith) c.loop-i-test.true c.number_fault-fault.ensures c.in-None.is
           ∙ w.invariant.0,
       omega arith,
@@ -26,5 +26,5 @@ loop-i-preserved c =
 pub returns : goal.returns
 returns c =
     let w = c.loop-i in
-    lines_end (λ _ n. number_fault c.args.limits n c.args.line) c.args.t1 c.args.count w.i w.i (search rules) (omega arith)
+    lines_end (λ _ n. number_fault c.args.limits n c.args.line) c.args.times c.args.count w.i w.i (search rules) (omega arith)
     ∙ w.invariant.0 ∙ sym (times_lines _ _ _ 0)

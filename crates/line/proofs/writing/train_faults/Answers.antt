@@ -11,19 +11,19 @@ use Rattle.line.proofs.writing.train_faults.Goals as goal
 pub loop-i-init : goal.loop-i-init
 loop-i-init c =
     let z : c.args.first + 0 ≡ c.args.first = omega arith in
-    (ap (λ (p : ℕ). lines_fault (take c.args.count c.args.t1) (train_fault c.args.stations) p) z, omega arith)
+    (ap (λ (p : ℕ). lines_fault (take c.args.count c.args.trains) (train_fault c.args.stations) p) z, omega arith)
 
 pub returns-in_default : goal.returns-in_default
 returns-in_default c =
     let w = c.loop-i in
-    lines_found (train_fault c.args.stations) c.args.t1 c.args.count w.i (c.args.first + w.i) (search rules)
+    lines_found (train_fault c.args.stations) c.args.trains c.args.count w.i (c.args.first + w.i) (search rules)
     _ c.loop-i-test.true c.train_fault-fault.ensures c.in_default.is
     ∙ w.invariant.0
 
 pub loop-i-preserved : goal.loop-i-preserved
 loop-i-preserved c =
     let w = c.loop-i in (
-      lines_clean (train_fault c.args.stations) c.args.t1 c.args.count w.i (c.args.first + w.i) (search rules)
+      lines_clean (train_fault c.args.stations) c.args.trains c.args.count w.i (c.args.first + w.i) (search rules)
           _ _ (omega arith) c.loop-i-test.true c.train_fault-fault.ensures c.in-None.is
           ∙ w.invariant.0,
       omega arith,
@@ -32,5 +32,5 @@ loop-i-preserved c =
 pub returns : goal.returns
 returns c =
     let w = c.loop-i in
-    lines_end (train_fault c.args.stations) c.args.t1 c.args.count w.i (c.args.first + w.i) (search rules) (omega arith)
+    lines_end (train_fault c.args.stations) c.args.trains c.args.count w.i (c.args.first + w.i) (search rules) (omega arith)
     ∙ w.invariant.0

@@ -34,13 +34,35 @@ write_text-requires c =
 pub returns-in-None : goal.returns-in-None
 unfolding spelling
 returns-in-None c =
+    let sized : Arrays c.args.line = let track = c.well_formed.0.1.1.0.1.1.1 in
+    let trains = c.well_formed.0.1.1.1.0.1.1.1.0 in
+    let further = c.well_formed.0.1.1.1.1 in
+    record {
+      tracks = sym (length-map c.args.line.track.tracks _) ∙ track.0.1.0.1;
+      segments = sym (length-map c.args.line.track.segments _) ∙ track.1.0.1.0.1;
+      trains = sym (length-map c.args.line.traffic.trains _) ∙ trains.1.0.1;
+      each_train = trains-sized c.args.line.traffic.trains trains.0 trains.1.1;
+      bookings = sym (length-map c.args.line.booked.bookings _) ∙ further.0.1.1.1.0.1.0.1;
+      dues = sym (length-map c.args.line.dues.listed _) ∙ further.1.0.1.1.1.0.1.0.1;
+    } in
     let a = c.args in
     let none = sym c.fault_of-fault.ensures ∙ c.in-None.is in
-    (lent_as (ap (λ f. on_fault f (Spelling.text (text_of a.line)) Spelling.refused) none) c.write_text.ensures, read_back _ (sized c))
+    (lent_as (ap (λ f. on_fault f (Spelling.text (text_of a.line)) Spelling.refused) none) c.write_text.ensures, read_back _ (sized))
 
 pub returns-in-At : goal.returns-in-At
 unfolding spelling
 returns-in-At c =
+    let sized : Arrays c.args.line = let track = c.well_formed.0.1.1.0.1.1.1 in
+    let trains = c.well_formed.0.1.1.1.0.1.1.1.0 in
+    let further = c.well_formed.0.1.1.1.1 in
+    record {
+      tracks = sym (length-map c.args.line.track.tracks _) ∙ track.0.1.0.1;
+      segments = sym (length-map c.args.line.track.segments _) ∙ track.1.0.1.0.1;
+      trains = sym (length-map c.args.line.traffic.trains _) ∙ trains.1.0.1;
+      each_train = trains-sized c.args.line.traffic.trains trains.0 trains.1.1;
+      bookings = sym (length-map c.args.line.booked.bookings _) ∙ further.0.1.1.1.0.1.0.1;
+      dues = sym (length-map c.args.line.dues.listed _) ∙ further.1.0.1.1.1.0.1.0.1;
+    } in
     let a = c.args in
     let found = sym c.fault_of-fault.ensures ∙ c.in-At.is in
-    (lent_refused a.out.now refl (ap (λ f. on_fault f (Spelling.text (text_of a.line)) Spelling.refused) found), read_back _ (sized c))
+    (lent_refused a.out.now refl (ap (λ f. on_fault f (Spelling.text (text_of a.line)) Spelling.refused) found), read_back _ (sized))

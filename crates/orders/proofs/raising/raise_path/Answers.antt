@@ -66,23 +66,28 @@ bounds-m-next c =
 
 pub returns-then-m-next : goal.returns-then-m-next
 returns-then-m-next c =
-    path_still _ _ _ _ _ _ _ _ _ _ _ _ _ (along c) c.loop-c-test.true _
+    let along : let a = c.args in let l = c.loop-c in AlongPath a.marks.now a.t.now a.ds.now a.src a.cut a.e a.v a.w a.m.now l.m l.c l.f l.legs = c.loop-c.invariant c.args.m.now c.raise_leg-c.ensures in
+    path_still _ _ _ _ _ _ _ _ _ _ _ _ _ (along) c.loop-c-test.true _
     c.next_at-next.ensures _ c.if-next-f.false
     (ap (λ (x : ℕ). get_or c.loop-c.m (176 + c.loop-c.f) 0 + x) c.stop_at.ensures) c.if-m-next.true
 
 pub raise_leg-c-requires-in-loop-c : goal.raise_leg-c-requires-in-loop-c
 raise_leg-c-requires-in-loop-c c =
-    let r = next-ready c in
+    let along : let a = c.args in let l = c.loop-c in AlongPath a.marks.now a.t.now a.ds.now a.src a.cut a.e a.v a.w a.m.now l.m l.c l.f l.legs = c.loop-c.invariant c.args.m.now c.raise_leg-c.ensures in
+    let next-ready : let a = c.args in let l = c.loop-c in Ready l.m a.marks.now a.t.now a.ds.now c.next_at-next.result l.c a.cut = path_ready _ _ _ _ _ _ _ _ _ _ _ _ _ (along) c.loop-c-test.true _ c.next_at-next.ensures _
+    c.requires.0 in
+    let r = next-ready in
     let f = c.loop-c.f in (
       r,
       inl c.if-m-next.false,
-      omega (arith, r.within (176 + f), c.stop_at.ensures, r.shaped.stop-most f (along c).leg.0),
+      omega (arith, r.within (176 + f), c.stop_at.ensures, r.shaped.stop-most f (along).leg.0),
       omega arith,
     )
 
 pub overflow_add-legs : goal.overflow_add-legs
 overflow_add-legs c =
-    omega (arith, path_few _ _ _ _ _ _ _ _ _ _ _ _ _ (along c) c.loop-c-test.true c.requires.0.size)
+    let along : let a = c.args in let l = c.loop-c in AlongPath a.marks.now a.t.now a.ds.now a.src a.cut a.e a.v a.w a.m.now l.m l.c l.f l.legs = c.loop-c.invariant c.args.m.now c.raise_leg-c.ensures in
+    omega (arith, path_few _ _ _ _ _ _ _ _ _ _ _ _ _ (along) c.loop-c-test.true c.requires.0.size)
 
 pub loop-c-smaller : goal.loop-c-smaller
 loop-c-smaller c =

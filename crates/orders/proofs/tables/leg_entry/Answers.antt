@@ -2,6 +2,7 @@
 use Prim.Native.Nat.{◌%◌, ◌≤◌, ◌<◌}
 use mathlib.Core.Path.{refl, ◌∙◌}
 use native.Mathlib.Omega.{arith}
+use Rattle.rules.specs.Statement.Paths.{train}
 use Rattle.rules.specs.StatementLaws.PathsLaws.{legs-most}
 use Rattle.orders.specs.Graph.LegsLaws.{leg_path}
 use Rattle.orders.specs.LineTables.TablesLaws.{rest_after_lem, at_last_lem, entry_of, entry-middle, entry-due}

@@ -3,6 +3,8 @@
 use Prim.Native.Nat.{◌-◌, ◌≤◌}
 use mathlib.Core.Path.{◌≡◌}
 use Rattle.line.specs.declared.Line.{Line}
+use Rattle.rules.specs.Statement.Paths as paths
+use Rattle.rules.specs.Statement.Paths.{train}
 use Rattle.orders.specs.LineTables.Tables.{rest_of}
 use Rattle.orders.proofs.tables.rest_of.Given as goal
 

@@ -34,6 +34,7 @@ loop-i-preserved c =
 
 pub returns : goal.returns
 returns c =
+    let size : length c.args.line.traffic.trains ≡ 12 = sym (length-map c.args.line.traffic.trains _) ∙ c.well_formed.0.1.1.1.0.1.1.1.0.1.0.1 in
     let l = c.args.line in
     ap (λ (ts : List Train). made l ts)
-    (waived-all _ _ _ c.loop-i.invariant.1 (omega (arith, c.loop-i-test.false, size c)))
+    (waived-all _ _ _ c.loop-i.invariant.1 (omega (arith, c.loop-i-test.false, size)))

@@ -6,7 +6,7 @@ use Rattle.rules.specs.Check.FloorsLaws.{floors_none, floors_more}
 use Rattle.rules.proofs.bookings.floors_by.Goals as goal
 
 pub loop-j-init : goal.loop-j-init
-loop-j-init c = (omega arith, floors_none c.args.t3 c.args.t1)
+loop-j-init c = (omega arith, floors_none c.args.trains c.args.bookings)
 
 pub overflow_sub-i : goal.overflow_sub-i
 overflow_sub-i c =
@@ -26,35 +26,35 @@ overflow_mul-e c =
 pub overflow_add-e : goal.overflow_add-e
 overflow_add-e c =
     let entry : let a = c.args in HasEntry a.t3 (get_or a.t1 c.loop-j.j no_booking) = c.requires.1 c.loop-j.j c.loop-j-test.true in
-    let inside : let b = get_or c.args.t1 c.loop-j.j no_booking in 16 * c.legs_between.result + (b.train - 1) < 176 = let e = entry in
+    let inside : let b = get_or c.args.bookings c.loop-j.j no_booking in 16 * c.legs_between.result + (b.train - 1) < 176 = let e = entry in
     omega (arith, c.legs_between.ensures, e.leg, e.train) in
     omega (arith, inside)
 
 pub offset_bounds-floors-e : goal.offset_bounds-floors-e
 offset_bounds-floors-e c =
     let entry : let a = c.args in HasEntry a.t3 (get_or a.t1 c.loop-j.j no_booking) = c.requires.1 c.loop-j.j c.loop-j-test.true in
-    let inside : let b = get_or c.args.t1 c.loop-j.j no_booking in 16 * c.legs_between.result + (b.train - 1) < 176 = let e = entry in
+    let inside : let b = get_or c.args.bookings c.loop-j.j no_booking in 16 * c.legs_between.result + (b.train - 1) < 176 = let e = entry in
     omega (arith, c.legs_between.ensures, e.leg, e.train) in
     omega (arith, inside)
 
 pub bounds-floors-e : goal.bounds-floors-e
 bounds-floors-e c =
     let entry : let a = c.args in HasEntry a.t3 (get_or a.t1 c.loop-j.j no_booking) = c.requires.1 c.loop-j.j c.loop-j-test.true in
-    let inside : let b = get_or c.args.t1 c.loop-j.j no_booking in 16 * c.legs_between.result + (b.train - 1) < 176 = let e = entry in
+    let inside : let b = get_or c.args.bookings c.loop-j.j no_booking in 16 * c.legs_between.result + (b.train - 1) < 176 = let e = entry in
     omega (arith, c.legs_between.ensures, e.leg, e.train) in
     omega (arith, inside, c.loop-j.invariant.1.size)
 
 pub offset_bounds-floors-e-in-loop-j : goal.offset_bounds-floors-e-in-loop-j
 offset_bounds-floors-e-in-loop-j c =
     let entry : let a = c.args in HasEntry a.t3 (get_or a.t1 c.loop-j.j no_booking) = c.requires.1 c.loop-j.j c.loop-j-test.true in
-    let inside : let b = get_or c.args.t1 c.loop-j.j no_booking in 16 * c.legs_between.result + (b.train - 1) < 176 = let e = entry in
+    let inside : let b = get_or c.args.bookings c.loop-j.j no_booking in 16 * c.legs_between.result + (b.train - 1) < 176 = let e = entry in
     omega (arith, c.legs_between.ensures, e.leg, e.train) in
     omega (arith, inside)
 
 pub bounds-floors-e-in-loop-j : goal.bounds-floors-e-in-loop-j
 bounds-floors-e-in-loop-j c =
     let entry : let a = c.args in HasEntry a.t3 (get_or a.t1 c.loop-j.j no_booking) = c.requires.1 c.loop-j.j c.loop-j-test.true in
-    let inside : let b = get_or c.args.t1 c.loop-j.j no_booking in 16 * c.legs_between.result + (b.train - 1) < 176 = let e = entry in
+    let inside : let b = get_or c.args.bookings c.loop-j.j no_booking in 16 * c.legs_between.result + (b.train - 1) < 176 = let e = entry in
     omega (arith, c.legs_between.ensures, e.leg, e.train) in
     omega (arith, inside, c.loop-j.invariant.1.size)
 

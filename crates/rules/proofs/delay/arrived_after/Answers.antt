@@ -64,11 +64,18 @@ bounds-runs-j c =
 
 pub overflow_add-arrival-in-loop-j-2 : goal.overflow_add-arrival-in-loop-j-2
 overflow_add-arrival-in-loop-j-2 c =
-    omega (arith, c.later-departure.ensures, c.floor_at.ensures, c.loop-j.invariant.1, step c, (next-few c).1)
+    let next-few : let a = c.args in let j = c.loop-j.j in (j + 1 < 11) × (arrived_by a.train a.floors.now a.i (j + 1) ≤ 12000) = let a = c.args in
+    let leg = alone_leg a.train a.floors.now a.i a.k c.requires in
+    (omega (arith, c.loop-j-test.true, leg), arrived_most a.train a.floors.now a.i a.k c.requires (c.loop-j.j + 1) (omega (arith, c.loop-j-test.true))) in
+    let step : let a = c.args in let j = c.loop-j.j in arrived_by a.train a.floors.now a.i (j + 1) ≡ max (arrived_by a.train a.floors.now a.i j + get_or a.train.stops j 0) (floor_in a.floors.now a.i (j + 1)) + get_or a.train.runs (j + 1) 0 = let a = c.args in
+    arrived_next a.train.runs a.train.stops a.floors.now _ a.i c.loop-j.j in
+    omega (arith, c.later-departure.ensures, c.floor_at.ensures, c.loop-j.invariant.1, step, (next-few).1)
 
 pub loop-j-preserved : goal.loop-j-preserved
 loop-j-preserved c =
-    (omega (arith, c.loop-j-test.true), omega (arith, c.later-departure.ensures, c.floor_at.ensures, c.loop-j.invariant.1, step c))
+    let step : let a = c.args in let j = c.loop-j.j in arrived_by a.train a.floors.now a.i (j + 1) ≡ max (arrived_by a.train a.floors.now a.i j + get_or a.train.stops j 0) (floor_in a.floors.now a.i (j + 1)) + get_or a.train.runs (j + 1) 0 = let a = c.args in
+    arrived_next a.train.runs a.train.stops a.floors.now _ a.i c.loop-j.j in
+    (omega (arith, c.loop-j-test.true), omega (arith, c.later-departure.ensures, c.floor_at.ensures, c.loop-j.invariant.1, step))
 
 pub returns : goal.returns
 returns c =

@@ -3,6 +3,7 @@ use Rattle.std.proofs.Common.{◌≡◌, ◌-◌, ◌*◌, ◌≤◌, length, sy
 use lib.ListN.{length-map}
 use Rattle.finite.specs.Below.{sum}
 use Rattle.line.specs.Runnable.{TrainRunnable}
+use Rattle.rules.specs.Statement.Paths.{train, Routed}
 use Rattle.rules.specs.StatementLaws.PathsLaws.{train_runnable, routed_runnable, legs_few}
 use Rattle.rules.specs.Check.Dues.{cost_by}
 use Rattle.rules.specs.Check.RulesLaws.{sum-next}

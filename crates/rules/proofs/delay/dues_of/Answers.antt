@@ -1,5 +1,6 @@
 -- The answers; the idea of the proof is at the head of the invariants.
-use Rattle.std.proofs.Common.{◌-◌, ◌∙◌, arith}
+use Rattle.std.proofs.Common.{◌≡◌, ◌-◌, length, sym, ◌∙◌, arith}
+use lib.ListN.{length-map}
 use Rattle.finite.specs.FillLaws.{begun_none, begun_more}
 use Rattle.rules.specs.Check.FloorsLaws.{runs_alone}
 use Rattle.rules.specs.Check.DuesLaws.{last_leg, due-from}
@@ -10,16 +11,18 @@ loop-i-init c = (omega arith, begun_none _ 12)
 
 pub bounds-trains-i : goal.bounds-trains-i
 bounds-trains-i c =
-    omega (arith, c.loop-i-test.true, c.requires.0.trains.1, size c)
+    let size : length c.args.line.traffic.trains ≡ 12 = sym (length-map c.args.line.traffic.trains _) ∙ c.well_formed.0.1.1.1.0.1.1.1.0.1.0.1 in
+    omega (arith, c.loop-i-test.true, c.requires.0.trains.1, size)
 
 pub due_by-requires : goal.due_by-requires
 due_by-requires c =
+    let size : length c.args.line.traffic.trains ≡ 12 = sym (length-map c.args.line.traffic.trains _) ∙ c.well_formed.0.1.1.1.0.1.1.1.0.1.0.1 in
     let l = c.args.line in
     let here = c.loop-i-test.true in
     let i = c.loop-i.i in (
       omega (arith, c.requires.0.dues.1, c.requires.0.trains.1),
       omega (arith, here, c.requires.0.trains.1),
-      runs_alone l c.requires.0 c.args.floors.now c.requires.1 i here _ (last_leg l c.requires.0 (size c) i here),
+      runs_alone l c.requires.0 c.args.floors.now c.requires.1 i here _ (last_leg l c.requires.0 (size) i here),
     )
 
 pub bounds-dues-i : goal.bounds-dues-i
@@ -33,9 +36,10 @@ loop-i-preserved c =
 
 pub returns : goal.returns
 returns c =
+    let size : length c.args.line.traffic.trains ≡ 12 = sym (length-map c.args.line.traffic.trains _) ∙ c.well_formed.0.1.1.1.0.1.1.1.0.1.0.1 in
     let h = c.loop-i.invariant in
     record {
       size = h.1.size;
       entries = λ i b.
-          h.1.entries i (omega (arith, h.0, c.loop-i-test.false)) ∙ due-from c.args.line c.requires.0 (size c) i b c.args.floors.now c.requires.1;
+          h.1.entries i (omega (arith, h.0, c.loop-i-test.false)) ∙ due-from c.args.line c.requires.0 (size) i b c.args.floors.now c.requires.1;
     }

@@ -1,7 +1,9 @@
 -- `rules::delay::free_arrival` meets its contract. Assumes nothing.
 use Rattle.std.proofs.Common.{◌≡◌, ℕ, ◌-◌, ◌≤◌, length, sym, ap, ◌∙◌, arith}
 use lib.ListN.{length-map}
+use Rattle.rules.specs.Statement.Paths.{legs}
 use Rattle.rules.specs.StatementLaws.PathsLaws.{routed, legs_few}
+use Rattle.rules.specs.Statement.Delay.{free_after}
 use Rattle.rules.proofs.delay.free_arrival.Goals as goal
 
 pub overflow_sub-last : goal.overflow_sub-last

@@ -1,5 +1,5 @@
 -- The answers; the idea of the proof is at the head of the invariants.
-use Rattle.std.proofs.Common.{◌-◌, refl, ◌∙◌, arith}
+use Rattle.std.proofs.Common.{◌-◌, ◌≤◌, length, refl, ◌∙◌, arith, rules}
 use Rattle.rules.specs.Check.DuesLaws.{found_here, found_later, found_nowhere}
 use Rattle.rules.proofs.delay.place_in.Goals as goal
 
@@ -8,23 +8,26 @@ loop-j-init c = (omega arith, λ given. refl)
 
 pub returns-then-entry-i : goal.returns-then-entry-i
 returns-then-entry-i c =
+    let room : c.args.count ≤ length c.args.listed = search rules in
     let in_List = c.loop-j-test.true in
     record {
-      here = λ _ given. found_here c.args.t1 _ c.args.i given _ (room c) in_List c.if-entry-i.true ∙ c.loop-j.invariant.1 given;
+      here = λ _ given. found_here c.args.listed _ c.args.i given _ (room) in_List c.if-entry-i.true ∙ c.loop-j.invariant.1 given;
       nowhere = λ past given. absurd (omega (arith, past, in_List));
     }
 
 pub loop-j-preserved : goal.loop-j-preserved
 loop-j-preserved c =
+    let room : c.args.count ≤ length c.args.listed = search rules in
     let in_List = c.loop-j-test.true in (
       omega (arith, in_List),
-      λ given. found_later c.args.t1 _ c.args.i given _ (room c) in_List c.if-entry-i.false ∙ c.loop-j.invariant.1 given,
+      λ given. found_later c.args.listed _ c.args.i given _ (room) in_List c.if-entry-i.false ∙ c.loop-j.invariant.1 given,
     )
 
 pub returns : goal.returns
 returns c =
+    let room : c.args.count ≤ length c.args.listed = search rules in
     record {
       here = λ h given. absurd (omega (arith, h));
       nowhere = λ _ given.
-          found_nowhere c.args.t1 c.args.count c.args.i given c.loop-j.j (room c) (omega (arith, c.loop-j.invariant.0, c.loop-j-test.false)) ∙ c.loop-j.invariant.1 given;
+          found_nowhere c.args.listed c.args.count c.args.i given c.loop-j.j (room) (omega (arith, c.loop-j.invariant.0, c.loop-j-test.false)) ∙ c.loop-j.invariant.1 given;
     }

@@ -1,5 +1,6 @@
 -- `rules::rules::arrival_of` meets its contract: the entry of the leg's segment. Assumes nothing.
 use Rattle.std.proofs.Common.{ℕ, ap, ◌∙◌}
+use Rattle.rules.specs.Statement.Minutes.{arrives_on}
 use Rattle.rules.proofs.rules.arrival_of.Goals as goal
 
 pub returns : goal.returns

@@ -2,6 +2,7 @@
 use Rattle.std.proofs.Common.{◌≡◌, ℕ, ◌-◌, Bool, true, List, get_or, sym, ◌∙◌, arith, below_none, below_more}
 use borrow.Author.Tests.{not-true, not-false}
 use Rattle.line.specs.declared.Train.{Train}
+use Rattle.rules.specs.Statement.Paths.{past_train}
 use Rattle.rules.specs.Check.Floors.{floor_in}
 use Rattle.rules.specs.Check.Tests.{keeps_by}
 use Rattle.rules.specs.Check.BreachesLaws.{lowest_at, lowest_none}

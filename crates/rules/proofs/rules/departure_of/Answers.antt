@@ -1,5 +1,6 @@
 -- `rules::rules::departure_of` meets its contract: the entry of the leg's segment. Assumes nothing.
 use Rattle.std.proofs.Common.{ℕ, ap, ◌∙◌}
+use Rattle.rules.specs.Statement.Minutes.{departs_on}
 use Rattle.rules.proofs.rules.departure_of.Goals as goal
 
 pub returns : goal.returns

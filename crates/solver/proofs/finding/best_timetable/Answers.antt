@@ -6,6 +6,8 @@ use native.Mathlib.Omega.{arith}
 use borrow.Author.Tests.{not-true, not-false}
 use lib.ListN.{replicate}
 use Rattle.line.specs.RunnableLaws.{within_runnable}
+use Rattle.rules.specs.Statement.Paths.{EachTrain}
+use Rattle.rules.specs.Statement.Rules.{NotLate}
 use Rattle.orders.specs.LeastMinutes.NoLater.{WithinDays}
 use Rattle.orders.specs.LeastMinutes.Carried.{Carried}
 use Rattle.orders.specs.Plan.Marks.{free}
@@ -46,9 +48,18 @@ search_whole-whole-requires c =
 
 pub returns : goal.returns
 returns c =
+    let timely : let l = (firstly c).before.args.line in let m = (firstly c).first-minutes.result.minutes in WithinDays m × EachTrain l (NotLate l m) = (firstly c).first-minutes.ensures.timely (not-false _ c.if-not-first.false) in
+    let carried : Carried (firstly c).before.args.line free (firstly c).first-minutes.result.minutes (firstly c).first-minutes.result.cost = (firstly c).first-minutes.ensures.carried (timely).0 in
+    let first : FirstHeld (firstly c).before.args.line (firstly c).first-minutes.result.minutes (replicate 352 0) c.tables_of-t.result c.directions_of-ds.result c.key_of-key.result c.layout_of-layout.result (firstly c).first-minutes.result.cost (record { found = false; delay = 0; steps = 0 }) = let a = (firstly c).before in
+    record {
+      given =
+          first_given a.args.line a.pre.0 a.pre.1 _ _ (carried) (timely).1 _ _ _ _ c.tables_of-t.ensures
+          c.directions_of-ds.ensures c.key_of-key.ensures c.layout_of-layout.ensures _ refl (omega arith);
+      under = first_under a.args.line a.pre.0 a.pre.1 _ _ (carried);
+    } in
     let a = (firstly c).before in
     let whole = c.search_whole-whole in
     let afresh = c.afresh in
     let best = finds_searched a.args.line a.pre.0 a.pre.1 _ _ _ whole.result afresh.result refl
-    (whole.ensures a.args.line (first c)) afresh.ensures in
+    (whole.ensures a.args.line (first)) afresh.ensures in
     subst (λ (r : Found). Finds a.args.line r × (r.steps ≡ 0)) (sym c.found_of-2.ensures) (best, afresh.ensures.2)

@@ -75,13 +75,14 @@ returns-then-not-improves c =
 
 pub forced_way-forced-requires : goal.forced_way-forced-requires
 forced_way-forced-requires c =
-    let g = (held c).given in (
+    let held : Held c.requires.line c.loop-left.q c.loop-left.own_val c.args.best.now c.args.t.now c.args.ds.now c.args.key.now c.args.layout c.loop-left.c c.args.tally = let p = c.requires in (alive c p.line p.choice p.held p.is_way).0 in
+    let g = (held).given in (
       record {
-        line = (begun (entered c)).pre.line;
+        line = c.requires.line;
         tabled = g.tabled;
         planned = g.planned;
         layout_is = g.layout_is;
-        cut_low = cut_few _ _ _ _ _ _ _ _ _ 0 _ (held c) _ (entered c).before.before.before.before.before.before.before.before.before.cut_of.ensures;
+        cut_low = cut_few _ _ _ _ _ _ _ _ _ 0 _ (held) _ c.cut_of-cut.ensures;
       },
       c.loop-left.invariant.1,
     )
@@ -93,35 +94,38 @@ pub returns-then-not-next : goal.returns-then-not-next
 returns-then-not-next c =
     let f = c.forced_way-forced.ensures in
     let (g, in-it) = alive c l x h i in
-    followed_dead l _ _ _ _ _ _ _ _ _ _ g in-it _ (entered c).before.before.before.before.before.before.before.before.before.cut_of.ensures
+    followed_dead l _ _ _ _ _ _ _ _ _ _ g in-it _ c.cut_of-cut.ensures
     (f.none c.if-forced.false (not-true _ c.if-not-next.true) l g.given.tabled g.given.planned g.given.layout_is)
 
 pub copy_minutes-requires-in-loop-left : goal.copy_minutes-requires-in-loop-left
 copy_minutes-requires-in-loop-left c =
-    ((held c).given.planned.carried.least.fit.size, c.loop-left.invariant.1)
+    let held : Held c.requires.line c.loop-left.q c.loop-left.own_val c.args.best.now c.args.t.now c.args.ds.now c.args.key.now c.args.layout c.loop-left.c c.args.tally = let p = c.requires in (alive c p.line p.choice p.held p.is_way).0 in
+    ((held).given.planned.carried.least.fit.size, c.loop-left.invariant.1)
 
 pub settle-c-requires-in-loop-left : goal.settle-c-requires-in-loop-left
 settle-c-requires-in-loop-left c =
+    let held : Held c.requires.line c.loop-left.q c.loop-left.own_val c.args.best.now c.args.t.now c.args.ds.now c.args.key.now c.args.layout c.loop-left.c c.args.tally = let p = c.requires in (alive c p.line p.choice p.held p.is_way).0 in
     let f = c.forced_way-forced.ensures in
-    let g = (held c).given in
-    let one = f.one c.if-forced.false (not-false _ c.if-not-next.false) (begun (entered c)).pre.line g.tabled g.planned g.layout_is in
+    let g = (held).given in
+    let one = f.one c.if-forced.false (not-false _ c.if-not-next.false) c.requires.line g.tabled g.planned g.layout_is in
     record {
-      line = (begun (entered c)).pre.line;
+      line = c.requires.line;
       choice = one.choice;
       tabled = g.tabled;
       planned = planned_after _ _ _ _ _ f.marks_same g.planned;
       is_way = one.is_way;
-      cut_low = cut_few _ _ _ _ _ _ _ _ _ 0 _ (held c) _ (entered c).before.before.before.before.before.before.before.before.before.cut_of.ensures;
+      cut_low = cut_few _ _ _ _ _ _ _ _ _ 0 _ (held) _ c.cut_of-cut.ensures;
     }
 
 pub loop-left-preserved : goal.loop-left-preserved
 loop-left-preserved c =
+    let held : Held c.requires.line c.loop-left.q c.loop-left.own_val c.args.best.now c.args.t.now c.args.ds.now c.args.key.now c.args.layout c.loop-left.c c.args.tally = let p = c.requires in (alive c p.line p.choice p.held p.is_way).0 in
     let f = c.forced_way-forced.ensures in (
       (λ l p h.
           let (g, in-it) = followed_alive l _ _ _ _ _ _ _ _ _ _ c.if-c.false (c.loop-left.invariant.0 l p h) in
           let one = f.one c.if-forced.false (not-false _ c.if-not-next.false) l g.given.tabled g.given.planned g.given.layout_is in
-          followed_more l _ _ _ _ _ _ _ _ _ _ g in-it _ (entered c).before.before.before.before.before.before.before.before.before.cut_of.ensures _ one _ f.marks_same _ _ _ c.settle-c-in-loop-left.ensures),
-      ap length c.copy_minutes-in-loop-left.ensures ∙ (held c).given.planned.carried.least.fit.size,
+          followed_more l _ _ _ _ _ _ _ _ _ _ g in-it _ c.cut_of-cut.ensures _ one _ f.marks_same _ _ _ c.settle-c-in-loop-left.ensures),
+      ap length c.copy_minutes-in-loop-left.ensures ∙ (held).given.planned.carried.least.fit.size,
     )
 
 pub returns : goal.returns

@@ -20,19 +20,19 @@ pub returns-then-not-same_list : goal.returns-then-not-same_list
 returns-then-not-same_list c =
     let i = c.loop-k in
     let here = c.loop-k-test.true in
-    let size : length c.args.t2.at ≡ 22 = sym (length-map c.args.t2.at _) ∙ c.well_formed.1.0.1.1.1.0.1.0.1 in
-    wrong_at _ _ i.k (omega (arith, lists_size c.args.t2.at c.args.t2.count (omega (arith, size, c.requires)), here))
-    (same_at c.args.t1 c.args.t2.at c.args.t2.count i.k here ∙ sym c.same_list.ensures ∙ not-true _ c.if-not-same_list.true) i.invariant.1
+    let size : length c.args.own.at ≡ 22 = sym (length-map c.args.own.at _) ∙ c.well_formed.1.0.1.1.1.0.1.0.1 in
+    wrong_at _ _ i.k (omega (arith, lists_size c.args.own.at c.args.own.count (omega (arith, size, c.requires)), here))
+    (same_at c.args.lists c.args.own.at c.args.own.count i.k here ∙ sym c.same_list.ensures ∙ not-true _ c.if-not-same_list.true) i.invariant.1
 
 pub loop-k-preserved : goal.loop-k-preserved
 loop-k-preserved c =
     let i = c.loop-k in
     let here = c.loop-k-test.true in
-    let right = same_at c.args.t1 c.args.t2.at c.args.t2.count i.k here ∙ sym c.same_list.ensures ∙ not-false _ c.if-not-same_list.false in
-    (omega (arith, here), below_more (Right (map named (take c.args.t2.count c.args.t1)) (lists_in c.args.t2)) i.k i.invariant.1 right)
+    let right = same_at c.args.lists c.args.own.at c.args.own.count i.k here ∙ sym c.same_list.ensures ∙ not-false _ c.if-not-same_list.false in
+    (omega (arith, here), below_more (Right (map named (take c.args.own.count c.args.lists)) (lists_in c.args.own)) i.k i.invariant.1 right)
 
 pub returns : goal.returns
 returns c =
-    let size : length c.args.t2.at ≡ 22 = sym (length-map c.args.t2.at _) ∙ c.well_formed.1.0.1.1.1.0.1.0.1 in
+    let size : length c.args.own.at ≡ 22 = sym (length-map c.args.own.at _) ∙ c.well_formed.1.0.1.1.1.0.1.0.1 in
     wrong_none _ _ (λ k l. c.loop-k.invariant.1 k
-    (omega (arith, l, lists_size c.args.t2.at c.args.t2.count (omega (arith, size, c.requires)), c.loop-k-test.false)))
+    (omega (arith, l, lists_size c.args.own.at c.args.own.count (omega (arith, size, c.requires)), c.loop-k-test.false)))

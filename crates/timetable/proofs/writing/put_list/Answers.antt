@@ -21,14 +21,14 @@ put_field-at-requires c =
     (λ w. byte_some _ _ w.0.left w.1)
     c.if-count-eq0.branch in
     let count = c.size_of-count in
-    (omega (arith, list_size c.args.t3 count.result count.ensures.0 (ends), c.requires), omega (arith, count.ensures.1))
+    (omega (arith, list_size c.args.list count.result count.ensures.0 (ends), c.requires), omega (arith, count.ensures.1))
 
 pub loop-k-init : goal.loop-k-init
 loop-k-init c = (putting_start, omega arith)
 
 pub overflow_add-number : goal.overflow_add-number
 overflow_add-number c =
-    let short : Fits w16 (get_or c.args.t3.trains c.loop-k.k 0) = search rules in
+    let short : Fits w16 (get_or c.args.list.trains c.loop-k.k 0) = search rules in
     record { fits = omega (arith, short.fits) }
 
 pub put_field-at-requires-in-loop-k : goal.put_field-at-requires-in-loop-k
@@ -41,9 +41,9 @@ put_field-at-requires-in-loop-k c =
     let w = c.loop-k in
     let put = c.put_field-at in
     let count = c.size_of-count in
-    let size = list_size c.args.t3 count.result count.ensures.0 (ends) in
-    let short : Fits w16 (get_or c.args.t3.trains w.k 0) = search rules in
-    let room = name_room c.args.t3 count.result count.ensures.0 w.k w.invariant.0 here in
+    let size = list_size c.args.list count.result count.ensures.0 (ends) in
+    let short : Fits w16 (get_or c.args.list.trains w.k 0) = search rules in
+    let room = name_room c.args.list count.result count.ensures.0 w.k w.invariant.0 here in
     (rw c.after_field.ensures (room (omega (arith, size, c.requires, put.ensures.next, put.auto.0))), omega (arith, short.fits))
 
 pub loop-k-preserved : goal.loop-k-preserved
@@ -52,7 +52,7 @@ loop-k-preserved c =
     let here = c.loop-k-test.true in
     let w = c.loop-k in
     let count = c.size_of-count in
-    let step = next_name c.args.t3 count.result count.ensures.0 w.k here in
+    let step = next_name c.args.list count.result count.ensures.0 w.k here in
     (putting_step _ w.invariant.0 step (rw c.after_field.ensures at number.ensures), omega (arith, here))
 
 pub returns : goal.returns
@@ -65,5 +65,5 @@ returns c =
     let put = c.put_field-at in
     let count = c.size_of-count in
     let byte = ends in
-    let trains = putting_end w.invariant.0 (no_name c.args.t3 count.result count.ensures.0 w.k (omega (arith, c.loop-k-test.false, w.invariant.1))) in
-    rw (list-parts c.args.t3 count.result count.ensures.0 byte) (put_then put.ensures trains)
+    let trains = putting_end w.invariant.0 (no_name c.args.list count.result count.ensures.0 w.k (omega (arith, c.loop-k-test.false, w.invariant.1))) in
+    rw (list-parts c.args.list count.result count.ensures.0 byte) (put_then put.ensures trains)

@@ -21,22 +21,22 @@ pub put_list-at-requires : goal.put_list-at-requires
 put_list-at-requires c =
     let here = c.loop-k-test.true in
     let w = c.loop-k in
-    let size : length c.args.t3.at ≡ 22 = sym (length-map c.args.t3.at _) ∙ c.well_formed.1.1.0.1.1.1.0.1.0.1 in
-    let fits = rw (lists_text (take c.args.t3.count c.args.t3.at) []) at c.requires.1 in
-    each_room order_text order_then c.args.t3.count c.args.t3.at w.k (omega (arith, size, c.requires.0)) w.invariant.0 beyond here fits
+    let size : length c.args.lists.at ≡ 22 = sym (length-map c.args.lists.at _) ∙ c.well_formed.1.1.0.1.1.1.0.1.0.1 in
+    let fits = rw (lists_text (take c.args.lists.count c.args.lists.at) []) at c.requires.1 in
+    each_room order_text order_then c.args.lists.count c.args.lists.at w.k (omega (arith, size, c.requires.0)) w.invariant.0 beyond here fits
 
 pub loop-k-preserved : goal.loop-k-preserved
 loop-k-preserved c =
     let here = c.loop-k-test.true in
     let w = c.loop-k in
-    let size : length c.args.t3.at ≡ 22 = sym (length-map c.args.t3.at _) ∙ c.well_formed.1.1.0.1.1.1.0.1.0.1 in
+    let size : length c.args.lists.at ≡ 22 = sym (length-map c.args.lists.at _) ∙ c.well_formed.1.1.0.1.1.1.0.1.0.1 in
     let put = c.put_list-at.ensures in
-    let next = each_put order_text order_then c.args.t3.count c.args.t3.at w.k (omega (arith, size, c.requires.0)) w.invariant.0 beyond here put in
+    let next = each_put order_text order_then c.args.lists.count c.args.lists.at w.k (omega (arith, size, c.requires.0)) w.invariant.0 beyond here put in
     (next, omega (arith, here))
 
 pub returns : goal.returns
 returns c =
     let w = c.loop-k in
-    let size : length c.args.t3.at ≡ 22 = sym (length-map c.args.t3.at _) ∙ c.well_formed.1.1.0.1.1.1.0.1.0.1 in
-    rw (lists_text (take c.args.t3.count c.args.t3.at) [])
-    (each_end order_text order_then c.args.t3.count c.args.t3.at w.k (omega (arith, size, c.requires.0)) w.invariant.0 (omega arith))
+    let size : length c.args.lists.at ≡ 22 = sym (length-map c.args.lists.at _) ∙ c.well_formed.1.1.0.1.1.1.0.1.0.1 in
+    rw (lists_text (take c.args.lists.count c.args.lists.at) [])
+    (each_end order_text order_then c.args.lists.count c.args.lists.at w.k (omega (arith, size, c.requires.0)) w.invariant.0 (omega arith))

@@ -14,22 +14,22 @@ use Rattle.timetable.proofs.writing.write_minutes.Goals as goal
 
 pub put_minutes-count-requires : goal.put_minutes-count-requires
 put_minutes-count-requires c =
-    let size : length c.args.t2 ≡ 352 = search rules in
-    (c.requires.0, size, lines_fit c.args.line c.args.t2 c.requires.0 c.requires.1)
+    let size : length c.args.minutes ≡ 352 = search rules in
+    (c.requires.0, size, lines_fit c.args.line c.args.minutes c.requires.0 c.requires.1)
 
 pub slice_bounds-text-end : goal.slice_bounds-text-end
 slice_bounds-text-end c =
     let put = c.put_minutes-count in
-    omega (arith, lines_fit c.args.line c.args.t2 c.requires.0 c.requires.1, put.ensures.next, put.auto.0)
+    omega (arith, lines_fit c.args.line c.args.minutes c.requires.0 c.requires.1, put.ensures.next, put.auto.0)
 
 pub slice_bounds-lend_text-end : goal.slice_bounds-lend_text-end
 slice_bounds-lend_text-end c =
     let put = c.put_minutes-count in
-    sym (length-take-le _ _ (omega (arith, lines_fit c.args.line c.args.t2 c.requires.0 c.requires.1, put.ensures.next, put.auto.0)))
+    sym (length-take-le _ _ (omega (arith, lines_fit c.args.line c.args.minutes c.requires.0 c.requires.1, put.ensures.next, put.auto.0)))
 
 pub returns : goal.returns
 returns c =
     let put = c.put_minutes-count in
-    let fits : length (minutes_text c.args.line c.args.t2 []) ≤ length (replicate {A = ℕ} 4096 0) =
-    rw (length-replicate {A = ℕ} 4096 0) (lines_fit c.args.line c.args.t2 c.requires.0 c.requires.1) in
-    lent_front (replicate 4096 0) (minutes_text c.args.line c.args.t2 []) refl fits put.ensures c.lend_text.ensures
+    let fits : length (minutes_text c.args.line c.args.minutes []) ≤ length (replicate {A = ℕ} 4096 0) =
+    rw (length-replicate {A = ℕ} 4096 0) (lines_fit c.args.line c.args.minutes c.requires.0 c.requires.1) in
+    lent_front (replicate 4096 0) (minutes_text c.args.line c.args.minutes []) refl fits put.ensures c.lend_text.ensures

@@ -5,6 +5,8 @@ use native.Mathlib.Omega.{arith}
 use borrow.Author.Tests.{not-true, not-false}
 use lib.ListN.{replicate}
 use Rattle.line.specs.RunnableLaws.{within_runnable}
+use Rattle.rules.specs.Statement.Paths.{EachTrain}
+use Rattle.rules.specs.Statement.Rules.{NotLate}
 use Rattle.orders.specs.LeastMinutes.NoLater.{WithinDays}
 use Rattle.orders.specs.LeastMinutes.Carried.{Carried}
 use Rattle.orders.specs.Plan.Marks.{free}
@@ -43,7 +45,12 @@ take_up-tally-requires c =
 pub returns : goal.returns
 unfolding free
 returns c =
+    let timely : let l = (first c).before.args.line in let m = (first c).first-minutes.result.minutes in WithinDays m × EachTrain l (NotLate l m) = (first c).first-minutes.ensures.timely (not-false _ c.if-not-first.false) in
+    let carried : Carried (first c).before.args.line free (first c).first-minutes.result.minutes (first c).first-minutes.result.cost = (first c).first-minutes.ensures.carried (timely).0 in
+    let given : Given (first c).before.args.line (first c).first-minutes.result.minutes (replicate 368 0) (replicate 352 0) c.tables_of-t.result c.directions_of-ds.result c.key_of-key.result c.layout_of-layout.result (first c).first-minutes.result.cost (record { found = false; delay = 0; steps = 1 }) = let a = (first c).before in
+    first_given a.args.line a.pre.0 a.pre.1 _ _ (carried) (timely).1 _ _ _ _ c.tables_of-t.ensures
+    c.directions_of-ds.ensures c.key_of-key.ensures c.layout_of-layout.ensures _ refl (omega arith) in
     let a = (first c).before in
     subst (FindsWalked a.args.line) (sym c.found_of-2.ensures)
-    (finds_walked a.args.line a.pre.0 a.pre.1 (first c).first-minutes.result.minutes (carried c).least (replicate 352 0) refl refl
-    (c.take_up-tally.ensures a.args.line (given c)))
+    (finds_walked a.args.line a.pre.0 a.pre.1 (first c).first-minutes.result.minutes (carried).least (replicate 352 0) refl refl
+    (c.take_up-tally.ensures a.args.line (given)))
