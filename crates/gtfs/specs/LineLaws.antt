@@ -9,13 +9,13 @@ use Rattle.text.specs.declared.Digit.{Digit}
 use Rattle.text.specs.Reading.Bytes.{from, digit_of}
 use Rattle.text.specs.Reading.BytesLaws.{digit_worth, feed_ends}
 use Rattle.text.specs.Reading.Parsed.{Parsed}
-use Rattle.text.specs.Reading.ParsedLaws.{then_got, got_is, ranged_spelt, ranged_reads, Reads, reads_then, at_end}
+use Rattle.text.proofs.Reading.ParsedLaws.{then_got, got_is, ranged_spelt, ranged_reads, Reads, reads_then, at_end}
 use Rattle.text.specs.Reading.Fixed.{text_at, paired_at}
-use Rattle.text.specs.Reading.FixedLaws.{Bytes, text_spelt, text_reads, paired_spelt, paired_reads}
+use Rattle.text.proofs.Reading.FixedLaws.{Bytes, text_spelt, text_reads, paired_spelt, paired_reads}
 use Rattle.text.specs.Writing.Digits.{pair_text}
 use Rattle.text.specs.Places.Lines.{feeds, HoldsOn, Spans}
-use Rattle.text.specs.Places.LinesLaws.{KeepsPassing, stands_then, stands_ranged, stands_paired, stands_text}
-use Rattle.text.specs.Places.SpansLaws.{spans_then, spans_as, spans_ranged, spans_paired, spans_text}
+use Rattle.text.proofs.Places.LinesLaws.{KeepsPassing, stands_then, stands_ranged, stands_paired, stands_text}
+use Rattle.text.proofs.Places.SpansLaws.{spans_then, spans_as, spans_ranged, spans_paired, spans_text}
 use Rattle.line.specs.Spell.{field}
 use Rattle.gtfs.specs.declared.stops.StopTime.{StopTime}
 use Rattle.gtfs.specs.Spell.{seconds, clock_text, stop_time_text}

@@ -9,8 +9,8 @@ use Rattle.text.specs.Reading.Choice.{pick}
 use Rattle.text.specs.Reading.Parsed.{Parsed, then_read}
 use Rattle.text.specs.Reading.Fixed.{text_at}
 use Rattle.text.specs.Places.Lines.{LineAt, Stood, HoldsOn, AnyNumber, OnLine, Spans}
-use Rattle.text.specs.Places.LinesLaws.{KeepsPassing, keeps_line, line_first, stood_line, stands_then, stands_test, stands_bad, stands_text}
-use Rattle.text.specs.Places.SpansLaws.{spans_then, spans_text, spans_as}
+use Rattle.text.proofs.Places.LinesLaws.{KeepsPassing, keeps_line, line_first, stood_line, stands_then, stands_test, stands_bad, stands_text}
+use Rattle.text.proofs.Places.SpansLaws.{spans_then, spans_text, spans_as}
 use Rattle.line.specs.declared.Train.{Train}
 use Rattle.line.specs.declared.Line.{Line}
 use Rattle.line.specs.Runnable.{Runnable}

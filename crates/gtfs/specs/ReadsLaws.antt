@@ -17,8 +17,8 @@ use Rattle.text.specs.declared.Cursor.{Cursor}
 use Rattle.text.specs.Reading.Bytes.{from}
 use Rattle.text.specs.Reading.BytesLaws.{at_length}
 use Rattle.text.specs.Reading.Parsed.{Parsed}
-use Rattle.text.specs.Reading.ParsedLaws.{Reads, at_end}
-use Rattle.text.specs.Reading.FixedLaws.{text_reads}
+use Rattle.text.proofs.Reading.ParsedLaws.{Reads, at_end}
+use Rattle.text.proofs.Reading.FixedLaws.{text_reads}
 use Rattle.line.specs.declared.Train.{Train}
 use Rattle.line.specs.declared.Line.{Line}
 use Rattle.line.specs.Record.{legs_of}

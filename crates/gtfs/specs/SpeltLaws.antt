@@ -11,9 +11,9 @@ use Rattle.finite.specs.LoopLaws.{each_first}
 use Rattle.text.specs.declared.Cursor.{Cursor}
 use Rattle.text.specs.Reading.Bytes.{from}
 use Rattle.text.specs.Reading.Parsed.{Parsed}
-use Rattle.text.specs.Reading.ParsedLaws.{then_got, pick_got, got_is}
+use Rattle.text.proofs.Reading.ParsedLaws.{then_got, pick_got, got_is}
 use Rattle.text.specs.Reading.Fixed.{text_at}
-use Rattle.text.specs.Reading.FixedLaws.{text_spelt}
+use Rattle.text.proofs.Reading.FixedLaws.{text_spelt}
 use Rattle.line.specs.declared.Train.{Train}
 use Rattle.line.specs.declared.Line.{Line}
 use Rattle.line.specs.Record.{legs_of}

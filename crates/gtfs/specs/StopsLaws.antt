@@ -10,7 +10,7 @@ use Rattle.text.specs.declared.Cursor.{Cursor}
 use Rattle.text.specs.declared.Ending.{Ending}
 use Rattle.text.specs.Reading.Choice.{pick}
 use Rattle.text.specs.Reading.Parsed.{Parsed}
-use Rattle.text.specs.Reading.ParsedLaws.{then_got, bad_got, got_is}
+use Rattle.text.proofs.Reading.ParsedLaws.{then_got, bad_got, got_is}
 use Rattle.text.specs.Reading.Fixed.{text_at}
 use Rattle.text.specs.Reading.Told.{told_ending}
 use Rattle.line.specs.declared.Train.{Train}

@@ -15,10 +15,10 @@ use Rattle.text.specs.Elements.Padded.{padded}
 use Rattle.text.specs.Elements.PaddedLaws.{take-padded, padded-length}
 use Rattle.text.specs.Elements.EachThen.{each_then}
 use Rattle.text.specs.Sections.Chained.{EachAfter, optional_text}
-use Rattle.text.specs.Sections.ChainedLaws.{chained-spelt, optional_spelt}
+use Rattle.text.proofs.Sections.ChainedLaws.{chained-spelt, optional_spelt}
 use Rattle.finite.specs.Each.{Each}
 use Rattle.text.specs.Reading.Parsed.{Parsed, lines}
-use Rattle.text.specs.Reading.ParsedLaws.{then_got, pick_got, got_is, ranged_spelt, PartSpelt, many-spelt}
+use Rattle.text.proofs.Reading.ParsedLaws.{then_got, pick_got, got_is, ranged_spelt, PartSpelt, many-spelt}
 use Rattle.line.specs.declared.Kind.{Kind}
 use Rattle.line.specs.declared.Segment.{Segment}
 use Rattle.line.specs.declared.Train.{Train}

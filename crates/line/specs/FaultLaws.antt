@@ -8,7 +8,7 @@ use Rattle.text.specs.declared.Bounded.{Bounded}
 use Rattle.text.specs.Reading.Choice.{pick, on_bounded}
 use Rattle.text.specs.Reading.Limits.{bounded_of}
 use Rattle.text.specs.Elements.LeftLaws.{left_cons, left_none}
-use Rattle.text.specs.Reading.ParsedLaws.{bounded_within, bounded_fits}
+use Rattle.text.proofs.Reading.ParsedLaws.{bounded_within, bounded_fits}
 use Rattle.line.specs.declared.Train.{Train}
 use Rattle.line.specs.declared.Track.{Track}
 use Rattle.line.specs.declared.Traffic.{Traffic}

@@ -16,7 +16,7 @@ use Rattle.text.specs.Reading.Limits.{bounded_of}
 use Rattle.text.specs.Writing.Digits.{digits, field_text}
 use Rattle.text.specs.Elements.EachThen.{each_then}
 use Rattle.text.specs.Sections.Chained.{nothing, optional_text}
-use Rattle.text.specs.Sections.ChainedLaws.{optional_nothing}
+use Rattle.text.proofs.Sections.ChainedLaws.{optional_nothing}
 use Rattle.text.specs.Places.Lines.{feeds}
 use Rattle.text.specs.Places.FeedsLaws.{feeds-append, feeds-digits, feeds_each, Begins, each_begins}
 use Rattle.line.specs.declared.Kind.{Kind}

@@ -12,8 +12,8 @@ use Rattle.text.specs.Reading.Choice.{pick}
 use Rattle.text.specs.Reading.Bytes.{byte_at}
 use Rattle.text.specs.Reading.BytesLaws.{inside}
 use Rattle.text.specs.Reading.Parsed.{Parsed, then_read, map_parsed, many}
-use Rattle.text.specs.Reading.ParsedLaws.{ranged_spelt}
-use Rattle.text.specs.Elements.LayLaws.{lay_many}
+use Rattle.text.proofs.Reading.ParsedLaws.{ranged_spelt}
+use Rattle.text.proofs.Elements.LayLaws.{lay_many}
 use Rattle.text.specs.Reading.Told.{told_ending}
 use Rattle.line.specs.declared.Kind.{Kind}
 use Rattle.line.specs.declared.Segment.{Segment}

@@ -9,7 +9,7 @@ use Rattle.text.specs.Writing.Digits.{digits}
 use Rattle.text.specs.Writing.DigitsLaws.{digits-length}
 use Rattle.text.specs.Elements.EachThen.{each_then}
 use Rattle.text.specs.Sections.Chained.{EachAfter, optional_text}
-use Rattle.text.specs.Sections.ChainedLaws.{chain_length, optional_length}
+use Rattle.text.proofs.Sections.ChainedLaws.{chain_length, optional_length}
 use Rattle.finite.specs.Each.{Each}
 use Rattle.line.specs.declared.Segment.{Segment}
 use Rattle.line.specs.declared.Train.{Train}

@@ -7,7 +7,7 @@ use borrow.Author.Tests.{lt-ltb, le-ltb}
 use Rattle.text.specs.declared.Cursor.{Cursor}
 use Rattle.text.specs.Reading.Parsed.{Parsed, then_read}
 use Rattle.text.specs.Places.Lines.{Counted, AnyNumber, HoldsOn}
-use Rattle.text.specs.Places.LinesLaws.{keeps_counted}
+use Rattle.text.proofs.Places.LinesLaws.{keeps_counted}
 use Rattle.line.specs.declared.Segment.{Segment}
 use Rattle.line.specs.declared.Track.{Track}
 use Rattle.line.specs.declared.Train.{Train}

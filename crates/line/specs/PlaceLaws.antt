@@ -6,7 +6,7 @@ use Rattle.std.specs.Prelude.{◌≡◌, ◌⊎◌, not, ltb, eqb, length}
 use Rattle.std.proofs.Math.Path.{refl}
 use Rattle.std.proofs.Common.{sym, ap, ◌∙◌, inl, inr, arith}
 use mathlib.Core.List.{List, []}
-use Rattle.text.specs.Sections.ChainedLaws.{stands-chained, stands_optional}
+use Rattle.text.proofs.Sections.ChainedLaws.{stands-chained, stands_optional}
 use Rattle.std.proofs.Math.Decide.{dec_le}
 use Rattle.text.specs.declared.Cursor.{Cursor}
 use Rattle.text.specs.declared.Ending.{Ending}
@@ -17,7 +17,7 @@ use Rattle.text.specs.Reading.Bytes.{byte_at, ahead, past_of}
 use Rattle.text.specs.Reading.Parsed.{Parsed, lines}
 use Rattle.text.specs.Reading.Told.{told_ending}
 use Rattle.text.specs.Places.Lines.{LineAt, Counted, Stood, HoldsOn, AnyNumber, OnLine}
-use Rattle.text.specs.Places.LinesLaws.{KeepsPassing, keeps_line, keeps_counted, line_first, stood_line, line_most, stands_got, stands_bad, stands_then, stands_test, ahead_keeps, past_keeps, stands_ranged, stands-many}
+use Rattle.text.proofs.Places.LinesLaws.{KeepsPassing, keeps_line, keeps_counted, line_first, stood_line, line_most, stands_got, stands_bad, stands_then, stands_test, ahead_keeps, past_keeps, stands_ranged, stands-many}
 use Rattle.line.specs.declared.Kind.{Kind}
 use Rattle.line.specs.declared.Answer.{Answer}
 use Rattle.line.specs.declared.Train.{Train}

@@ -12,11 +12,11 @@ use Rattle.text.specs.Elements.Padded.{padded}
 use Rattle.text.specs.Elements.EachThen.{each_then}
 use Rattle.text.specs.Elements.PaddedLaws.{take-padded}
 use Rattle.text.specs.Sections.Chained.{EachAfter, nothing, optional_text}
-use Rattle.text.specs.Sections.ChainedLaws.{each_after-map, chained_reads, optional_reads}
+use Rattle.text.proofs.Sections.ChainedLaws.{each_after-map, chained_reads, optional_reads}
 use Rattle.finite.specs.DecideLaws.{is_true}
 use Rattle.finite.specs.Each.{Each}
 use Rattle.finite.specs.EachLaws.{each_both, each_take}
-use Rattle.text.specs.Reading.ParsedLaws.{Reads, ranged_reads, at_end, reads_then, many_reads}
+use Rattle.text.proofs.Reading.ParsedLaws.{Reads, ranged_reads, at_end, reads_then, many_reads}
 use Rattle.text.specs.Reading.Parsed.{Parsed}
 use Rattle.line.specs.declared.Kind.{Kind}
 use Rattle.line.specs.declared.Segment.{Segment}

@@ -1,7 +1,7 @@
 -- A law of lines whose trains can be run: a line within the limits is one.
 use Rattle.std.specs.Prelude.{ℕ}
 use Rattle.std.proofs.Common.{arith}
-use Rattle.text.specs.Sections.ChainedLaws.{each_of_after}
+use Rattle.text.proofs.Sections.ChainedLaws.{each_of_after}
 use Rattle.finite.specs.EachLaws.{each_map}
 use Rattle.line.specs.declared.Train.{Train}
 use Rattle.line.specs.declared.Line.{Line}

@@ -11,11 +11,11 @@ use Rattle.text.specs.declared.Ending.{Ending}
 use Rattle.text.specs.declared.Limits.{Limits}
 use Rattle.text.specs.Reading.Choice.{pick}
 use Rattle.text.specs.Reading.Parsed.{Parsed, then_read, map_parsed, lines}
-use Rattle.text.specs.Reading.ParsedLaws.{then_got, got_is, ranged_spelt}
+use Rattle.text.proofs.Reading.ParsedLaws.{then_got, got_is, ranged_spelt}
 use Rattle.text.specs.Elements.Padded.{padded}
 use Rattle.text.specs.Reading.Told.{told_ending}
 use Rattle.text.specs.Sections.Chained.{chained, left, optional_at}
-use Rattle.text.specs.Sections.ChainedLaws.{chained_done, chained-length}
+use Rattle.text.proofs.Sections.ChainedLaws.{chained_done, chained-length}
 use Rattle.line.specs.declared.Train.{Train}
 use Rattle.line.specs.declared.Booking.{Booking}
 use Rattle.line.specs.declared.Booked.{Booked}

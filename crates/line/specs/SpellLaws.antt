@@ -9,7 +9,7 @@ use Rattle.text.specs.Writing.Digits.{digits, field_text}
 use Rattle.text.specs.Elements.EachThen.{each_then}
 use Rattle.text.specs.Elements.LeftLaws.{left_cons, left_none}
 use Rattle.text.specs.Sections.Chained.{nothing, optional_text}
-use Rattle.text.specs.Sections.ChainedLaws.{optional_parts, optional_nothing}
+use Rattle.text.proofs.Sections.ChainedLaws.{optional_parts, optional_nothing}
 use Rattle.text.specs.Writing.Splice.{Put}
 use Rattle.text.specs.Writing.SpliceLaws.{Putting, putting_step, putting_room, putting_end}
 use Rattle.line.specs.declared.Segment.{Segment}

@@ -11,7 +11,7 @@ use Rattle.finite.specs.AlterLaws.{altered-length, altered_again, altered_keeps,
 use Rattle.text.specs.Elements.EachThen.{each_then}
 use Rattle.text.specs.Elements.Padded.{padded}
 use Rattle.text.specs.Elements.PaddedLaws.{padded-altered}
-use Rattle.text.specs.Sections.ChainedLaws.{each_after-map}
+use Rattle.text.proofs.Sections.ChainedLaws.{each_after-map}
 use Rattle.text.specs.Writing.Digits.{digits}
 use Rattle.line.specs.declared.Train.{Train}
 use Rattle.line.specs.declared.Booking.{Booking}

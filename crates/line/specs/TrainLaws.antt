@@ -8,7 +8,7 @@ use Rattle.std.proofs.Math.Numerals.{add-one}
 use Rattle.std.proofs.lemmas.List.Edits.{sets}
 use Rattle.text.specs.declared.Cursor.{Cursor}
 use Rattle.text.specs.Reading.Parsed.{Parsed, then_read, map_parsed}
-use Rattle.text.specs.Elements.LayLaws.{lay_many, lay_step, lay_stop}
+use Rattle.text.proofs.Elements.LayLaws.{lay_many, lay_step, lay_stop}
 use Rattle.text.specs.Elements.Padded.{padded}
 use Rattle.line.specs.declared.Train.{Train}
 use Rattle.line.specs.declared.reading.Head.{Head}

@@ -6,7 +6,7 @@ use Rattle.std.proofs.Math.Decide.{dec_lt}
 use Rattle.finite.specs.Below.{all}
 use Rattle.text.specs.declared.Bounded.{Bounded}
 use Rattle.text.specs.Reading.Limits.{bounded_of}
-use Rattle.text.specs.Reading.ParsedLaws.{bounded_within, bounded_fits}
+use Rattle.text.proofs.Reading.ParsedLaws.{bounded_within, bounded_fits}
 use Rattle.finite.specs.Decide.{Decides}
 use Rattle.finite.specs.DecideLaws.{decides_as, decides_le, decides_lt, decides_and}
 use Rattle.finite.specs.LoopLaws.{decides_all}

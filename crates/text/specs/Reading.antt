@@ -9,6 +9,3 @@ pub mod Fixed
 pub mod Told
 pub mod BytesLaws
 pub mod NumbersLaws
-pub mod ParsedLaws
-pub mod FixedLaws
-pub mod ToldLaws

@@ -1,3 +1,2 @@
--- Sections: lists whose elements depend on those before them, and the section that may be left off (`Chained`), with the laws of both round trips.
+-- Sections: lists whose elements depend on those before them, and the section that may be left off (`Chained`); the laws of both round trips are in proofs/.
 pub mod Chained
-pub mod ChainedLaws

@@ -12,7 +12,7 @@ use Rattle.text.specs.Reading.Bytes.{past_of}
 use Rattle.text.specs.Reading.Numbers.{number_at}
 use Rattle.text.specs.Reading.Limits.{bounded_of}
 use Rattle.text.specs.Reading.Parsed.{Parsed, many}
-use Rattle.text.specs.Reading.ParsedLaws.{bounded_within, ranged_spelt}
+use Rattle.text.proofs.Reading.ParsedLaws.{bounded_within, ranged_spelt}
 use Rattle.line.specs.File.{after_field}
 use Rattle.timetable.specs.Reading.{own_count_at, name_at, list_at}
 use Rattle.timetable.specs.ReadingLaws.{after_byte}

@@ -18,7 +18,7 @@ use Rattle.text.specs.Reading.Limits.{bounded_of}
 use Rattle.text.specs.Reading.Parsed.{Parsed, lines}
 use Rattle.text.specs.Reading.Told.{told_field}
 use Rattle.text.specs.Places.Lines.{LineAt, Counted, Stood, HoldsOn, AnyNumber, OnLine}
-use Rattle.text.specs.Places.LinesLaws.{KeepsPassing, keeps_line, keeps_counted, line_first, stood_line, line_most, stands_got, stands_bad, stands_then, stands_test, past_keeps, number_keeps, field_keeps, stands_ranged, stands-many}
+use Rattle.text.proofs.Places.LinesLaws.{KeepsPassing, keeps_line, keeps_counted, line_first, stood_line, line_most, stands_got, stands_bad, stands_then, stands_test, past_keeps, number_keeps, field_keeps, stands_ranged, stands-many}
 use Rattle.line.specs.declared.Train.{Train}
 use Rattle.line.specs.declared.Line.{Line}
 use Rattle.line.specs.File.{after_field}

@@ -4,7 +4,7 @@ use Rattle.std.proofs.Math.Path.{refl}
 use Rattle.std.proofs.Common.{ap, arith}
 use Rattle.text.specs.declared.Cursor.{Cursor}
 use Rattle.text.specs.Reading.Parsed.{Parsed}
-use Rattle.text.specs.Reading.ParsedLaws.{ranged_spelt}
+use Rattle.text.proofs.Reading.ParsedLaws.{ranged_spelt}
 use Rattle.line.specs.declared.Train.{Train}
 use Rattle.line.specs.declared.Line.{Line}
 use Rattle.line.specs.File.{after_field}

@@ -16,7 +16,7 @@ use Rattle.text.specs.Elements.EachThen.{each_then}
 use Rattle.finite.specs.Below.{EachFrom}
 use Rattle.finite.specs.LoopLaws.{each_first}
 use Rattle.text.specs.Reading.Parsed.{Parsed, many, lines}
-use Rattle.text.specs.Reading.ParsedLaws.{bounded_fits, Reads, ranged_reads, at_end, reads_then, many_reads}
+use Rattle.text.proofs.Reading.ParsedLaws.{bounded_fits, Reads, ranged_reads, at_end, reads_then, many_reads}
 use Rattle.line.specs.declared.Train.{Train}
 use Rattle.line.specs.declared.Line.{Line}
 use Rattle.line.specs.Record.{legs_of}

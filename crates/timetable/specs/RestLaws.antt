@@ -9,7 +9,7 @@ use Rattle.text.specs.declared.NumberField.{NumberField}
 use Rattle.text.specs.Reading.Numbers.{field_at}
 use Rattle.text.specs.Reading.Parsed.{Parsed, then_read, map_parsed, many, lines}
 use Rattle.text.specs.Reading.Told.{told_ending}
-use Rattle.text.specs.Reading.ParsedLaws.{many_done, many_step, many-stop}
+use Rattle.text.proofs.Reading.ParsedLaws.{many_done, many_step, many-stop}
 use Rattle.line.specs.declared.Line.{Line}
 use Rattle.rules.specs.Lists.Orders.{list_count}
 use Rattle.timetable.specs.declared.reading.TimetablePart.{TimetablePart}

@@ -22,7 +22,7 @@ use Rattle.text.specs.Elements.EachThen.{each_then}
 use Rattle.finite.specs.Below.{EachFrom}
 use Rattle.finite.specs.LoopLaws.{each_first}
 use Rattle.text.specs.Reading.Parsed.{Parsed, many, lines}
-use Rattle.text.specs.Reading.ParsedLaws.{then_got, pick_got, got_is, bounded_within, ranged_spelt, PartSpelt, many-spelt, many-length}
+use Rattle.text.proofs.Reading.ParsedLaws.{then_got, pick_got, got_is, bounded_within, ranged_spelt, PartSpelt, many-spelt, many-length}
 use Rattle.line.specs.declared.Train.{Train}
 use Rattle.line.specs.declared.Line.{Line}
 use Rattle.line.specs.Record.{legs_of}

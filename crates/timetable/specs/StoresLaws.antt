@@ -8,7 +8,7 @@ use Rattle.text.specs.declared.Cursor.{Cursor}
 use Rattle.finite.specs.Below.{EachFrom}
 use Rattle.finite.specs.DecideLaws.{by_test, decides_eq}
 use Rattle.text.specs.Reading.Parsed.{Parsed}
-use Rattle.text.specs.Reading.ParsedLaws.{then_got, got_is}
+use Rattle.text.proofs.Reading.ParsedLaws.{then_got, got_is}
 use Rattle.line.specs.declared.Train.{Train}
 use Rattle.line.specs.declared.Line.{Line}
 use Rattle.line.specs.Record.{legs_of}

@@ -18,7 +18,7 @@ use Rattle.finite.specs.Below.{EachBelow}
 use Rattle.finite.specs.LoopLaws.{decides_all, first_found, first_none, none_first}
 use Rattle.text.specs.declared.Bounded.{Bounded}
 use Rattle.text.specs.Reading.Limits.{bounded_of}
-use Rattle.text.specs.Reading.ParsedLaws.{bounded_within, bounded_fits}
+use Rattle.text.proofs.Reading.ParsedLaws.{bounded_within, bounded_fits}
 use Rattle.text.specs.Writing.Digits.{field_text}
 use Rattle.text.specs.Elements.EachThen.{each_then}
 use Rattle.text.specs.Writing.Lend.{Spelling}

@@ -1,6 +1,6 @@
 -- `text::limited` meets its contract: each `return` follows from the answers that led there, by the law of that case. Assumes nothing.
 use mathlib.Core.Path.{◌∙◌, sym}
-use Rattle.text.specs.Reading.ParsedLaws.{limited_malformed, limited_outside, limited_value}
+use Rattle.text.proofs.Reading.ParsedLaws.{limited_malformed, limited_outside, limited_value}
 use Rattle.text.proofs.limited.Goals as goal
 
 pub returns-in_default : goal.returns-in_default

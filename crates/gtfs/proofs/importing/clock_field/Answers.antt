@@ -3,8 +3,8 @@
 use mathlib.Core.Path.{◌∙◌, sym, ap}
 use native.Mathlib.Omega.{arith}
 use Rattle.text.specs.Places.Lines.{Counted, AnyNumber}
-use Rattle.text.specs.Places.LinesLaws.{keeps_counted, stands_got, stands_paired}
-use Rattle.text.specs.Reading.FixedLaws.{paired_spelt}
+use Rattle.text.proofs.Places.LinesLaws.{keeps_counted, stands_got, stands_paired}
+use Rattle.text.proofs.Reading.FixedLaws.{paired_spelt}
 use Rattle.text.specs.Reading.Told.{told_field}
 use Rattle.line.specs.FileLaws.{ended_told}
 use Rattle.gtfs.specs.LineLaws.{clock_no_hour, clock_no_minute, clock_no_seconds, clock_got}

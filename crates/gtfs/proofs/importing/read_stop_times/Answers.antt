@@ -2,7 +2,7 @@
 use mathlib.Core.Path.{◌∙◌, sym}
 use native.Mathlib.Omega.{arith}
 use Rattle.text.specs.Places.Lines.{Counted, AnyNumber}
-use Rattle.text.specs.Places.LinesLaws.{keeps_counted, stands_got, stands_text}
+use Rattle.text.proofs.Places.LinesLaws.{keeps_counted, stands_got, stands_text}
 use Rattle.line.specs.FileLaws.{ended_told}
 use Rattle.gtfs.specs.Spell.{header}
 use Rattle.gtfs.specs.StopsLaws.{file_no_header, file_no_trips, file_more, file_got}

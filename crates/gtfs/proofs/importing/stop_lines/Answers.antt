@@ -4,7 +4,7 @@ use mathlib.Core.Path.{◌≡◌, ◌∙◌, sym, refl}
 use native.Mathlib.Omega.{arith}
 use native.Mathlib.Nat.{sub-zero}
 use Rattle.text.specs.Places.Lines.{Counted, AnyNumber}
-use Rattle.text.specs.Places.LinesLaws.{keeps_counted, stands_got}
+use Rattle.text.proofs.Places.LinesLaws.{keeps_counted, stands_got}
 use Rattle.line.specs.FileLaws.{ended_told}
 use Rattle.gtfs.specs.StopsLaws.{due_told, stops_done, stops_refused, stops_step}
 use Rattle.gtfs.specs.PlaceLaws.{any_stop_times_number, stands-due}

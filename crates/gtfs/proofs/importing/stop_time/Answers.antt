@@ -3,7 +3,7 @@
 use mathlib.Core.Path.{◌∙◌, sym, ap}
 use mathlib.Core.List.{◌∷◌, []}
 use Rattle.text.specs.Places.Lines.{Counted, AnyNumber}
-use Rattle.text.specs.Places.LinesLaws.{keeps_counted, stands_got, stands_text, field_counted}
+use Rattle.text.proofs.Places.LinesLaws.{keeps_counted, stands_got, stands_text, field_counted}
 use Rattle.text.specs.Reading.Told.{told_field, ending_of}
 use Rattle.line.specs.FileLaws.{ended_told}
 use Rattle.gtfs.specs.LineLaws.{time_no_letter, time_no_trip, time_no_arrival, time_no_departure, time_no_station, time_no_sequence, time_got, stands_clock}

@@ -2,7 +2,7 @@
 use mathlib.Core.Path.{◌∙◌, sym}
 use native.Mathlib.Omega.{arith}
 use Rattle.text.specs.Places.Lines.{Counted, AnyNumber}
-use Rattle.text.specs.Places.LinesLaws.{keeps_counted, stands_got}
+use Rattle.text.proofs.Places.LinesLaws.{keeps_counted, stands_got}
 use Rattle.line.specs.FileLaws.{ended_told}
 use Rattle.gtfs.specs.StopsLaws.{due_told, trip_refused, trip_begun}
 use Rattle.gtfs.specs.PlaceLaws.{any_stop_times_number, stands-due}

@@ -1,5 +1,5 @@
 -- `line::Station::value` meets its contract: the limits are those of the numbers. Assumes nothing.
-use Rattle.text.specs.Reading.ParsedLaws.{bounded_by}
+use Rattle.text.proofs.Reading.ParsedLaws.{bounded_by}
 use Rattle.line.specs.Ranges.{station}
 use Rattle.line.proofs.Station.value.Goals as goal
 

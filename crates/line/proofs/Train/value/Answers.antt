@@ -1,5 +1,5 @@
 -- `line::Train::value` meets its contract: the limits are those of the numbers. Assumes nothing.
-use Rattle.text.specs.Reading.ParsedLaws.{bounded_by}
+use Rattle.text.proofs.Reading.ParsedLaws.{bounded_by}
 use Rattle.line.specs.Ranges.{train_number}
 use Rattle.line.proofs.Train.value.Goals as goal
 

@@ -10,9 +10,9 @@ use Rattle.text.specs.declared.Ending.{Ending}
 use Rattle.text.specs.Reading.Parsed.{Parsed}
 use Rattle.text.specs.Reading.Told.{told_ending}
 use Rattle.text.specs.Elements.Padded.{padded}
-use Rattle.text.specs.Elements.LayLaws.{lay_chain, chain_lay_done, chain_lay_step, chain_lay_stop}
+use Rattle.text.proofs.Elements.LayLaws.{lay_chain, chain_lay_done, chain_lay_step, chain_lay_stop}
 use Rattle.text.specs.Places.Lines.{Counted, AnyNumber}
-use Rattle.text.specs.Places.LinesLaws.{keeps_counted}
+use Rattle.text.proofs.Places.LinesLaws.{keeps_counted}
 use Rattle.line.specs.declared.Traffic.{Traffic}
 use Rattle.line.specs.declared.Booking.{Booking}
 use Rattle.line.specs.Record.{no_booking}

@@ -2,8 +2,8 @@
 -- there are still no more lines than bytes. Assumes nothing.
 use mathlib.Core.Path.{◌∙◌, refl, sym, ap}
 use Rattle.text.specs.Reading.Told.{ending_of}
-use Rattle.text.specs.Reading.ToldLaws.{ranged_told}
-use Rattle.text.specs.Places.LinesLaws.{field_counted}
+use Rattle.text.proofs.Reading.ToldLaws.{ranged_told}
+use Rattle.text.proofs.Places.LinesLaws.{field_counted}
 use Rattle.line.specs.Ranges.{train_number, station}
 use Rattle.line.specs.FileLaws.{ended_told, place_no_train, place_no_station, place_got}
 use Rattle.line.proofs.reading.booking_place.Goals as goal

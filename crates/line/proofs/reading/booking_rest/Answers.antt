@@ -3,7 +3,7 @@
 use mathlib.Core.Path.{◌∙◌, refl, sym, ap}
 use mathlib.Core.Bool.{not}
 use Rattle.text.specs.Reading.Told.{ending_of}
-use Rattle.text.specs.Reading.ToldLaws.{ranged_told}
+use Rattle.text.proofs.Reading.ToldLaws.{ranged_told}
 use Rattle.line.specs.Ranges.{time}
 use Rattle.line.specs.FileLaws.{ended_told, rest_not-standing, rest_no_minute, rest_got}
 use Rattle.line.proofs.reading.booking_rest.Goals as goal

@@ -3,10 +3,10 @@
 use mathlib.Core.Path.{◌∙◌, sym, ap, refl}
 use native.Mathlib.Omega.{arith}
 use lib.ListN.{take}
-use Rattle.text.specs.Places.LinesLaws.{field_counted}
-use Rattle.text.specs.Reading.ParsedLaws.{ranged_spelt}
+use Rattle.text.proofs.Places.LinesLaws.{field_counted}
+use Rattle.text.proofs.Reading.ParsedLaws.{ranged_spelt}
 use Rattle.text.specs.Reading.Told.{ending_of}
-use Rattle.text.specs.Reading.ToldLaws.{ranged_told}
+use Rattle.text.proofs.Reading.ToldLaws.{ranged_told}
 use Rattle.line.specs.Ranges.{booking_count}
 use Rattle.line.specs.Record.{no_booking}
 use Rattle.line.specs.File.{booking_line}

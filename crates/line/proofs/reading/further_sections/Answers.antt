@@ -9,7 +9,7 @@ use Rattle.text.specs.declared.Cursor.{Cursor}
 use Rattle.text.specs.declared.Ending.{Ending}
 use Rattle.text.specs.declared.Limits.{Limits}
 use Rattle.text.specs.Places.Lines.{Counted, AnyNumber}
-use Rattle.text.specs.Places.LinesLaws.{keeps_counted, stands_got}
+use Rattle.text.proofs.Places.LinesLaws.{keeps_counted, stands_got}
 use Rattle.text.specs.Reading.Parsed.{map_parsed}
 use Rattle.text.specs.Reading.Told.{told_ending}
 use Rattle.line.specs.declared.Train.{Train}

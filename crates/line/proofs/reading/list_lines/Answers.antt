@@ -11,9 +11,9 @@ use Rattle.text.specs.declared.Limits.{Limits}
 use Rattle.text.specs.Reading.Parsed.{Parsed}
 use Rattle.text.specs.Reading.Told.{told_ending}
 use Rattle.text.specs.Elements.Padded.{padded}
-use Rattle.text.specs.Elements.LayLaws.{lay_chain, chain_lay_done, chain_lay_step, chain_lay_stop}
+use Rattle.text.proofs.Elements.LayLaws.{lay_chain, chain_lay_done, chain_lay_step, chain_lay_stop}
 use Rattle.text.specs.Places.Lines.{Counted, AnyNumber}
-use Rattle.text.specs.Places.LinesLaws.{keeps_counted}
+use Rattle.text.proofs.Places.LinesLaws.{keeps_counted}
 use Rattle.line.specs.declared.Listed.{Listed}
 use Rattle.line.specs.Record.{no_listed}
 use Rattle.line.specs.File.{listed_line}

@@ -2,10 +2,10 @@
 -- are. Assumes nothing.
 use mathlib.Core.Path.{◌∙◌, sym, ap, refl}
 use native.Mathlib.Omega.{arith}
-use Rattle.text.specs.Places.LinesLaws.{field_counted}
-use Rattle.text.specs.Reading.ParsedLaws.{ranged_spelt}
+use Rattle.text.proofs.Places.LinesLaws.{field_counted}
+use Rattle.text.proofs.Reading.ParsedLaws.{ranged_spelt}
 use Rattle.text.specs.Reading.Told.{ending_of}
-use Rattle.text.specs.Reading.ToldLaws.{ranged_told}
+use Rattle.text.proofs.Reading.ToldLaws.{ranged_told}
 use Rattle.line.specs.Record.{no_listed}
 use Rattle.line.specs.File.{listed_line}
 use Rattle.line.specs.SectionLaws.{told_got, bad_told, told_bad, rising_left_off, rising_no_count, rising_empty_last, rising_lines}

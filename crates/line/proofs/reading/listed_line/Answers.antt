@@ -2,8 +2,8 @@
 -- field there are still no more lines than bytes. Assumes nothing.
 use mathlib.Core.Path.{◌∙◌, refl, sym, ap}
 use Rattle.text.specs.Reading.Told.{ending_of}
-use Rattle.text.specs.Reading.ToldLaws.{ranged_told}
-use Rattle.text.specs.Places.LinesLaws.{field_counted}
+use Rattle.text.proofs.Reading.ToldLaws.{ranged_told}
+use Rattle.text.proofs.Places.LinesLaws.{field_counted}
 use Rattle.line.specs.Ranges.{train_number}
 use Rattle.line.specs.FileLaws.{ended_told, listed_no_train, listed-not_rising, listed_no_minutes, listed_got}
 use Rattle.line.proofs.reading.listed_line.Goals as goal

@@ -2,8 +2,8 @@
 -- there are still no more lines than bytes. Assumes nothing.
 use mathlib.Core.Path.{◌∙◌, refl, sym, ap}
 use Rattle.text.specs.Reading.Told.{ending_of}
-use Rattle.text.specs.Places.LinesLaws.{field_counted}
-use Rattle.text.specs.Reading.ToldLaws.{ranged_told}
+use Rattle.text.proofs.Places.LinesLaws.{field_counted}
+use Rattle.text.proofs.Reading.ToldLaws.{ranged_told}
 use Rattle.line.specs.Ranges.{station}
 use Rattle.line.specs.FileLaws.{ended_told, path_no_origin, path_no_destination, path_nowhere, path_got}
 use Rattle.line.proofs.reading.path_fields.Goals as goal

@@ -5,10 +5,10 @@ use native.Mathlib.Omega.{arith}
 use native.Mathlib.Nat.{sub-zero}
 use lib.ListN.{replicate}
 use Rattle.text.specs.Elements.Padded.{padded}
-use Rattle.text.specs.Places.LinesLaws.{field_counted}
+use Rattle.text.proofs.Places.LinesLaws.{field_counted}
 use Rattle.text.specs.Reading.Told.{ending_of}
-use Rattle.text.specs.Reading.ToldLaws.{ranged_told}
-use Rattle.text.specs.Elements.LayLaws.{lay_many, lay_done, lay_step, lay_stop}
+use Rattle.text.proofs.Reading.ToldLaws.{ranged_told}
+use Rattle.text.proofs.Elements.LayLaws.{lay_many, lay_done, lay_step, lay_stop}
 use Rattle.line.specs.declared.Segment.{Segment}
 use Rattle.line.specs.Ranges.{gap}
 use Rattle.line.specs.File.{told_kind, segment_line}

@@ -4,7 +4,7 @@ use Prim.Native.Nat.{◌≤◌, ◌-◌}
 use mathlib.Core.Path.{◌≡◌, ap}
 use lib.ListN.{replicate}
 use Rattle.text.specs.Places.Lines.{Counted}
-use Rattle.text.specs.Elements.LayLaws.{lay_many}
+use Rattle.text.proofs.Elements.LayLaws.{lay_many}
 use Rattle.line.specs.Ranges.{gap}
 use Rattle.line.specs.File.{segment_line}
 use Rattle.line.specs.FileLaws.{gap_at}

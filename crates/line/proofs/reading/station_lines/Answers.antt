@@ -4,10 +4,10 @@ use mathlib.Core.Path.{◌≡◌, ◌∙◌, sym, ap, refl}
 use native.Mathlib.Omega.{arith}
 use native.Mathlib.Nat.{sub-zero}
 use Rattle.text.specs.Elements.Padded.{padded}
-use Rattle.text.specs.Places.LinesLaws.{field_counted}
-use Rattle.text.specs.Elements.LayLaws.{lay_done, lay_step, lay_stop}
+use Rattle.text.proofs.Places.LinesLaws.{field_counted}
+use Rattle.text.proofs.Elements.LayLaws.{lay_done, lay_step, lay_stop}
 use Rattle.text.specs.Reading.Told.{ending_of}
-use Rattle.text.specs.Reading.ToldLaws.{ranged_told}
+use Rattle.text.proofs.Reading.ToldLaws.{ranged_told}
 use Rattle.line.specs.Ranges.{tracks}
 use Rattle.line.specs.File.{station_line}
 use Rattle.line.specs.FileLaws.{ended_told}

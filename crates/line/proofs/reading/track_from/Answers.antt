@@ -5,7 +5,7 @@ use mathlib.Core.Path.{◌≡◌, ◌∙◌, sym, ap}
 use mathlib.Core.List.{List}
 use native.Mathlib.Omega.{arith}
 use Rattle.text.specs.Places.Lines.{Counted, AnyNumber}
-use Rattle.text.specs.Places.LinesLaws.{keeps_counted}
+use Rattle.text.proofs.Places.LinesLaws.{keeps_counted}
 use Rattle.text.specs.declared.Cursor.{Cursor}
 use Rattle.text.specs.declared.Ending.{Ending}
 use Rattle.text.specs.Reading.Parsed.{Parsed}

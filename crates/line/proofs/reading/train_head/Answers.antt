@@ -3,8 +3,8 @@
 use mathlib.Core.Path.{◌∙◌, sym, ap, refl}
 use Rattle.text.specs.Reading.Told.{ending_of}
 use Rattle.text.specs.Places.Lines.{Counted, AnyNumber}
-use Rattle.text.specs.Places.LinesLaws.{keeps_counted, field_counted}
-use Rattle.text.specs.Reading.ToldLaws.{ranged_told}
+use Rattle.text.proofs.Places.LinesLaws.{keeps_counted, field_counted}
+use Rattle.text.proofs.Reading.ToldLaws.{ranged_told}
 use Rattle.line.specs.Ranges.{time, weight}
 use Rattle.line.specs.PlaceLaws.{any_line_number, stands_path, part_counted}
 use Rattle.line.specs.FileLaws.{ended_told, head_no_path, head_no_earliest, head_no_latest, head_no_weight, head_got}

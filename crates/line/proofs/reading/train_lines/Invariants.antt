@@ -5,7 +5,7 @@ use Prim.Native.Nat.{◌≤◌, ◌-◌, ◌+◌}
 use mathlib.Core.Path.{◌≡◌}
 use lib.ListN.{replicate}
 use Rattle.text.specs.Places.Lines.{Counted}
-use Rattle.text.specs.Elements.LayLaws.{lay_many}
+use Rattle.text.proofs.Elements.LayLaws.{lay_many}
 use Rattle.line.specs.Record.{no_train}
 use Rattle.line.specs.File.{train_line}
 use Rattle.line.specs.Ranges.{run, stop}

@@ -1,10 +1,10 @@
 -- `line::reading::train_section` meets its contract: it is refused at its count, or it is what its lines are. Assumes nothing.
 use mathlib.Core.Path.{◌∙◌, sym, ap, refl}
 use native.Mathlib.Omega.{arith}
-use Rattle.text.specs.Places.LinesLaws.{field_counted}
-use Rattle.text.specs.Reading.ParsedLaws.{ranged_spelt}
+use Rattle.text.proofs.Places.LinesLaws.{field_counted}
+use Rattle.text.proofs.Reading.ParsedLaws.{ranged_spelt}
 use Rattle.text.specs.Reading.Told.{ending_of}
-use Rattle.text.specs.Reading.ToldLaws.{ranged_told}
+use Rattle.text.proofs.Reading.ToldLaws.{ranged_told}
 use Rattle.line.specs.Ranges.{train_count}
 use Rattle.line.specs.FileLaws.{ended_told}
 use Rattle.line.specs.SectionLaws.{section_no_count, section_lines}

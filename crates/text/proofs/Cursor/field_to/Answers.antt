@@ -3,7 +3,7 @@
 use mathlib.Core.Path.{◌∙◌, sym}
 use Rattle.text.specs.Reading.Numbers.{field_at}
 use Rattle.text.specs.Places.Lines.{Counted}
-use Rattle.text.specs.Places.LinesLaws.{keeps_counted, number_keeps}
+use Rattle.text.proofs.Places.LinesLaws.{keeps_counted, number_keeps}
 use Rattle.text.proofs.Cursor.field_to.Goals as goal
 
 pub returns-in_default : goal.returns-in_default

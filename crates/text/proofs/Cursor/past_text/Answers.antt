@@ -2,8 +2,8 @@
 use mathlib.Core.Path.{◌∙◌, sym, refl}
 use native.Mathlib.Omega.{arith}
 use Rattle.text.specs.Places.Lines.{Counted}
-use Rattle.text.specs.Places.LinesLaws.{keeps_counted, past_keeps}
-use Rattle.text.specs.Reading.FixedLaws.{all_step, all-stop, all_end, text_wrong, text_past}
+use Rattle.text.proofs.Places.LinesLaws.{keeps_counted, past_keeps}
+use Rattle.text.proofs.Reading.FixedLaws.{all_step, all-stop, all_end, text_wrong, text_past}
 use Rattle.text.proofs.Cursor.past_text.Goals as goal
 
 pub loop-i-init : goal.loop-i-init

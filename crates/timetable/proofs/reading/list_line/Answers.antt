@@ -4,10 +4,10 @@ use mathlib.Core.Path.{◌≡◌, ◌∙◌, sym, ap, refl}
 use native.Mathlib.Omega.{arith}
 use native.Mathlib.Nat.{sub-zero}
 use lib.ListN.{length, take, length-set}
-use Rattle.text.specs.Places.LinesLaws.{field_counted}
+use Rattle.text.proofs.Places.LinesLaws.{field_counted}
 use Rattle.text.specs.Reading.Parsed.{Parsed}
 use Rattle.text.specs.Reading.Told.{told_field, ending_of}
-use Rattle.text.specs.Reading.ToldLaws.{ranged_told}
+use Rattle.text.proofs.Reading.ToldLaws.{ranged_told}
 use Rattle.line.specs.FileLaws.{ended_told}
 use Rattle.timetable.specs.Reading.{name_at}
 use Rattle.timetable.specs.Spell.{numbers}

@@ -8,7 +8,7 @@ use lib.ListN.{length, take, length-set}
 use Rattle.text.specs.Elements.PaddedLaws.{stored_more}
 use Rattle.text.specs.Reading.Parsed.{Parsed, lines}
 use Rattle.text.specs.Places.Lines.{Counted, AnyNumber}
-use Rattle.text.specs.Places.LinesLaws.{keeps_counted}
+use Rattle.text.proofs.Places.LinesLaws.{keeps_counted}
 use Rattle.line.specs.PlaceLaws.{part_counted}
 use Rattle.line.specs.FileLaws.{ended_told}
 use Rattle.timetable.specs.Reading.{list_at}

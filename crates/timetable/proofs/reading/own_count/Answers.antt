@@ -5,8 +5,8 @@ use mathlib.Core.Logic.{⊎_elim}
 use mathlib.Core.Bool.{cond}
 use lib.Dec.{eqb}
 use Rattle.text.specs.Places.Lines.{Counted}
-use Rattle.text.specs.Reading.ParsedLaws.{bounded_by}
-use Rattle.text.specs.Places.LinesLaws.{keeps_counted, number_keeps}
+use Rattle.text.proofs.Reading.ParsedLaws.{bounded_by}
+use Rattle.text.proofs.Places.LinesLaws.{keeps_counted, number_keeps}
 use Rattle.timetable.specs.ListLaws.{byte_none, byte_some, own_malformed, own_unended, own_over, own_value}
 use Rattle.timetable.proofs.reading.own_count.Goals as goal
 

@@ -1,8 +1,8 @@
 -- `timetable::reading::read_minutes` meets its contract: refused at the count, or the lines of as many trains as the line has. Assumes nothing.
 use mathlib.Core.Path.{◌∙◌, sym, ap, refl}
-use Rattle.text.specs.Places.LinesLaws.{field_counted}
+use Rattle.text.proofs.Places.LinesLaws.{field_counted}
 use Rattle.text.specs.Reading.Told.{ending_of}
-use Rattle.text.specs.Reading.ToldLaws.{ranged_told}
+use Rattle.text.proofs.Reading.ToldLaws.{ranged_told}
 use Rattle.line.specs.FileLaws.{ended_told}
 use Rattle.timetable.specs.ReadingLaws.{minutes_no_count, minutes_counted}
 use Rattle.timetable.proofs.reading.read_minutes.Goals as goal

@@ -6,9 +6,9 @@ use native.Mathlib.Omega.{arith}
 use lib.ListN.{take}
 use Rattle.text.specs.Reading.Parsed.{Parsed}
 use Rattle.text.specs.Places.Lines.{Counted, AnyNumber}
-use Rattle.text.specs.Places.LinesLaws.{keeps_counted, field_counted}
+use Rattle.text.proofs.Places.LinesLaws.{keeps_counted, field_counted}
 use Rattle.text.specs.Reading.Told.{ending_of}
-use Rattle.text.specs.Reading.ToldLaws.{ranged_told}
+use Rattle.text.proofs.Reading.ToldLaws.{ranged_told}
 use Rattle.line.specs.FileLaws.{ended_told}
 use Rattle.line.specs.PlaceLaws.{part_counted}
 use Rattle.timetable.specs.Told.{named}

@@ -3,7 +3,7 @@ use mathlib.Core.Path.{◌∙◌, sym, ap}
 use native.Mathlib.Omega.{arith}
 use Rattle.text.specs.declared.Ending.{Ending}
 use Rattle.text.specs.Places.Lines.{Counted, AnyNumber}
-use Rattle.text.specs.Places.LinesLaws.{keeps_counted}
+use Rattle.text.proofs.Places.LinesLaws.{keeps_counted}
 use Rattle.line.specs.FileLaws.{ended_told}
 use Rattle.line.specs.PlaceLaws.{part_counted}
 use Rattle.timetable.specs.declared.reading.TimetablePart.{TimetablePart}

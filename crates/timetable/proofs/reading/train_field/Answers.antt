@@ -1,6 +1,6 @@
 -- `timetable::reading::train_field` meets its contract: each `return` follows from the answers that led there, by the law of that case. Assumes nothing.
 use mathlib.Core.Path.{◌∙◌, sym}
-use Rattle.text.specs.Reading.ParsedLaws.{ranged_malformed, ranged_outside, ranged_value}
+use Rattle.text.proofs.Reading.ParsedLaws.{ranged_malformed, ranged_outside, ranged_value}
 use Rattle.timetable.proofs.reading.train_field.Goals as goal
 
 pub returns-in_default : goal.returns-in_default

@@ -4,8 +4,8 @@ use mathlib.Core.Path.{◌≡◌, ◌∙◌, sym, ap, refl}
 use native.Mathlib.Omega.{arith}
 use native.Mathlib.Nat.{sub-zero}
 use Rattle.text.specs.Reading.Told.{ending_of}
-use Rattle.text.specs.Places.LinesLaws.{field_counted}
-use Rattle.text.specs.Reading.ToldLaws.{ranged_told}
+use Rattle.text.proofs.Places.LinesLaws.{field_counted}
+use Rattle.text.proofs.Reading.ToldLaws.{ranged_told}
 use Rattle.line.specs.FileLaws.{ended_told}
 use Rattle.line.specs.File.{after_field}
 use Rattle.timetable.specs.ReadingLaws.{legs_done, legs_no_departure, legs_no_arrival, legs_step}

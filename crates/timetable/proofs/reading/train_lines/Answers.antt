@@ -5,7 +5,7 @@ use native.Mathlib.Omega.{arith}
 use native.Mathlib.Nat.{sub-zero}
 use lib.ListN.{length, length-map}
 use Rattle.text.specs.Places.Lines.{Counted, AnyNumber}
-use Rattle.text.specs.Places.LinesLaws.{keeps_counted}
+use Rattle.text.proofs.Places.LinesLaws.{keeps_counted}
 use Rattle.line.specs.FileLaws.{ended_told}
 use Rattle.line.specs.PlaceLaws.{part_counted}
 use Rattle.line.specs.RunnableLaws.{within_runnable}

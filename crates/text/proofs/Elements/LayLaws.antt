@@ -4,9 +4,9 @@ use Rattle.std.proofs.Common.{ap, ◌∙◌, add-one}
 use Rattle.std.proofs.lemmas.List.Edits.{sets}
 use Rattle.text.specs.declared.Cursor.{Cursor}
 use Rattle.text.specs.Reading.Parsed.{Parsed, then_read, map_parsed, many}
-use Rattle.text.specs.Reading.ParsedLaws.{many_done, many_step, many-stop}
+use Rattle.text.proofs.Reading.ParsedLaws.{many_done, many_step, many-stop}
 use Rattle.text.specs.Sections.Chained.{chained}
-use Rattle.text.specs.Sections.ChainedLaws.{chained_done, chained_step, chained-stop}
+use Rattle.text.proofs.Sections.ChainedLaws.{chained_done, chained_step, chained-stop}
 
 -- k parts, their values laid into xs from index i on
 abbrev pub lay_many : {A : Type 0} → ℕ → (ℕ → List ℕ → Cursor → Parsed A) → List ℕ → Cursor → List A → ℕ → Parsed (List A)

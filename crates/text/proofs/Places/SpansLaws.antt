@@ -15,9 +15,9 @@ use Rattle.text.specs.Reading.Numbers.{number_at, field_at}
 use Rattle.text.specs.Reading.Limits.{bounded_of}
 use Rattle.text.specs.Reading.Parsed.{Parsed, then_read, limited, ranged_at}
 use Rattle.text.specs.Reading.Fixed.{past_all, text_at, pair_field_at, paired_at}
-use Rattle.text.specs.Reading.FixedLaws.{pair_found}
+use Rattle.text.proofs.Reading.FixedLaws.{pair_found}
 use Rattle.text.specs.Places.Lines.{feeds, Spans}
-use Rattle.text.specs.Places.LinesLaws.{KeepsAhead, number-ahead, pair-ahead}
+use Rattle.text.proofs.Places.LinesLaws.{KeepsAhead, number-ahead, pair-ahead}
 
 -- ---- parts in a row
 

@@ -15,7 +15,7 @@ use Rattle.text.specs.Reading.Choice.{on_digit, on_number, on_step}
 use Rattle.text.specs.Reading.Bytes.{byte_at, from, ahead, passing, digit_of, past_of}
 use Rattle.text.specs.Reading.BytesLaws.{from_byte, from-ahead, past_spelt, past_reads, digit_byte, digit_small, digit_spelt}
 use Rattle.text.specs.Reading.Parsed.{Parsed}
-use Rattle.text.specs.Reading.ParsedLaws.{bad_got, bounded_fits, limited_value, limited_got, Reads}
+use Rattle.text.proofs.Reading.ParsedLaws.{bad_got, bounded_fits, limited_value, limited_got, Reads}
 use Rattle.text.specs.Reading.Fixed.{past_all, text_at, pair_at, pair_field_at, paired_at}
 use Rattle.text.specs.Writing.Digits.{pair_text}
 

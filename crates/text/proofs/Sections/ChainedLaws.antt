@@ -13,11 +13,11 @@ use Rattle.text.specs.Reading.Choice.{pick}
 use Rattle.text.specs.Reading.Bytes.{from}
 use Rattle.text.specs.Reading.BytesLaws.{at_length, from_cons}
 use Rattle.text.specs.Reading.Parsed.{Parsed, then_read}
-use Rattle.text.specs.Reading.ParsedLaws.{then_got, pick_got, got_is, Reads, at_end, reads_then}
+use Rattle.text.proofs.Reading.ParsedLaws.{then_got, pick_got, got_is, Reads, at_end, reads_then}
 use Rattle.finite.specs.Each.{Each}
 use Rattle.text.specs.Elements.EachThen.{each_then}
 use Rattle.text.specs.Places.Lines.{HoldsOn}
-use Rattle.text.specs.Places.LinesLaws.{stands_then, stands_test}
+use Rattle.text.proofs.Places.LinesLaws.{stands_then, stands_test}
 use Rattle.text.specs.Sections.Chained.{chained, EachAfter, left, optional_at, nothing, optional_text}
 
 -- what holds of each element after those before it, in other words

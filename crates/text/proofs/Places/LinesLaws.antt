@@ -21,7 +21,7 @@ use Rattle.text.specs.Reading.Numbers.{more, number_at, field_at}
 use Rattle.text.specs.Reading.Limits.{bounded_of}
 use Rattle.text.specs.Reading.Parsed.{Parsed, then_read, many, limited, ranged_at}
 use Rattle.text.specs.Reading.Fixed.{past_all, text_at, pair_at, pair_field_at, paired_at}
-use Rattle.text.specs.Reading.FixedLaws.{pair_found}
+use Rattle.text.proofs.Reading.FixedLaws.{pair_found}
 use Rattle.text.specs.Reading.Told.{told_field}
 use Rattle.text.specs.Places.Lines.{feeds, LineAt, Counted, Stood, HoldsOn, AnyNumber, OnLine}
 

@@ -1,0 +1,2 @@
+-- Values laid into an array line by line (`LayLaws`).
+pub mod LayLaws

@@ -1,0 +1,2 @@
+-- The laws of both round trips of a section (`ChainedLaws`).
+pub mod ChainedLaws
