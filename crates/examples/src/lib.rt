@@ -1,3 +1,2 @@
 // The starred examples of document 01, as a theorem in specs/.
 #![tactic(auto)]
-
