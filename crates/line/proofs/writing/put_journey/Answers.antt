@@ -29,7 +29,7 @@ put_field-at-requires c =
         arith,
         journey_room c.args.runs c.args.stops c.args.legs w.k (omega arith) w.invariant.0 (omega arith) c.requires.2,
         put.ensures.next,
-        put.auto.0,
+        put.auto.out,
       ),
       omega (arith, short.fits),
     )
