@@ -15,7 +15,7 @@ use Rattle.text.specs.Places.LinesLaws.{keeps_counted, field_counted}
 use Rattle.text.specs.Elements.LayLaws.{lay_done}
 use Rattle.text.specs.Reading.ToldLaws.{ranged_told}
 use Rattle.line.specs.declared.reading.Head.{Head}
-use Rattle.line.specs.Record.{no_train, legs_between}
+use Rattle.line.specs.Record.{legs_between}
 use Rattle.line.specs.File.{Journey, head_at, train_line}
 use Rattle.line.specs.Ranges.{run, stop}
 use Rattle.line.specs.FileLaws.{ended_told}

@@ -8,7 +8,6 @@ use Rattle.line.specs.declared.Booking.{Booking}
 use Rattle.line.specs.declared.Traffic.{Traffic}
 use Rattle.line.specs.declared.writing.Fault.{Fault}
 use Rattle.line.specs.Ranges.{In, train_number}
-use Rattle.line.specs.Record.{no_booking}
 use Rattle.line.specs.BookingsLaws.{entry}
 use Rattle.line.specs.FaultLaws.{fault_with, rising_found, rising_clean, rising_end}
 use Rattle.line.specs.Writing.{rising_fault, booking_fault, booking_fault_with}

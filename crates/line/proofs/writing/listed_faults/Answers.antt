@@ -1,11 +1,10 @@
 -- The answers; the idea of the proof is at the head of the invariants.
-use Prim.Native.Nat.{ℕ, ◌-◌, ◌+◌}
+use Prim.Native.Nat.{ℕ, ◌+◌}
 use mathlib.Core.Path.{◌≡◌, ◌∙◌, ap}
 use native.Mathlib.Omega.{arith}
 use borrow.Author.Rules.{rules}
 use lib.ListN.{take}
 use Rattle.line.specs.declared.Listed.{Listed}
-use Rattle.line.specs.Record.{no_listed}
 use Rattle.line.specs.FaultLaws.{rising_found, rising_clean, rising_end}
 use Rattle.line.specs.Writing.{rising_fault, listed_fault}
 use Rattle.line.proofs.writing.listed_faults.Goals as goal
