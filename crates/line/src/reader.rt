@@ -1,6 +1,5 @@
-// The reader of the line file: the lent bytes and a position in them. The borrow checker covers no function over a struct that holds a reference,
-// so they are few and thin, each proved by hand: `open` makes the reader, `moved` hands it back further on, and the other two take it apart for
-// `track_from` and `complete_from`, which do the work.
+// The reader of the line file: the lent bytes and a position in them. Its functions are few and thin: `open` makes the reader, `moved` hands it back further
+// on, and the other two take it apart for `track_from` and `complete_from`, which do the work.
 ghost use Rattle.std.specs.Prelude.{◌≡◌};
 ghost use Rattle.text.specs.Reading.Told.{told_ending};
 ghost use Rattle.line.specs.File.{answered};

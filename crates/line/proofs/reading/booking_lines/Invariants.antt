@@ -5,7 +5,7 @@ use Prim.Native.Nat.{◌≤◌, ◌-◌}
 use mathlib.Core.Path.{◌≡◌}
 use lib.ListN.{replicate, take}
 use Rattle.text.specs.Places.Lines.{Counted}
-use Rattle.text.specs.Elements.LayLaws.{lay_chain}
+use Rattle.text.proofs.Elements.LayLaws.{lay_chain}
 use Rattle.line.specs.Record.{no_booking}
 use Rattle.line.specs.File.{booking_line}
 use Rattle.line.proofs.reading.booking_lines.Given as goal

@@ -16,7 +16,6 @@ not-less : (a b : ℕ) → leb a b ≡ not (ltb b a)
 not-less a b = elim (dec_le a b) [
   | yes h ↦ le-leb a b h ∙ sym (ap not (le-ltb b a h))
   | no h ↦ lt-leb a b (omega arith) ∙ sym (ap not (lt-ltb b a (omega arith)))
-
 ]
 
 module _ (n : ℕ) (s : List ℕ) (next : Cursor) where

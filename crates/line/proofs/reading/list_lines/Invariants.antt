@@ -4,7 +4,7 @@ use Prim.Native.Nat.{◌-◌, ◌≤◌}
 use mathlib.Core.Path.{◌≡◌}
 use lib.ListN.{replicate}
 use Rattle.text.specs.Places.Lines.{Counted}
-use Rattle.text.specs.Elements.LayLaws.{lay_chain}
+use Rattle.text.proofs.Elements.LayLaws.{lay_chain}
 use Rattle.line.specs.Record.{no_listed}
 use Rattle.line.specs.File.{listed_line}
 use Rattle.line.proofs.reading.list_lines.Given as goal

@@ -4,7 +4,7 @@ use Prim.Native.Nat.{◌≤◌, ◌-◌}
 use mathlib.Core.Path.{◌≡◌}
 use lib.ListN.{replicate}
 use Rattle.text.specs.Places.Lines.{Counted}
-use Rattle.text.specs.Elements.LayLaws.{lay_many}
+use Rattle.text.proofs.Elements.LayLaws.{lay_many}
 use Rattle.line.specs.File.{segment_line}
 use Rattle.line.specs.FileLaws.{gap_at}
 use Rattle.line.proofs.reading.segment_lines.Given as goal

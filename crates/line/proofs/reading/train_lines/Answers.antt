@@ -11,9 +11,9 @@ use Rattle.text.specs.Reading.Parsed.{Parsed, map_parsed}
 use Rattle.text.specs.Elements.Padded.{padded}
 use Rattle.text.specs.Reading.Told.{told_ending, ending_of}
 use Rattle.text.specs.Places.Lines.{Counted, AnyNumber}
-use Rattle.text.specs.Places.LinesLaws.{keeps_counted, field_counted}
-use Rattle.text.specs.Elements.LayLaws.{lay_done}
-use Rattle.text.specs.Reading.ToldLaws.{ranged_told}
+use Rattle.text.proofs.Places.LinesLaws.{keeps_counted, field_counted}
+use Rattle.text.proofs.Elements.LayLaws.{lay_done}
+use Rattle.text.proofs.Reading.ToldLaws.{ranged_told}
 use Rattle.line.specs.declared.reading.Head.{Head}
 use Rattle.line.specs.Record.{legs_between}
 use Rattle.line.specs.File.{Journey, head_at, train_line}

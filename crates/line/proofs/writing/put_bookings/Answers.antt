@@ -16,8 +16,7 @@ put_booking-at-requires c =
 
 pub loop-i-preserved : goal.loop-i-preserved
 loop-i-preserved c =
-    let w = c.loop-i in
-    (
+    let w = c.loop-i in (
       each_put booking_text booking_then c.args.count c.args.bookings w.i (omega arith) w.invariant.0 no_booking (omega arith)
           c.put_booking-at.ensures,
       omega arith,

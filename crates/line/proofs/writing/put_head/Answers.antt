@@ -26,23 +26,22 @@ put_field-after_latest-requires c =
     (omega (arith, head_size a.train), omega arith)
 
 pub put_field-requires : goal.put_field-requires
-put_field-requires c =
-    (
-      omega (
-        arith,
-        head_size c.args.train,
-        c.requires,
-        c.put_field-after_origin.ensures.next,
-        c.put_field-after_origin.auto.out,
-        c.put_field-after_destination.ensures.next,
-        c.put_field-after_destination.auto.out,
-        c.put_field-after_earliest.ensures.next,
-        c.put_field-after_earliest.auto.out,
-        c.put_field-after_latest.ensures.next,
-        c.put_field-after_latest.auto.out,
-      ),
-      omega arith,
-    )
+put_field-requires c = (
+  omega (
+    arith,
+    head_size c.args.train,
+    c.requires,
+    c.put_field-after_origin.ensures.next,
+    c.put_field-after_origin.auto.out,
+    c.put_field-after_destination.ensures.next,
+    c.put_field-after_destination.auto.out,
+    c.put_field-after_earliest.ensures.next,
+    c.put_field-after_earliest.auto.out,
+    c.put_field-after_latest.ensures.next,
+    c.put_field-after_latest.auto.out,
+  ),
+  omega arith,
+)
 
 pub returns : goal.returns
 returns c =

@@ -37,8 +37,7 @@ pub loop-k-preserved : goal.loop-k-preserved
 loop-k-preserved c =
     let stop = c.put_field-at in
     let run = c.put_field-after_run in
-    let w = c.loop-k in
-    (
+    let w = c.loop-k in (
       journey_put c.args.runs c.args.stops c.args.legs w.k (omega arith) w.invariant.0 (omega arith) (put_then run.ensures stop.ensures),
       omega arith,
     )

@@ -18,102 +18,97 @@ put_stations-after_stations-requires c =
     (omega (arith, c.requires.0.stations), omega (arith, line_size c.args.line, c.requires.1, c.put_field-after_count.ensures.next, c.put_field-after_count.auto.out))
 
 pub put_field-after_joins-requires : goal.put_field-after_joins-requires
-put_field-after_joins-requires c =
-    (
-      omega (
-        arith,
-        line_size c.args.line,
-        c.requires.1,
-        c.put_field-after_count.ensures.next,
-        c.put_field-after_count.auto.out,
-        c.put_stations-after_stations.ensures.next,
-        c.put_stations-after_stations.auto.out,
-      ),
-      omega (arith, c.requires.0.stations),
-    )
+put_field-after_joins-requires c = (
+  omega (
+    arith,
+    line_size c.args.line,
+    c.requires.1,
+    c.put_field-after_count.ensures.next,
+    c.put_field-after_count.auto.out,
+    c.put_stations-after_stations.ensures.next,
+    c.put_stations-after_stations.auto.out,
+  ),
+  omega (arith, c.requires.0.stations),
+)
 
 pub put_segments-after_segments-requires : goal.put_segments-after_segments-requires
-put_segments-after_segments-requires c =
-    (
-      omega (arith, c.requires.0.stations),
-      omega (
-        arith,
-        line_size c.args.line,
-        c.requires.1,
-        c.put_field-after_count.ensures.next,
-        c.put_field-after_count.auto.out,
-        c.put_stations-after_stations.ensures.next,
-        c.put_stations-after_stations.auto.out,
-        c.put_field-after_joins.ensures.next,
-        c.put_field-after_joins.auto.out,
-      ),
-    )
+put_segments-after_segments-requires c = (
+  omega (arith, c.requires.0.stations),
+  omega (
+    arith,
+    line_size c.args.line,
+    c.requires.1,
+    c.put_field-after_count.ensures.next,
+    c.put_field-after_count.auto.out,
+    c.put_stations-after_stations.ensures.next,
+    c.put_stations-after_stations.auto.out,
+    c.put_field-after_joins.ensures.next,
+    c.put_field-after_joins.auto.out,
+  ),
+)
 
 pub put_field-after_number-requires : goal.put_field-after_number-requires
-put_field-after_number-requires c =
-    (
-      omega (
-        arith,
-        line_size c.args.line,
-        c.requires.1,
-        c.put_field-after_count.ensures.next,
-        c.put_field-after_count.auto.out,
-        c.put_stations-after_stations.ensures.next,
-        c.put_stations-after_stations.auto.out,
-        c.put_field-after_joins.ensures.next,
-        c.put_field-after_joins.auto.out,
-        c.put_segments-after_segments.ensures.next,
-        c.put_segments-after_segments.auto.out,
-      ),
-      omega (arith, c.requires.0.trains),
-    )
+put_field-after_number-requires c = (
+  omega (
+    arith,
+    line_size c.args.line,
+    c.requires.1,
+    c.put_field-after_count.ensures.next,
+    c.put_field-after_count.auto.out,
+    c.put_stations-after_stations.ensures.next,
+    c.put_stations-after_stations.auto.out,
+    c.put_field-after_joins.ensures.next,
+    c.put_field-after_joins.auto.out,
+    c.put_segments-after_segments.ensures.next,
+    c.put_segments-after_segments.auto.out,
+  ),
+  omega (arith, c.requires.0.trains),
+)
 
 pub put_trains-after_trains-requires : goal.put_trains-after_trains-requires
-put_trains-after_trains-requires c =
-    (
-      omega (arith, c.requires.0.trains),
-      each_map (TrainWithin c.args.line.track.station_count) HasPath (train_path c.args.line.track.station_count c.requires.0.stations.1)
-          (trains_of c.args.line) c.requires.0.each_train,
-      omega (
-        arith,
-        line_size c.args.line,
-        c.requires.1,
-        c.put_field-after_count.ensures.next,
-        c.put_field-after_count.auto.out,
-        c.put_stations-after_stations.ensures.next,
-        c.put_stations-after_stations.auto.out,
-        c.put_field-after_joins.ensures.next,
-        c.put_field-after_joins.auto.out,
-        c.put_segments-after_segments.ensures.next,
-        c.put_segments-after_segments.auto.out,
-        c.put_field-after_number.ensures.next,
-        c.put_field-after_number.auto.out,
-      ),
-    )
+put_trains-after_trains-requires c = (
+  omega (arith, c.requires.0.trains),
+  each_map (TrainWithin c.args.line.track.station_count) HasPath (train_path c.args.line.track.station_count c.requires.0.stations.1)
+      (trains_of c.args.line) c.requires.0.each_train,
+  omega (
+    arith,
+    line_size c.args.line,
+    c.requires.1,
+    c.put_field-after_count.ensures.next,
+    c.put_field-after_count.auto.out,
+    c.put_stations-after_stations.ensures.next,
+    c.put_stations-after_stations.auto.out,
+    c.put_field-after_joins.ensures.next,
+    c.put_field-after_joins.auto.out,
+    c.put_segments-after_segments.ensures.next,
+    c.put_segments-after_segments.auto.out,
+    c.put_field-after_number.ensures.next,
+    c.put_field-after_number.auto.out,
+  ),
+)
 
 pub put_further-requires : goal.put_further-requires
-put_further-requires c =
-    (
-      omega (arith, c.requires.0.bookings),
-      omega (arith, c.requires.0.trains, c.requires.0.dues),
-      omega (
-        arith,
-        line_size c.args.line,
-        c.requires.1,
-        c.put_field-after_count.ensures.next,
-        c.put_field-after_count.auto.out,
-        c.put_stations-after_stations.ensures.next,
-        c.put_stations-after_stations.auto.out,
-        c.put_field-after_joins.ensures.next,
-        c.put_field-after_joins.auto.out,
-        c.put_segments-after_segments.ensures.next,
-        c.put_segments-after_segments.auto.out,
-        c.put_field-after_number.ensures.next,
-        c.put_field-after_number.auto.out,
-        c.put_trains-after_trains.ensures.next,
-        c.put_trains-after_trains.auto.out,
-      ),
-    )
+put_further-requires c = (
+  omega (arith, c.requires.0.bookings),
+  omega (arith, c.requires.0.trains, c.requires.0.dues),
+  omega (
+    arith,
+    line_size c.args.line,
+    c.requires.1,
+    c.put_field-after_count.ensures.next,
+    c.put_field-after_count.auto.out,
+    c.put_stations-after_stations.ensures.next,
+    c.put_stations-after_stations.auto.out,
+    c.put_field-after_joins.ensures.next,
+    c.put_field-after_joins.auto.out,
+    c.put_segments-after_segments.ensures.next,
+    c.put_segments-after_segments.auto.out,
+    c.put_field-after_number.ensures.next,
+    c.put_field-after_number.auto.out,
+    c.put_trains-after_trains.ensures.next,
+    c.put_trains-after_trains.auto.out,
+  ),
+)
 
 pub shape_of-out : goal.shape_of-out
 shape_of-out c =

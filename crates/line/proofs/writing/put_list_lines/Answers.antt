@@ -16,8 +16,7 @@ put_listed-at-requires c =
 
 pub loop-i-preserved : goal.loop-i-preserved
 loop-i-preserved c =
-    let w = c.loop-i in
-    (
+    let w = c.loop-i in (
       each_put listed_text listed_then c.args.count c.args.listed w.i (omega arith) w.invariant.0 no_listed (omega arith)
           c.put_listed-at.ensures,
       omega arith,

@@ -16,8 +16,7 @@ put_segment-at-requires c =
 
 pub loop-i-preserved : goal.loop-i-preserved
 loop-i-preserved c =
-    let w = c.loop-i in
-    (
+    let w = c.loop-i in (
       each_put segment_text segment_then c.args.count c.args.segments w.i (omega arith) w.invariant.0 no_segment (omega arith)
           c.put_segment-at.ensures,
       omega arith,

@@ -20,8 +20,7 @@ put_field-at-requires c =
 
 pub loop-i-preserved : goal.loop-i-preserved
 loop-i-preserved c =
-    let w = c.loop-i in
-    (
+    let w = c.loop-i in (
       each_put station_text station_then c.args.count c.args.tracks w.i (omega arith) w.invariant.0 0 (omega arith)
           c.put_field-at.ensures,
       omega arith,

@@ -27,8 +27,7 @@ put_train-at-requires c =
 
 pub loop-i-preserved : goal.loop-i-preserved
 loop-i-preserved c =
-    let w = c.loop-i in
-    (
+    let w = c.loop-i in (
       each_put train_text train_then c.args.count c.args.trains w.i (omega arith) w.invariant.0 beyond (omega arith)
           c.put_train-at.ensures,
       omega arith,
