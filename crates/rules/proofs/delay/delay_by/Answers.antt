@@ -1,6 +1,5 @@
 -- The answers; the idea of the proof is at the head of the invariants.
 use Rattle.std.proofs.Common.{◌≡◌, ◌-◌, ◌*◌, ◌≤◌, length, sym, ◌∙◌, ⊎_elim, mul-le-mul, arith}
-use lib.ListN.{length-map}
 use Rattle.finite.specs.Below.{sum}
 use Rattle.line.specs.Runnable.{TrainRunnable}
 use Rattle.rules.specs.Statement.Paths.{train, Routed}
@@ -16,14 +15,14 @@ loop-i-init c =
 
 pub overflow_sub-last : goal.overflow_sub-last
 overflow_sub-last c =
-    let runnable : let a = c.args in TrainRunnable a.line.track.station_count (train a.line c.loop-i.i) = let size : length c.args.line.traffic.trains ≡ 12 = sym (length-map c.args.line.traffic.trains _) ∙ c.well_formed.0.1.1.1.0.1.1.1.0.1.0.1 in
+    let runnable : let a = c.args in TrainRunnable a.line.track.station_count (train a.line c.loop-i.i) = let size : length c.args.line.traffic.trains ≡ 12 = omega arith in
     train_runnable c.args.line c.loop-i.i c.requires.0 size c.loop-i-test.true in
     let path : Routed (train c.args.line c.loop-i.i) = routed_runnable _ _ (runnable) c.requires.0.stations.1 in
     omega (arith, c.legs_between-last.ensures, legs_few _ (path))
 
 pub arrival_of-requires : goal.arrival_of-requires
 arrival_of-requires c =
-    let runnable : let a = c.args in TrainRunnable a.line.track.station_count (train a.line c.loop-i.i) = let size : length c.args.line.traffic.trains ≡ 12 = sym (length-map c.args.line.traffic.trains _) ∙ c.well_formed.0.1.1.1.0.1.1.1.0.1.0.1 in
+    let runnable : let a = c.args in TrainRunnable a.line.track.station_count (train a.line c.loop-i.i) = let size : length c.args.line.traffic.trains ≡ 12 = omega arith in
     train_runnable c.args.line c.loop-i.i c.requires.0 size c.loop-i-test.true in
     let path : Routed (train c.args.line c.loop-i.i) = routed_runnable _ _ (runnable) c.requires.0.stations.1 in
     (
@@ -39,7 +38,7 @@ bounds-dues-i c =
 
 pub overflow_mul-total : goal.overflow_mul-total
 overflow_mul-total c =
-    let runnable : let a = c.args in TrainRunnable a.line.track.station_count (train a.line c.loop-i.i) = let size : length c.args.line.traffic.trains ≡ 12 = sym (length-map c.args.line.traffic.trains _) ∙ c.well_formed.0.1.1.1.0.1.1.1.0.1.0.1 in
+    let runnable : let a = c.args in TrainRunnable a.line.track.station_count (train a.line c.loop-i.i) = let size : length c.args.line.traffic.trains ≡ 12 = omega arith in
     train_runnable c.args.line c.loop-i.i c.requires.0 size c.loop-i-test.true in
     let most : c.wide.result * (c.wide-arrival.result - c.wide-due.result) ≤ 99 * 65535 = mul-le-mul {n₂ = 99} {m₂ = 65535} (omega (arith, c.wide.ensures.0, (runnable).weight))
     (omega (arith, c.wide-arrival.ensures.1)) in
@@ -47,7 +46,7 @@ overflow_mul-total c =
 
 pub overflow_add-total : goal.overflow_add-total
 overflow_add-total c =
-    let runnable : let a = c.args in TrainRunnable a.line.track.station_count (train a.line c.loop-i.i) = let size : length c.args.line.traffic.trains ≡ 12 = sym (length-map c.args.line.traffic.trains _) ∙ c.well_formed.0.1.1.1.0.1.1.1.0.1.0.1 in
+    let runnable : let a = c.args in TrainRunnable a.line.track.station_count (train a.line c.loop-i.i) = let size : length c.args.line.traffic.trains ≡ 12 = omega arith in
     train_runnable c.args.line c.loop-i.i c.requires.0 size c.loop-i-test.true in
     let most : c.wide.result * (c.wide-arrival.result - c.wide-due.result) ≤ 99 * 65535 = mul-le-mul {n₂ = 99} {m₂ = 65535} (omega (arith, c.wide.ensures.0, (runnable).weight))
     (omega (arith, c.wide-arrival.ensures.1)) in

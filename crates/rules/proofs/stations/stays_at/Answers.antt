@@ -20,4 +20,4 @@ pub returns : goal.returns
 returns c =
     let w = c.loop-i in
     let a = c.args in
-    subst (λ (n : ℕ). StaysOf a.ds.now a.m.now n a.s (record { came = w.branch; leaves = w.leaves })) (omega arith) w.invariant.1
+    subst (λ (n : ℕ). StaysOf a.ds.now a.m.now n a.s (record { came = w.came; leaves = w.leaves })) (omega arith) w.invariant.1
