@@ -6,11 +6,6 @@ use Rattle.rules.specs.Scan.StationLaws.{lowest_segment, lowest_station}
 use Rattle.rules.specs.contracts.conflicts.Conflict.{the_type}
 use Rattle.rules.proofs.conflicts.lowest_conflict.Goals as goal
 
-pub returns-in_default : goal.returns-in_default
-returns-in_default c =
-    let a = c.args in
-    lowest_segment a.layout a.ds.now a.m.now _ c.segment_conflict-found.ensures (conflict_stays (tag_of the_type) refl _ c.in_default.keys2)
-
 pub returns : goal.returns
 returns c =
     let a = c.args in

@@ -8,11 +8,6 @@ use Rattle.rules.proofs.conflicts.segment_conflict.Goals as goal
 pub loop-p-init : goal.loop-p-init
 loop-p-init c = (segment-start _ _ _ _, omega arith)
 
-pub returns-in_default : goal.returns-in_default
-returns-in_default c =
-    let w = c.loop-p in
-    segment_found _ _ _ _ _ _ _ (omega arith) w.invariant.0 (sym c.pair_on-found.ensures) (conflict_stays (tag_of the_type) refl _ c.in_default.keys2)
-
 pub loop-p-preserved : goal.loop-p-preserved
 loop-p-preserved c =
     let y = c.args.layout in

@@ -9,13 +9,6 @@ use Rattle.rules.proofs.conflicts.station_conflict.Goals as goal
 pub loop-s-init : goal.loop-s-init
 loop-s-init c = (station-start _ _ _ _ _, omega arith, omega arith)
 
-pub returns-in_default : goal.returns-in_default
-returns-in_default c =
-    let w = c.loop-s in
-    let a = c.args in
-    station_found a.layout.tracks _ _ _ _ _ _ w.invariant.0 (omega arith) c.loop-s-test.true c.crowd_on-found.ensures
-    (conflict_stays (tag_of the_type) refl _ c.in_default.keys2)
-
 pub loop-s-preserved : goal.loop-s-preserved
 loop-s-preserved c =
     let w = c.loop-s in

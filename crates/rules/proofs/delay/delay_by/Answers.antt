@@ -1,5 +1,5 @@
 -- The answers; the idea of the proof is at the head of the invariants.
-use Rattle.std.proofs.Common.{◌≡◌, ◌-◌, ◌*◌, ◌≤◌, length, sym, ◌∙◌, ⊎_elim, mul-le-mul, arith}
+use Rattle.std.proofs.Common.{◌≡◌, ◌-◌, ◌*◌, ◌≤◌, length, sym, ◌∙◌, mul-le-mul, arith}
 use Rattle.finite.specs.Below.{sum}
 use Rattle.line.specs.Runnable.{TrainRunnable}
 use Rattle.rules.specs.Statement.Paths.{train, Routed}
@@ -8,6 +8,7 @@ use Rattle.rules.specs.Check.Dues.{cost_by}
 use Rattle.rules.specs.Check.RulesLaws.{sum-next}
 use Rattle.rules.specs.Check.DuesLaws.{cost-start, cost_late, cost_none, cost-end}
 use Rattle.rules.proofs.delay.delay_by.Goals as goal
+use Rattle.rules.proofs.delay.delay_by.Goals.{then-due-arrival, else-due-arrival}
 
 pub loop-i-init : goal.loop-i-init
 loop-i-init c =
@@ -60,18 +61,21 @@ loop-i-preserved c =
     let legs = c.legs_between-last.ensures in
     let due = c.wide-due.ensures.0 in
     let trains = c.args.line.traffic.trains in
-    ⊎_elim
-    (λ w.
-    let late = cost_late trains c.args.dues.now c.args.m.now i.i legs last due w.1.ensures.0 in (
-      omega (arith, here),
-      w.2 ∙ sum-next (cost_by trains c.args.dues.now c.args.m.now) i.i i.invariant.1 late,
-      omega (arith, w.2, i.invariant.2, most (record { before = record { before = c; if1 = w.0 }; wide3 = w.1 })),
-    ))
-    (λ w.
-    let none = cost_none trains c.args.dues.now c.args.m.now i.i legs last due w.0.left in
-    let next = sum-next (cost_by trains c.args.dues.now c.args.m.now) i.i i.invariant.1 none in
-    (omega (arith, here), omega (arith, w.1, next), omega (arith, w.1, i.invariant.2)))
-    c.if-due-arrival.branch
+    let size : length trains ≡ 12 = omega arith in
+    elim c.if-due-arrival.branch [
+      | then-due-arrival w ↦
+          (let late = cost_late trains c.args.dues.now c.args.m.now i.i legs last due w.wide.ensures.0 in
+          let most : w.wide.result * (c.wide-arrival.result - c.wide-due.result) ≤ 99 * 65535 = mul-le-mul {n₂ = 99} {m₂ = 65535}
+              (omega (arith, w.wide.ensures.0, (train_runnable c.args.line i.i c.requires.0 size here).weight)) (omega (arith, c.wide-arrival.ensures.1)) in (
+            omega (arith, here),
+            w.total-is ∙ sum-next (cost_by trains c.args.dues.now c.args.m.now) i.i i.invariant.1 late,
+            omega (arith, w.total-is, i.invariant.2, most),
+          ))
+      | else-due-arrival w ↦
+          (let none = cost_none trains c.args.dues.now c.args.m.now i.i legs last due w.if-due-arrival.false in
+          let next = sum-next (cost_by trains c.args.dues.now c.args.m.now) i.i i.invariant.1 none in
+          (omega (arith, here), omega (arith, w.total-is, next), omega (arith, w.total-is, i.invariant.2)))
+    ]
 
 pub returns : goal.returns
 returns c =

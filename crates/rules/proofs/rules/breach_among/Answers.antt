@@ -1,6 +1,5 @@
 -- The answers; the idea of the proof is at the head of the invariants.
 use Rattle.std.proofs.Common.{◌≡◌, ℕ, ◌-◌, Bool, true, List, get_or, sym, ◌∙◌, arith, below_none, below_more}
-use borrow.Author.Tests.{not-true, not-false}
 use Rattle.line.specs.declared.Train.{Train}
 use Rattle.rules.specs.Statement.Paths.{past_train}
 use Rattle.rules.specs.Check.Floors.{floor_in}
@@ -24,7 +23,7 @@ returns-then-not-keeps_rule c =
     let a = c.args in
     let w = c.loop-i in
     lowest_at a.rule (keeps a.rule a.trains a.floors.now a.m.now) a.count w.i c.loop-i-test.true
-    (sym c.keeps_rule.ensures ∙ not-true _ c.if-not-keeps_rule.true) w.invariant.1
+    (sym c.keeps_rule.ensures ∙ c.if-not-keeps_rule.true) w.invariant.1
 
 pub loop-i-preserved : goal.loop-i-preserved
 loop-i-preserved c =
@@ -32,7 +31,7 @@ loop-i-preserved c =
     let w = c.loop-i in (
       omega (arith, c.loop-i-test.true),
       below_more (λ j. keeps a.rule a.trains a.floors.now a.m.now j ≡ true) w.i w.invariant.1
-          (sym c.keeps_rule.ensures ∙ not-false _ c.if-not-keeps_rule.false),
+          (sym c.keeps_rule.ensures ∙ c.if-not-keeps_rule.false),
     )
 
 pub returns : goal.returns
