@@ -24,17 +24,5 @@ leg_minute-minute-requires c =
 pub bounds-minutes-x : goal.bounds-minutes-x
 bounds-minutes-x c = omega (arith, c.loop-x.invariant.1.size, c.loop-x-test.true)
 
-pub loop-x-preserved : goal.loop-x-preserved
-loop-x-preserved c =
-    let w = c.loop-x in
-    let x = w.x in
-    let b = c.loop-x-test.true in
-    let minute = ⊎_elim
-    (λ h. h.2 ∙ h.1.ensures)
-    (λ h. h.1 ∙ minute_none c.args.line x
-    (leg-not c.args.line (x % 176) _ c.requires.0.trains.1 (omega arith) c.directions_of-ds.ensures h.0.left))
-    c.if-ds-e-ne0.branch in
-    (omega arith, begun_more (free_entry c.args.line) 352 x _ _ w.invariant.1 b minute)
-
 pub returns : goal.returns
 returns c = minutes_made _ _ _ c.loop-x.invariant.1 (omega (arith, c.loop-x.invariant.0, c.loop-x-test.false))

@@ -14,17 +14,6 @@ loop-x-init c = (omega arith, begun_none _ table_size)
 pub bounds-table-x : goal.bounds-table-x
 bounds-table-x c = omega (arith, c.loop-x.invariant.1.size, c.loop-x-test.true)
 
-pub loop-x-preserved : goal.loop-x-preserved
-loop-x-preserved c =
-    let l = c.args.line in
-    let w = c.loop-x in
-    let here = segments_first l w.x c.loop-x-test.true in
-    let entry = ⊎_elim
-    (λ h. h.4 ∙ h.3.ensures ∙ segment_is l (w.x / 16) (w.x % 16) h.0.taken ∙ here)
-    (λ h. h.1 ∙ no_segment_is l (w.x / 16) (w.x % 16) h.0.left ∙ here)
-    c.if-p-segments.branch in
-    (omega (arith, c.loop-x-test.true), begun_more (table_entry l) table_size w.x _ _ w.invariant.1 (omega (arith, c.loop-x-test.true)) entry)
-
 pub returns : goal.returns
 returns c =
     let l = c.args.line in

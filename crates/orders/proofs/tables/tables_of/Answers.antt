@@ -27,22 +27,5 @@ leg_entry-entry-requires c =
 pub bounds-table-x : goal.bounds-table-x
 bounds-table-x c = omega (arith, c.loop-x.invariant.2.size, c.loop-x-test.true)
 
-pub loop-x-preserved : goal.loop-x-preserved
-loop-x-preserved c =
-    let l = c.args.line in
-    let w = c.loop-x in
-    let n = (w.x - 48) / 176 in
-    let e = (w.x - 48) % 176 in
-    let here = legs-later l w.x w.invariant.0 in
-    let entry = ⊎_elim
-    (λ h. h.3 ∙ h.2.ensures ∙ here)
-    (λ h. h.1 ∙ c.no_leg_entry-entry.ensures ∙
-    no_leg_is l n e (leg-not l e _ c.requires.trains.1 (omega arith) c.directions_of-ds.ensures h.0.left) ∙ here)
-    c.if-ds-e-ne0.branch in (
-      omega (arith, w.invariant.0),
-      omega (arith, c.loop-x-test.true),
-      begun_more (table_entry l) table_size w.x _ _ w.invariant.2 c.loop-x-test.true entry,
-    )
-
 pub returns : goal.returns
 returns c = tables_made _ _ _ c.loop-x.invariant.2 (omega (arith, c.loop-x.invariant.1, c.loop-x-test.false))
