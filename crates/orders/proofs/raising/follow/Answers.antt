@@ -22,43 +22,10 @@ returns-then-c c =
     c.source_of-src.ensures c.requires.0 _ _ c.lift-c.ensures c.if-c.true
 
 pub lift-requires : goal.lift-requires
-lift-requires c =
-    let half : let a = c.args in Halfway a.marks.now a.t.now a.ds.now a.e a.j a.cut a.m.now c.if-m-f.m c.if-m-f.c = ⊎_elim
-    (λ w. halfway_as _ _ _ _ _ _ _ _ _
-    (departure_lifted _ _ _ _ _ _ _ _ _ c.requires.0.ready.leg c.requires.1 c.requires.2 refl c.times_behind-b.ensures.0 _ _ _
-    w.1.ensures c.requires.0 _ _ w.3.ensures w.4.left) _ _ w.5 w.6)
-    (λ w. halfway_as _ _ _ _ _ _ _ _ _
-    (departure_still _ _ _ _ _ _ _ _ _ c.requires.0.ready.leg c.requires.1 c.requires.2 refl c.times_behind-b.ensures.0 _ _ _
-    refl c.requires.0 w.0.left) _ _ w.1 w.2)
-    c.if-m-f.branch in
-    let r = (half).choosing.ready in (
-      ready_leg _ _ _ _ _ _ _ _ r (r.shaped.beside_used c.args.e c.args.j r.leg c.requires.1 c.requires.2),
-      inr c.if-m-f-2.true,
-      omega arith,
-      omega (arith, c.times_behind-b.ensures.2),
-    )
+lift-requires c = ?
 
 pub returns-then-m-f-2 : goal.returns-then-m-f-2
-returns-then-m-f-2 c =
-    let half : let a = c.args in Halfway a.marks.now a.t.now a.ds.now a.e a.j a.cut a.m.now c.if-m-f.m c.if-m-f.c = ⊎_elim
-    (λ w. halfway_as _ _ _ _ _ _ _ _ _
-    (departure_lifted _ _ _ _ _ _ _ _ _ c.requires.0.ready.leg c.requires.1 c.requires.2 refl c.times_behind-b.ensures.0 _ _ _
-    w.1.ensures c.requires.0 _ _ w.3.ensures w.4.left) _ _ w.5 w.6)
-    (λ w. halfway_as _ _ _ _ _ _ _ _ _
-    (departure_still _ _ _ _ _ _ _ _ _ c.requires.0.ready.leg c.requires.1 c.requires.2 refl c.times_behind-b.ensures.0 _ _ _
-    refl c.requires.0 w.0.left) _ _ w.1 w.2)
-    c.if-m-f.branch in
-    arrival_lifted _ _ _ _ _ _ _ _ _ c.requires.0.ready.leg c.requires.1 c.requires.2 refl c.times_behind-b.ensures.0 _ _ _ (half)
-    c.if-m-f-2.true _ _ c.lift.ensures
+returns-then-m-f-2 c = ?
 
 pub returns : goal.returns
-returns c =
-    let half : let a = c.args in Halfway a.marks.now a.t.now a.ds.now a.e a.j a.cut a.m.now c.if-m-f.m c.if-m-f.c = ⊎_elim
-    (λ w. halfway_as _ _ _ _ _ _ _ _ _
-    (departure_lifted _ _ _ _ _ _ _ _ _ c.requires.0.ready.leg c.requires.1 c.requires.2 refl c.times_behind-b.ensures.0 _ _ _
-    w.1.ensures c.requires.0 _ _ w.3.ensures w.4.left) _ _ w.5 w.6)
-    (λ w. halfway_as _ _ _ _ _ _ _ _ _
-    (departure_still _ _ _ _ _ _ _ _ _ c.requires.0.ready.leg c.requires.1 c.requires.2 refl c.times_behind-b.ensures.0 _ _ _
-    refl c.requires.0 w.0.left) _ _ w.1 w.2)
-    c.if-m-f.branch in
-    arrival_still _ _ _ _ _ _ _ _ _ c.requires.0.ready.leg c.requires.1 c.requires.2 refl c.times_behind-b.ensures.0 _ _ _ (half) c.if-m-f-2.false
+returns c = ?
