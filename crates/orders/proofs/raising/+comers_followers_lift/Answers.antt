@@ -2,7 +2,7 @@
 use Prim.Native.Nat.{ℕ, ◌+◌, ◌-◌}
 use mathlib.Core.Path.{refl, ◌∙◌, ap}
 use mathlib.Core.Bool.{true}
-use mathlib.Core.Logic.{⊎_elim, inr}
+use mathlib.Core.Logic.{inr}
 use native.Mathlib.Omega.{arith}
 use lib.ListN.{get_or}
 use Rattle.orders.specs.LeastMinutes.NoLater.{slack}
@@ -14,6 +14,7 @@ use Rattle.orders.specs.Lift.ServingLaws.{serves_behind, serves_comes}
 use Rattle.orders.specs.Raise.RowLaws.{after-row, gone_row, row-start, row_none, row_next, row-end, comes_leg, row_still, row_raised, row_dead}
 use Rattle.orders.specs.Lift.SpreadingLaws.{RestAside, spread_after, spread_after_dead, spread_gone, spread_gone_dead, spread_end}
 use Rattle.orders.proofs.raising.+comers_followers_lift.Goals as goal
+use Rattle.orders.proofs.raising.+comers_followers_lift.Goals.{comers-then-m-f+else-c, comers-else-m-f, followers-then-rises+else-c, followers-else-rises}
 
 pub comers-returns-then-s-eq0 : goal.comers-returns-then-s-eq0
 comers-returns-then-s-eq0 t c =
@@ -75,7 +76,20 @@ pub comers-loop-j-smaller : goal.comers-loop-j-smaller
 comers-loop-j-smaller t c = omega (arith, c.next_bit-j-in-loop-j.ensures.on, c.loop-j-test.true)
 
 pub comers-loop-j-preserved : goal.comers-loop-j-preserved
-comers-loop-j-preserved t c = ?
+comers-loop-j-preserved t c =
+    let row = gone_row c.args.marks.now c.args.t.now c.args.ds.now c.args.e in
+    let train = c.loop-j-test.true in
+    let leg = c.coming_leg-f.ensures in
+    let on = c.loop-j.invariant.0 train in
+    let g = c.loop-j.invariant.1 in
+    row_next _ _ _ _ _ _ row _ _ _ _ (c.loop-j.j + 1) _
+    (elim c.if-m-f.branch [
+      | comers-then-m-f+else-c w ↦ row_raised _ _ _ _ _ _ row _ _ _ _ _ _ g _ _ _ _ _ (serves_comes _ _ _ _ _ _ _ c.requires.leg train _ on leg refl)
+          _ _ w.lift-c.ensures w.if-c.false w.m-is w.c-is
+      | comers-else-m-f w ↦ row_still _ _ _ _ _ _ row _ _ _ _ _ _ g _ _ _ _ _ (serves_comes _ _ _ _ _ _ _ c.requires.leg train _ on leg refl)
+          (omega arith) w.if-m-f.false w.m-is w.c-is
+    ]) _ _ (ap (λ (x : ℕ). get_or c.args.marks.now x 0) c.leaving_row-row.ensures.0)
+    c.next_bit-j-in-loop-j.ensures
 
 pub comers-returns : goal.comers-returns
 comers-returns t c =
@@ -132,7 +146,21 @@ pub followers-loop-j-smaller : goal.followers-loop-j-smaller
 followers-loop-j-smaller t c = omega (arith, c.next_bit-j-in-loop-j.ensures.on, c.loop-j-test.true)
 
 pub followers-loop-j-preserved : goal.followers-loop-j-preserved
-followers-loop-j-preserved t c = ?
+followers-loop-j-preserved t c =
+    let row = after-row c.args.marks.now c.args.t.now c.args.ds.now c.args.e in
+    let train = c.loop-j-test.true in
+    let behind = c.times_behind-b.ensures.0 in
+    let on = c.loop-j.invariant.0 train in
+    let g = c.loop-j.invariant.1 in
+    row_next _ _ _ _ _ _ row _ _ _ _ (c.loop-j.j + 1) _
+    (elim c.if-rises.branch [
+      | followers-then-rises+else-c w ↦ row_raised _ _ _ _ _ _ row _ _ _ _ _ _ g _ _ _ _ _ (serves_behind _ _ _ _ _ _ _ c.requires.leg train _ _ on refl behind)
+          _ _ w.lift-c.ensures w.if-c.false w.m-is w.c-is
+      | followers-else-rises w ↦
+          (let z = c.rises.ensures.1 w.if-rises.false in
+          row_still _ _ _ _ _ _ row _ _ _ _ _ _ g _ _ _ _ _ (serves_behind _ _ _ _ _ _ _ c.requires.leg train _ _ on refl behind)
+          z.0 z.1 w.m-is w.c-is)
+    ]) _ _ refl c.next_bit-j-in-loop-j.ensures
 
 pub followers-returns : goal.followers-returns
 followers-returns t c =
@@ -165,7 +193,12 @@ lift-returns-then-c-2 t c =
 
 pub lift-comers-c-requires : goal.lift-comers-c-requires
 lift-comers-c-requires t c =
-    let g = spread_after _ _ _ _ _ _ _ _ _ _ _ c.loop-left.invariant.2 c.loop-left.invariant.0 c.loop-left-test.true _ _ c.followers-c.ensures c.if-c-2.false in
+    let a = c.args in
+    let l = c.loop-left in
+    let p = c.raise_path-path in
+    let g : GoingFor a.marks.now a.t.now a.ds.now a.src a.cut (AsideOf a.t.now p.result.legs a.e) (RestAside a.t.now l.left l.f) p.new.m
+        c.followers-c.new.m c.followers-c.result =
+        spread_after _ _ _ _ _ _ _ _ _ _ _ c.loop-left.invariant.2 c.loop-left.invariant.0 c.loop-left-test.true _ _ c.followers-c.ensures c.if-c-2.false in
     let z = c.raise_path-path.ensures.stepped c.if-c.false in (
       omega (arith, c.decreases, z.less, going_slack _ _ _ _ _ _ _ _ _ _ _ g),
       going_ready _ _ _ _ _ _ _ _ _ _ _ g _ _ _ (stepped_ready _ _ _ _ _ _ _ _ _ _ _ _ z _ c.requires.0) c.loop-left.invariant.1,
