@@ -31,7 +31,7 @@ loop-x-preserved c =
     let minute : c.if-ds-e-ne0.minute ≡ free_entry c.args.line x = elim c.if-ds-e-ne0.branch [
       | then-ds-e-ne0 h ↦ h.minute-is ∙ h.leg_minute-minute.ensures
       | else-ds-e-ne0 h ↦ h.minute-is ∙ minute_none c.args.line x
-            (leg-not c.args.line (x % 176) _ c.requires.0.trains.1 (omega arith) c.directions_of-ds.ensures h.if-ds-e-ne0.false)
+          (leg-not c.args.line (x % 176) _ c.requires.0.trains.1 (omega arith) c.directions_of-ds.ensures h.if-ds-e-ne0.false)
     ] in
     (omega arith, begun_more (free_entry c.args.line) 352 x _ _ w.invariant.1 c.loop-x-test.true minute)
 

@@ -197,8 +197,8 @@ lift-comers-c-requires t c =
     let l = c.loop-left in
     let p = c.raise_path-path in
     let g : GoingFor a.marks.now a.t.now a.ds.now a.src a.cut (AsideOf a.t.now p.result.legs a.e) (RestAside a.t.now l.left l.f) p.new.m
-        c.followers-c.new.m c.followers-c.result =
-        spread_after _ _ _ _ _ _ _ _ _ _ _ c.loop-left.invariant.2 c.loop-left.invariant.0 c.loop-left-test.true _ _ c.followers-c.ensures c.if-c-2.false in
+    c.followers-c.new.m c.followers-c.result =
+    spread_after _ _ _ _ _ _ _ _ _ _ _ c.loop-left.invariant.2 c.loop-left.invariant.0 c.loop-left-test.true _ _ c.followers-c.ensures c.if-c-2.false in
     let z = c.raise_path-path.ensures.stepped c.if-c.false in (
       omega (arith, c.decreases, z.less, going_slack _ _ _ _ _ _ _ _ _ _ _ g),
       going_ready _ _ _ _ _ _ _ _ _ _ _ g _ _ _ (stepped_ready _ _ _ _ _ _ _ _ _ _ _ _ z _ c.requires.0) c.loop-left.invariant.1,

@@ -7,11 +7,10 @@ use Rattle.orders.specs.Raise.StoreLaws.{store_late, store_back, store_dear, sto
 use Rattle.orders.proofs.raising.raise_leg.Goals as goal
 
 pub arrival_for-arrival-requires : goal.arrival_for-arrival-requires
-arrival_for-arrival-requires c =
-    (
-      departs_small _ _ _ _ _ c.departure_for-departure.ensures (c.requires.0.within c.args.e) c.requires.2 c.requires.3,
-      omega (arith, c.run_at-run.ensures, c.requires.0.shaped.run-most c.args.e c.requires.0.leg.0),
-    )
+arrival_for-arrival-requires c = (
+  departs_small _ _ _ _ _ c.departure_for-departure.ensures (c.requires.0.within c.args.e) c.requires.2 c.requires.3,
+  omega (arith, c.run_at-run.ensures, c.requires.0.shaped.run-most c.args.e c.requires.0.leg.0),
+)
 
 pub returns-then-arrival-limit_at : goal.returns-then-arrival-limit_at
 returns-then-arrival-limit_at c =

@@ -37,7 +37,7 @@ loop-x-preserved c =
     let entry : c.if-ds-e-ne0.entry ≡ table_entry l w.x = elim c.if-ds-e-ne0.branch [
       | then-ds-e-ne0 h ↦ h.entry-is ∙ h.leg_entry-entry.ensures ∙ here
       | else-ds-e-ne0 h ↦ h.entry-is ∙ c.no_leg_entry-entry.ensures ∙
-            no_leg_is l n e (leg-not l e _ c.requires.trains.1 (omega arith) c.directions_of-ds.ensures h.if-ds-e-ne0.false) ∙ here
+          no_leg_is l n e (leg-not l e _ c.requires.trains.1 (omega arith) c.directions_of-ds.ensures h.if-ds-e-ne0.false) ∙ here
     ] in (
       omega (arith, w.invariant.0),
       omega (arith, c.loop-x-test.true),

@@ -24,8 +24,7 @@ pub arrival_of-requires : goal.arrival_of-requires
 arrival_of-requires c =
     let runnable : let a = c.args in TrainRunnable a.line.track.station_count (train a.line c.loop-i.i) = let size : length c.args.line.traffic.trains ≡ 12 = omega arith in
     train_runnable c.args.line c.loop-i.i c.requires.0 size c.loop-i-test.true in
-    let path : Routed (train c.args.line c.loop-i.i) = routed_runnable _ _ (runnable) c.requires.0.stations.1 in
-    (
+    let path : Routed (train c.args.line c.loop-i.i) = routed_runnable _ _ (runnable) c.requires.0.stations.1 in (
       path,
       c.requires.2,
       omega (arith, c.loop-i-test.true, c.requires.0.trains),
@@ -65,7 +64,7 @@ loop-i-preserved c =
       | then-due-arrival w ↦
           (let late = cost_late trains c.args.dues.now c.args.m.now i.i legs last due w.wide.ensures.0 in
           let most : w.wide.result * (c.wide-arrival.result - c.wide-due.result) ≤ 99 * 65535 = mul-le-mul {n₂ = 99} {m₂ = 65535}
-              (omega (arith, w.wide.ensures.0, (train_runnable c.args.line i.i c.requires.0 size here).weight)) (omega (arith, c.wide-arrival.ensures.1)) in (
+          (omega (arith, w.wide.ensures.0, (train_runnable c.args.line i.i c.requires.0 size here).weight)) (omega (arith, c.wide-arrival.ensures.1)) in (
             omega (arith, here),
             w.total-is ∙ sum-next (cost_by trains c.args.dues.now c.args.m.now) i.i i.invariant.1 late,
             omega (arith, w.total-is, i.invariant.2, most),
