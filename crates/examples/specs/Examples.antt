@@ -24,7 +24,7 @@ use Rattle.rules.specs.Conflict.Directions.{uses_between, direction_between, dir
 use Rattle.rules.specs.Conflict.Conflicts.{first_conflict, keeps_after, neither_first, clash, partner_of, pair_on, segment_conflict}
 use Rattle.rules.specs.Conflict.Conflicts.{stands_in, standing_at, earliest_crowd, in_crowd, crowd_mask, crowd_on, station_conflict, conflict_of}
 use Rattle.rules.specs.Check.Breaches.{train_breach, breach_of}
-use Rattle.rules.specs.Check.ExactLaws.{lawful_of}
+use Rattle.rules.proofs.Check.ExactLaws.{lawful_of}
 use Rattle.orders.specs.LeastMinutes.Settle.{within_days, same, next, settle}
 use Rattle.orders.specs.LeastMinutes.SettleLaws.{within_true}
 use Rattle.orders.specs.LeastMinutes.Arcs.{pull, pull_all}

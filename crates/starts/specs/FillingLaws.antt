@@ -10,7 +10,7 @@ use Rattle.line.specs.Spell.{text_of}
 use Rattle.line.specs.RoundTripLaws.{accepts_read}
 use Rattle.line.specs.Starting.{starting}
 use Rattle.line.specs.StartingLaws.{starting_within, starting_arrays, starting_again, starting_accepted}
-use Rattle.rules.specs.StatementLaws.StartingLaws.{earliest_starting}
+use Rattle.rules.proofs.StatementLaws.StartingLaws.{earliest_starting}
 use Rattle.starts.specs.declared.knowing.Known.{Known}
 use Rattle.starts.specs.Asking.{Asked}
 use Rattle.starts.specs.Operation.{altered_file, Tells, Filled}

@@ -11,8 +11,8 @@ use Rattle.line.specs.StartingLaws.{starting_within, starting_arrays}
 use Rattle.rules.specs.Statement.Rules.{Lawful}
 use Rattle.rules.specs.Statement.Delay.{weighted_delay, LeastDelay}
 use Rattle.rules.specs.StatementLaws.BestLaws.{best_least}
-use Rattle.rules.specs.StatementLaws.StartingLaws.{lawful_former, none_later, least-later}
-use Rattle.rules.specs.Check.DaysLaws.{clear_lawful}
+use Rattle.rules.proofs.StatementLaws.StartingLaws.{lawful_former, none_later, least-later}
+use Rattle.rules.proofs.Check.DaysLaws.{clear_lawful}
 use Rattle.plans.specs.declared.found.Found.{Found}
 use Rattle.plans.specs.Clauses.FoundBest.{Finds}
 use Rattle.starts.specs.declared.knowing.Known.{Known}

@@ -12,7 +12,7 @@ use Rattle.line.specs.RoundTripLaws.{ReadFrom, accepts_read}
 use Rattle.rules.specs.declared.rules.Breach.{Breach}
 use Rattle.rules.specs.Statement.Rules.{Lawful}
 use Rattle.rules.specs.Statement.Delay.{weighted_delay, Same}
-use Rattle.rules.specs.Check.ExactLaws.{lawful_of, of_lawful}
+use Rattle.rules.proofs.Check.ExactLaws.{lawful_of, of_lawful}
 use Rattle.rules.specs.StatementLaws.SameLaws.{same_sym, delay-same, lists_same, lawful_same}
 use Rattle.timetable.specs.declared.checking.Verdict.{Verdict}
 use Rattle.timetable.specs.Reading.{Timetable, timetable_file}

@@ -16,7 +16,7 @@ use Rattle.rules.specs.declared.rules.Breach.{Breach}
 use Rattle.rules.specs.Statement.FirstBroken.{checked_order}
 use Rattle.rules.specs.Statement.Delay.{weighted_delay}
 use Rattle.rules.specs.Check.Breaches.{or_breach, breach_of}
-use Rattle.rules.specs.Check.FirstBrokenLaws.{first_broken, broken_bounds}
+use Rattle.rules.proofs.Check.FirstBrokenLaws.{first_broken, broken_bounds}
 use Rattle.rules.specs.Lists.Orders.{order_lists}
 use Rattle.rules.specs.Lists.OrdersLaws.{lists_few, lists_count}
 use Rattle.timetable.specs.declared.checking.Verdict.{Verdict}

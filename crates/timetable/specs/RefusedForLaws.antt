@@ -30,8 +30,8 @@ use Rattle.rules.specs.StatementLaws.OrderListsLaws.{order_list_only}
 use Rattle.rules.specs.Lists.Orders.{order_lists}
 use Rattle.rules.specs.Lists.LawfulListsLaws.{lawful_lists}
 use Rattle.rules.specs.Check.Breaches.{or_breach, breach_of}
-use Rattle.rules.specs.Check.ExactLaws.{lawful_of}
-use Rattle.rules.specs.Check.FirstBrokenLaws.{first_broken}
+use Rattle.rules.proofs.Check.ExactLaws.{lawful_of}
+use Rattle.rules.proofs.Check.FirstBrokenLaws.{first_broken}
 use Rattle.timetable.specs.declared.checking.Verdict.{Verdict}
 use Rattle.timetable.specs.Reading.{Rest, Timetable, timetable_file}
 use Rattle.timetable.specs.Spell.{numbers}

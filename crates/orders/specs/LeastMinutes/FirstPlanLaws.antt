@@ -16,8 +16,8 @@ use Rattle.line.specs.Runnable.{Runnable}
 use Rattle.rules.specs.Statement.Paths.{train, legs, run_of, segment_of, leg_on, Routed}
 use Rattle.rules.specs.Statement.Minutes.{departs, arrives, departure, arrival}
 use Rattle.rules.specs.StatementLaws.PathsLaws.{train_runnable, routed, legs_few, uses-leg, segment_below}
-use Rattle.rules.specs.StatementLaws.DelayLaws.{no_earlier}
-use Rattle.rules.specs.StatementLaws.FreeArrivalLaws.{free_kept}
+use Rattle.rules.proofs.StatementLaws.DelayLaws.{no_earlier}
+use Rattle.rules.proofs.StatementLaws.FreeArrivalLaws.{free_kept}
 use Rattle.rules.specs.Check.RulesLaws.{free-next}
 use Rattle.rules.specs.Statement.Delay.{free_after, free_arrival, weighted_delay}
 use Rattle.orders.specs.declared.first.FirstPlan.{FirstPlan}

@@ -14,7 +14,7 @@ use Rattle.rules.specs.Conflict.Directions.{directions_of}
 use Rattle.rules.specs.Conflict.Conflicts.{clash, stands_at, standing_at, earliest_crowd, in_crowd, crowd_mask, crowd_at, conflict_of}
 use Rattle.rules.specs.Check.RulesLaws.{decides_stands}
 use Rattle.rules.specs.Scan.StationLaws.{mask_sum, crowd-stands, crowd-many}
-use Rattle.rules.specs.Check.ExactLaws.{decides_conflict, stands_at_lem}
+use Rattle.rules.proofs.Check.ExactLaws.{decides_conflict, stands_at_lem}
 use Rattle.rules.specs.Conflict.FoundLaws.{crowd_holds, conflict_holds}
 use Rattle.orders.specs.Plan.Bits.{in_mask}
 use Rattle.orders.specs.Plan.BitsLaws.{mask_in, mask_past}

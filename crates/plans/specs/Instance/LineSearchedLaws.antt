@@ -9,7 +9,7 @@ use Rattle.rules.specs.declared.conflicts.Conflict.{Conflict}
 use Rattle.rules.specs.Statement.Rules.{Lawful}
 use Rattle.rules.specs.Conflict.Conflicts.{conflict_of}
 use Rattle.rules.specs.Statement.Delay.{Same, Best}
-use Rattle.rules.specs.Check.ExactLaws.{clear_of}
+use Rattle.rules.proofs.Check.ExactLaws.{clear_of}
 use Rattle.rules.specs.StatementLaws.SameLaws.{same_sym, same_trans, lawful_same}
 use Rattle.orders.specs.LeastMinutes.Least.{Fit}
 use Rattle.orders.specs.Plan.Marks.{Plan, free}

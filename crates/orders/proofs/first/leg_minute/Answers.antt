@@ -3,7 +3,7 @@ use Prim.Native.Nat.{◌%◌}
 use native.Mathlib.Omega.{arith}
 use Rattle.rules.specs.StatementLaws.PathsLaws.{legs-most}
 use Rattle.orders.specs.Graph.LegsLaws.{leg_path}
-use Rattle.rules.specs.StatementLaws.FreeArrivalLaws.{run-free}
+use Rattle.rules.proofs.StatementLaws.FreeArrivalLaws.{run-free}
 use Rattle.orders.specs.LeastMinutes.FirstPlanLaws.{minute_departs, minute_arrives}
 use Rattle.orders.proofs.first.leg_minute.Goals as goal
 

@@ -5,7 +5,7 @@ use Rattle.rules.specs.Statement.Paths.{train, Routed}
 use Rattle.rules.specs.StatementLaws.PathsLaws.{train_runnable, routed_runnable, legs_few}
 use Rattle.rules.specs.Check.Dues.{cost_by}
 use Rattle.rules.specs.Check.RulesLaws.{sum-next}
-use Rattle.rules.specs.Check.DuesLaws.{cost-start, cost_late, cost_none, cost-end}
+use Rattle.rules.proofs.Check.DuesLaws.{cost-start, cost_late, cost_none, cost-end}
 use Rattle.rules.proofs.delay.delay_by.Goals as goal
 use Rattle.rules.proofs.delay.delay_by.Goals.{then-due-arrival, else-due-arrival}
 

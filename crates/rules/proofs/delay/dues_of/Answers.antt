@@ -2,7 +2,7 @@
 use Rattle.std.proofs.Common.{◌≡◌, length, ◌∙◌, arith}
 use Rattle.finite.specs.FillLaws.{begun_none, begun_more}
 use Rattle.rules.specs.Check.FloorsLaws.{runs_alone}
-use Rattle.rules.specs.Check.DuesLaws.{last_leg, due-from}
+use Rattle.rules.proofs.Check.DuesLaws.{last_leg, due-from}
 use Rattle.rules.proofs.delay.dues_of.Goals as goal
 
 pub loop-i-init : goal.loop-i-init

@@ -1,6 +1,6 @@
 -- The answers; the idea of the proof is at the head of the invariants.
 use Rattle.std.proofs.Common.{◌≤◌, length, refl, ◌∙◌, arith, rules}
-use Rattle.rules.specs.Check.DuesLaws.{found_here, found_later, found_nowhere}
+use Rattle.rules.proofs.Check.DuesLaws.{found_here, found_later, found_nowhere}
 use Rattle.rules.proofs.delay.place_in.Goals as goal
 
 pub loop-j-init : goal.loop-j-init

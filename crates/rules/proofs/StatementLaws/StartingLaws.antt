@@ -24,9 +24,9 @@ use Rattle.rules.specs.Statement.Bookings.{floor_of}
 use Rattle.rules.specs.Statement.Minutes.{last_arrival}
 use Rattle.rules.specs.Statement.Rules.{middle, stands, standing, TrainRules, Lawful}
 use Rattle.rules.specs.Statement.Delay.{free_after, free_arrival, listed_for, due, weighted_delay, LeastDelay}
-use Rattle.rules.specs.StatementLaws.DueLaws.{listed_here, listed-later}
-use Rattle.rules.specs.StatementLaws.DelayLaws.{free-least}
-use Rattle.rules.specs.StatementLaws.FreeArrivalLaws.{free_earliest}
+use Rattle.rules.proofs.StatementLaws.DueLaws.{listed_here, listed-later}
+use Rattle.rules.proofs.StatementLaws.DelayLaws.{free-least}
+use Rattle.rules.proofs.StatementLaws.FreeArrivalLaws.{free_earliest}
 
 module _ (l : Line) (i v : ℕ) where
   abbrev later : Line

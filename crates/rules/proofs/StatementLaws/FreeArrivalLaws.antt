@@ -13,7 +13,7 @@ use Rattle.rules.specs.Statement.Rules.{TrainRules}
 use Rattle.rules.specs.Statement.Delay.{EarliestArrival, free_after, free_arrival}
 use Rattle.rules.specs.StatementLaws.PathsLaws.{routed, legs_few, segment_below, leg_back}
 use Rattle.rules.specs.StatementLaws.BookingsLaws.{kept_floors, booked_leg, floor_first}
-use Rattle.rules.specs.StatementLaws.DelayLaws.{free-least}
+use Rattle.rules.proofs.StatementLaws.DelayLaws.{free-least}
 use Rattle.rules.specs.Check.RulesLaws.{free-start, free-next}
 
 module _ (l : Line) (i : ℕ) where

@@ -13,7 +13,7 @@ use Rattle.line.specs.Runnable.{Runnable}
 use Rattle.rules.specs.Statement.Paths.{past_train, train, legs}
 use Rattle.rules.specs.Statement.Minutes.{last_arrival}
 use Rattle.rules.specs.Statement.Delay.{listed_for, due, weighted_delay}
-use Rattle.rules.specs.StatementLaws.DueLaws.{listed_here, listed-later}
+use Rattle.rules.proofs.StatementLaws.DueLaws.{listed_here, listed-later}
 use Rattle.rules.specs.StatementLaws.PathsLaws.{routed, legs_few}
 use Rattle.rules.specs.Check.Floors.{Floors}
 use Rattle.rules.specs.Check.FloorsLaws.{arrived_line}

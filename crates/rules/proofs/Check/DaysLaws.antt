@@ -11,7 +11,7 @@ use Rattle.rules.specs.Statement.Minutes.{arrival}
 use Rattle.rules.specs.Statement.Rules.{InDays, Lawful}
 use Rattle.rules.specs.StatementLaws.PathsLaws.{train_runnable}
 use Rattle.rules.specs.Check.Breaches.{breach_of}
-use Rattle.rules.specs.Check.ExactLaws.{KeptRules, kept_of, lawful_of}
+use Rattle.rules.proofs.Check.ExactLaws.{KeptRules, kept_of, lawful_of}
 
 module _ (l : Line) (w : Within l) (a : Arrays l) (m : List ℕ) where
   module _ (kept : KeptRules l m) (i : ℕ) (h : i < l.traffic.train_count) where

@@ -18,7 +18,7 @@ use Rattle.rules.specs.Statement.FirstBroken.{CheckedRule, early, run, stop, boo
 use Rattle.rules.specs.Check.Tests.{keeps_rule}
 use Rattle.rules.specs.Check.Breaches.{or_breach, at_train, train_breach, conflict_breach, breach_of}
 use Rattle.rules.specs.Check.RulesLaws.{decides_10, decides_11, decides_12, decides_18, decides_13}
-use Rattle.rules.specs.Check.ExactLaws.{segment_clear, clear_segment, station_clear, clear_station}
+use Rattle.rules.proofs.Check.ExactLaws.{segment_clear, clear_segment, station_clear, clear_station}
 use Rattle.rules.specs.Conflict.Conflicts.{or_conflict, first_conflict, pair_on, segment_conflict, crowd_on, station_conflict, conflict_of}
 use Rattle.rules.specs.Conflict.LowestLaws.{OnlyOn, pair_only, OnlyAt, crowd_only}
 use Rattle.rules.specs.Conflict.Directions.{directions_of}

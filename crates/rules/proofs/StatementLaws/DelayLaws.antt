@@ -12,7 +12,7 @@ use Rattle.rules.specs.Statement.Rules.{TrainRules}
 use Rattle.rules.specs.Statement.Delay.{free_after, free_arrival, delay}
 use Rattle.rules.specs.StatementLaws.PathsLaws.{train_or_past, routed_runnable, legs_few}
 use Rattle.rules.specs.StatementLaws.BookingsLaws.{floors_kept}
-use Rattle.rules.specs.StatementLaws.DueLaws.{Unlisted, due-free}
+use Rattle.rules.proofs.StatementLaws.DueLaws.{Unlisted, due-free}
 use Rattle.rules.specs.Check.RulesLaws.{free-start, free-next}
 
 module _ (l : Line) (m : List ℕ) (i : ℕ) (h : TrainRules l m i) where

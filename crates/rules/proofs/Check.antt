@@ -1,0 +1,6 @@
+-- The check passes exactly the lawful timetables (`ExactLaws`, and `DaysLaws` for minutes of any size), its breach is the first rule that is broken
+-- (`FirstBrokenLaws`), and the due minutes in lists are those declared (`DuesLaws`).
+pub mod DuesLaws
+pub mod ExactLaws
+pub mod DaysLaws
+pub mod FirstBrokenLaws
