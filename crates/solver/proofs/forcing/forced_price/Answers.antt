@@ -59,7 +59,7 @@ pub loop-left-init : goal.loop-left-init
 loop-left-init c = ((λ l p f. f), ap length c.copy_minutes-2.ensures ∙ c.requires.held.given.planned.carried.least.fit.size)
 
 pub returns-then-c : goal.returns-then-c
-returns-then-c c =
+returns-then-c c l x h i _ =
     followed_none l _ _ _ _ _ _ _ _ _ _ c.if-c.true (c.loop-left.invariant.0 l _ (first c l x h i))
 
 pub improves-requires : goal.improves-requires
@@ -69,7 +69,7 @@ improves-requires c =
     (g.planned.carried.least.fit.size, g.tallied.size, key_long c.requires.line _ _ _ _ _ _ _ _ _ g)
 
 pub returns-then-not-improves : goal.returns-then-not-improves
-returns-then-not-improves c =
+returns-then-not-improves c l x h i _ =
     let (g, in-it) = alive c l x h i in
     followed_worse l _ _ _ _ _ _ _ _ _ _ g in-it _ c.improves.ensures c.if-not-improves.true
 
@@ -88,10 +88,10 @@ forced_way-forced-requires c =
     )
 
 pub returns-then-forced : goal.returns-then-forced
-returns-then-forced c = absurd (c.if-c.false dead)
+returns-then-forced c l x h i dead = absurd (c.if-c.false dead)
 
 pub returns-then-not-next : goal.returns-then-not-next
-returns-then-not-next c =
+returns-then-not-next c l x h i _ =
     let f = c.forced_way-forced.ensures in
     let (g, in-it) = alive c l x h i in
     followed_dead l _ _ _ _ _ _ _ _ _ _ g in-it _ c.cut_of-cut.ensures
@@ -129,5 +129,5 @@ loop-left-preserved c =
     )
 
 pub returns : goal.returns
-returns c =
+returns c l x h i dead =
     followed_none l _ _ _ _ _ _ _ _ _ _ dead (c.loop-left.invariant.0 l _ (first c l x h i))

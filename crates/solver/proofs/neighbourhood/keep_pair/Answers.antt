@@ -14,7 +14,7 @@ keeps_order-requires c =
     )
 
 pub returns-then-not-keeps_order : goal.returns-then-not-keeps_order
-returns-then-not-keeps_order c = leads_nowhere _ _ _ _
+returns-then-not-keeps_order c _ = leads_nowhere _ _ _ _
 
 pub keep_first-requires : goal.keep_first-requires
 keep_first-requires c =
@@ -23,7 +23,7 @@ keep_first-requires c =
     keep_among _ _ _ _ _ (λ l h. order_fits _ _ _ _ l h _ _ a.3 a.2 (order_other _ _ _ _ _ order)) _ a.0
 
 pub returns-then-kept-p : goal.returns-then-kept-p
-returns-then-kept-p c =
+returns-then-kept-p c alive =
     let a = c.requires in
     let order = c.keeps_order.ensures (not-false _ c.if-not-keeps_order.false) in
     leads_among _ _ _ _ _ (λ l h. order_fits _ _ _ _ l h _ _ a.3 a.2 (order_other _ _ _ _ _ order)) _ _ _ (c.keep_first.ensures alive)
@@ -35,7 +35,7 @@ keep_first-requires-2 c =
     keep_among _ _ _ _ _ (λ l h. order_fits _ _ _ _ l h _ _ a.2 a.3 order) _ a.0
 
 pub returns : goal.returns
-returns c =
+returns c alive =
     let a = c.requires in
     let order = c.keeps_order.ensures (not-false _ c.if-not-keeps_order.false) in
     leads_among _ _ _ _ _ (λ l h. order_fits _ _ _ _ l h _ _ a.2 a.3 order) _ _ _ (c.keep_first-2.ensures alive)

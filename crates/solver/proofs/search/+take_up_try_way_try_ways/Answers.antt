@@ -17,7 +17,7 @@ use Rattle.solver.specs.Search.SearchingLaws.{sought_alive, sought_marks, sought
 use Rattle.solver.proofs.search.+take_up_try_way_try_ways.Goals as goal
 
 pub take_up-returns-then-spent : goal.take_up-returns-then-spent
-take_up-returns-then-spent t c =
+take_up-returns-then-spent t c l h =
     sought_spent l _ _ _ _ _ _ _ _ _ _ h _ c.if-spent.true c.spent.ensures
 
 pub take_up-improves-requires : goal.take_up-improves-requires
@@ -27,7 +27,7 @@ take_up-improves-requires t c =
     (g.planned.carried.least.fit.size, g.tallied.size, key_long p.line _ _ _ _ _ _ _ _ _ g)
 
 pub take_up-returns-then-not-improves : goal.take_up-returns-then-not-improves
-take_up-returns-then-not-improves t c = sought_cut l _ _ _ _ _ _ _ _ _ _ h _ c.improves.ensures c.if-not-improves.true
+take_up-returns-then-not-improves t c l h = sought_cut l _ _ _ _ _ _ _ _ _ _ h _ c.improves.ensures c.if-not-improves.true
 
 pub take_up-choose_conflict-selected-requires : goal.take_up-choose_conflict-selected-requires
 take_up-choose_conflict-selected-requires t c = c.requires
@@ -37,7 +37,7 @@ take_up-copy_minutes-requires t c =
     (c.requires.held.given.planned.carried.least.fit.size, c.requires.held.given.tallied.size)
 
 pub take_up-returns-then-n-eq0 : goal.take_up-returns-then-n-eq0
-take_up-returns-then-n-eq0 t c =
+take_up-returns-then-n-eq0 t c l h =
     let o = c.choose_conflict-selected.ensures in
     sought_marks l _ _ _ _ _ _ _ _ o.marks_same
     (sought_clear l _ _ _ _ _ _ _ _ _ _ h _ c.improves.ensures c.if-not-improves.false _ o.chosen _ c.way_count-n.ensures
@@ -60,7 +60,7 @@ take_up-try_ways-requires t c =
     )
 
 pub take_up-returns : goal.take_up-returns
-take_up-returns t c =
+take_up-returns t c l h =
     let g = h.given in
     let o = c.choose_conflict-selected.ensures in
     sought_by l _ _ _ _ _ _ _ _ o.marks_same
@@ -119,7 +119,7 @@ try_way-bounds-marks-row-then-c t c =
     row_few p.line p.held.given.tabled.within _ _ p.choice _ p.is_way
 
 pub try_way-returns-then-c : goal.try_way-returns-then-c
-try_way-returns-then-c t c =
+try_way-returns-then-c t c l x h i =
     sought_dead l _ _ _ _ _ _ _ _ _ _ h x _ i _ c.counted-b.ensures _ c.with_bit.ensures _ c.copy_minutes.ensures _
     c.cut_of-cut.ensures _ _ c.raised-c.ensures c.if-c.true
 
@@ -146,7 +146,7 @@ try_way-bounds-marks-row-3 t c =
     row_few p.line p.held.given.tabled.within _ _ p.choice _ p.is_way
 
 pub try_way-returns : goal.try_way-returns
-try_way-returns t c =
+try_way-returns t c l x h i =
     let alive = c.if-c.false in
     let held = next_held l _ _ _ _ _ _ _ _ 0 _ h x _ i _ c.counted-b.ensures _ c.with_bit.ensures _ c.copy_minutes.ensures _
     c.cut_of-cut.ensures _ _ c.raised-c.ensures alive in
@@ -227,7 +227,7 @@ try_ways-loop-w-preserved t c =
     )
 
 pub try_ways-returns : goal.try_ways-returns
-try_ways-returns t c =
+try_ways-returns t c l h real =
     let i = c.loop-w in
     let p = c.requires in
     let same = c.chosen_prices-prices.ensures.marks_same in

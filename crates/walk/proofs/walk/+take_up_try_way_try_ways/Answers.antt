@@ -20,7 +20,7 @@ take_up-improves-requires t c =
     (c.requires.given.planned.carried.least.fit.size, c.requires.given.tallied.size, key_long c.requires.line _ _ _ _ _ _ _ _ _ c.requires.given)
 
 pub take_up-returns-then-not-improves : goal.take_up-returns-then-not-improves
-take_up-returns-then-not-improves t c = given_cut l _ _ _ _ _ _ _ _ _ g _ c.improves.ensures c.if-not-improves.true
+take_up-returns-then-not-improves t c l g = given_cut l _ _ _ _ _ _ _ _ _ g _ c.improves.ensures c.if-not-improves.true
 
 pub take_up-lowest_conflict-conflict-requires : goal.take_up-lowest_conflict-conflict-requires
 take_up-lowest_conflict-conflict-requires t c =
@@ -39,7 +39,7 @@ take_up-copy_minutes-requires t c =
     (c.requires.given.planned.carried.least.fit.size, c.requires.given.tallied.size)
 
 pub take_up-returns-then-n-eq0 : goal.take_up-returns-then-n-eq0
-take_up-returns-then-n-eq0 t c =
+take_up-returns-then-n-eq0 t c l g =
     given_clear l _ _ _ _ _ _ _ _ _ g _ c.improves.ensures c.if-not-improves.false _ c.lowest_conflict-conflict.ensures _ c.way_count-n.ensures
     c.if-n-eq0.true _ c.copy_minutes.ensures
 
@@ -57,7 +57,7 @@ take_up-try_ways-requires t c =
     )
 
 pub take_up-returns : goal.take_up-returns
-take_up-returns t c =
+take_up-returns t c l g =
     let is = c.lowest_conflict-conflict.ensures in
     given_split l _ _ _ _ _ _ _ _ _ g _ c.improves.ensures c.if-not-improves.false _ is _ c.way_count-n.ensures
     c.if-n-eq0.false _ _ _
@@ -102,7 +102,7 @@ try_way-bounds-marks-row-then-fails t c =
     row_few c.requires.line c.requires.given.tabled.within _ _ c.requires.choice _ c.requires.is_way
 
 pub try_way-returns-then-fails : goal.try_way-returns-then-fails
-try_way-returns-then-fails t c =
+try_way-returns-then-fails t c l x g i =
     given_fails l _ _ _ _ _ _ _ _ _ g x _ i _ c.with_bit.ensures _ c.counted-b.ensures _ c.cut_of.ensures
     (c.fails.ensures c.if-fails.true)
 
@@ -131,7 +131,7 @@ try_way-bounds-marks-row-then-c t c =
     row_few c.requires.line c.requires.given.tabled.within _ _ c.requires.choice _ c.requires.is_way
 
 pub try_way-returns-then-c : goal.try_way-returns-then-c
-try_way-returns-then-c t c =
+try_way-returns-then-c t c l x g i =
     given_dead l _ _ _ _ _ _ _ _ _ g x _ i _ c.with_bit.ensures _ c.counted-b.ensures _ c.copy_minutes.ensures _
     c.cut_of-2.ensures _ _ c.raised-c.ensures c.if-c.true
 
@@ -155,7 +155,7 @@ try_way-bounds-marks-row-3 t c =
     row_few c.requires.line c.requires.given.tabled.within _ _ c.requires.choice _ c.requires.is_way
 
 pub try_way-returns : goal.try_way-returns
-try_way-returns t c =
+try_way-returns t c l x g i =
     let alive = c.if-c.false in
     let given = next_given l _ _ _ _ _ _ _ _ _ g x _ i _ c.with_bit.ensures _ c.counted-b.ensures _
     c.copy_minutes.ensures _ c.cut_of-2.ensures _ _ c.raised-c.ensures alive in
