@@ -1,14 +1,13 @@
 -- `rules::bookings::floors_of` meets its contract: each booking of a line that can be run has its entry (`has_entry`). Assumes nothing.
-use Rattle.std.proofs.Common.{◌≡◌, length, sym, ◌∙◌}
-use lib.ListN.{length-map}
+use Rattle.std.proofs.Common.{◌≡◌, length, sym, ◌∙◌, arith}
 use Rattle.rules.specs.Check.FloorsLaws.{floors_line, has_entry}
 use Rattle.rules.proofs.bookings.floors_of.Goals as goal
 
 pub floors_by-requires : goal.floors_by-requires
 floors_by-requires c =
     let l = c.args.line in
-    let trains : length l.traffic.trains ≡ 12 = sym (length-map l.traffic.trains _) ∙ c.well_formed.0.1.1.1.0.1.1.1.0.1.0.1 in
-    let bookings : length l.booked.bookings ≡ 120 = sym (length-map l.booked.bookings _) ∙ c.well_formed.0.1.1.1.1.0.1.1.1.0.1.0.1 in
+    let trains : length l.traffic.trains ≡ 12 = omega arith in
+    let bookings : length l.booked.bookings ≡ 120 = omega arith in
     (c.requires.bookings.1, has_entry l c.requires trains bookings)
 
 pub returns : goal.returns

@@ -1,15 +1,12 @@
 -- `rules::conflicts::lowest_conflict` meets its contract: a segment's conflict is the lowest, and without one the station's. Assumes nothing.
-use Rattle.std.proofs.Common.{refl}
-use denote.Enum.Declared.{tag_of}
-use Rattle.rules.specs.Conflict.ConflictsLaws.{conflict_stays}
+use Rattle.rules.specs.Conflict.KeptLaws.{conflict_kept}
 use Rattle.rules.specs.Scan.StationLaws.{lowest_segment, lowest_station}
-use Rattle.rules.specs.contracts.conflicts.Conflict.{the_type}
 use Rattle.rules.proofs.conflicts.lowest_conflict.Goals as goal
 
 pub returns-in_default : goal.returns-in_default
 returns-in_default c =
     let a = c.args in
-    lowest_segment a.layout a.ds.now a.m.now _ c.segment_conflict-found.ensures (conflict_stays (tag_of the_type) refl _ c.in_default.keys2)
+    lowest_segment a.layout a.ds.now a.m.now _ c.segment_conflict-found.ensures (conflict_kept _ c.in_default.not-Nothing)
 
 pub returns : goal.returns
 returns c =

@@ -1,8 +1,7 @@
 -- The answers; the idea of the proof is at the head of the invariants.
-use Rattle.std.proofs.Common.{◌-◌, sym, refl, ◌∙◌, arith}
-use denote.Enum.Declared.{tag_of}
-use Rattle.rules.specs.Conflict.ConflictsLaws.{conflict_stays, segment-start, segment-on, segment_found, segment_none}
-use Rattle.rules.specs.contracts.conflicts.Conflict.{the_type}
+use Rattle.std.proofs.Common.{◌-◌, sym, ◌∙◌, arith}
+use Rattle.rules.specs.Conflict.ConflictsLaws.{segment-start, segment-on, segment_found, segment_none}
+use Rattle.rules.specs.Conflict.KeptLaws.{conflict_kept}
 use Rattle.rules.proofs.conflicts.segment_conflict.Goals as goal
 
 pub loop-p-init : goal.loop-p-init
@@ -11,7 +10,7 @@ loop-p-init c = (segment-start _ _ _ _, omega arith)
 pub returns-in_default : goal.returns-in_default
 returns-in_default c =
     let w = c.loop-p in
-    segment_found _ _ _ _ _ _ _ (omega arith) w.invariant.0 (sym c.pair_on-found.ensures) (conflict_stays (tag_of the_type) refl _ c.in_default.keys2)
+    segment_found _ _ _ _ _ _ _ (omega arith) w.invariant.0 (sym c.pair_on-found.ensures) (conflict_kept _ c.in_default.not-Nothing)
 
 pub loop-p-preserved : goal.loop-p-preserved
 loop-p-preserved c =

@@ -1,9 +1,7 @@
 -- The answers; the idea of the proof is at the head of the invariants.
-use Rattle.std.proofs.Common.{◌-◌, refl, arith}
-use denote.Enum.Declared.{tag_of}
-use Rattle.rules.specs.Conflict.ConflictsLaws.{conflict_stays}
+use Rattle.std.proofs.Common.{◌-◌, arith}
+use Rattle.rules.specs.Conflict.KeptLaws.{conflict_kept}
 use Rattle.rules.specs.Scan.StationLaws.{station-start, station-on, station_found, station_none}
-use Rattle.rules.specs.contracts.conflicts.Conflict.{the_type}
 use Rattle.rules.proofs.conflicts.station_conflict.Goals as goal
 
 pub loop-s-init : goal.loop-s-init
@@ -14,7 +12,7 @@ returns-in_default c =
     let w = c.loop-s in
     let a = c.args in
     station_found a.layout.tracks _ _ _ _ _ _ w.invariant.0 (omega arith) c.loop-s-test.true c.crowd_on-found.ensures
-    (conflict_stays (tag_of the_type) refl _ c.in_default.keys2)
+    (conflict_kept _ c.in_default.not-Nothing)
 
 pub loop-s-preserved : goal.loop-s-preserved
 loop-s-preserved c =

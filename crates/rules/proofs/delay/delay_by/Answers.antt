@@ -1,6 +1,5 @@
 -- The answers; the idea of the proof is at the head of the invariants.
-use Rattle.std.proofs.Common.{◌≡◌, ◌-◌, ◌*◌, ◌≤◌, length, sym, ◌∙◌, ⊎_elim, mul-le-mul, arith}
-use lib.ListN.{length-map}
+use Rattle.std.proofs.Common.{◌≡◌, ◌-◌, ◌*◌, ◌≤◌, length, sym, ◌∙◌, mul-le-mul, arith}
 use Rattle.finite.specs.Below.{sum}
 use Rattle.line.specs.Runnable.{TrainRunnable}
 use Rattle.rules.specs.Statement.Paths.{train, Routed}
@@ -9,6 +8,7 @@ use Rattle.rules.specs.Check.Dues.{cost_by}
 use Rattle.rules.specs.Check.RulesLaws.{sum-next}
 use Rattle.rules.specs.Check.DuesLaws.{cost-start, cost_late, cost_none, cost-end}
 use Rattle.rules.proofs.delay.delay_by.Goals as goal
+use Rattle.rules.proofs.delay.delay_by.Goals.{then-due-arrival, else-due-arrival}
 
 pub loop-i-init : goal.loop-i-init
 loop-i-init c =
@@ -16,14 +16,14 @@ loop-i-init c =
 
 pub overflow_sub-last : goal.overflow_sub-last
 overflow_sub-last c =
-    let runnable : let a = c.args in TrainRunnable a.line.track.station_count (train a.line c.loop-i.i) = let size : length c.args.line.traffic.trains ≡ 12 = sym (length-map c.args.line.traffic.trains _) ∙ c.well_formed.0.1.1.1.0.1.1.1.0.1.0.1 in
+    let runnable : let a = c.args in TrainRunnable a.line.track.station_count (train a.line c.loop-i.i) = let size : length c.args.line.traffic.trains ≡ 12 = omega arith in
     train_runnable c.args.line c.loop-i.i c.requires.0 size c.loop-i-test.true in
     let path : Routed (train c.args.line c.loop-i.i) = routed_runnable _ _ (runnable) c.requires.0.stations.1 in
     omega (arith, c.legs_between-last.ensures, legs_few _ (path))
 
 pub arrival_of-requires : goal.arrival_of-requires
 arrival_of-requires c =
-    let runnable : let a = c.args in TrainRunnable a.line.track.station_count (train a.line c.loop-i.i) = let size : length c.args.line.traffic.trains ≡ 12 = sym (length-map c.args.line.traffic.trains _) ∙ c.well_formed.0.1.1.1.0.1.1.1.0.1.0.1 in
+    let runnable : let a = c.args in TrainRunnable a.line.track.station_count (train a.line c.loop-i.i) = let size : length c.args.line.traffic.trains ≡ 12 = omega arith in
     train_runnable c.args.line c.loop-i.i c.requires.0 size c.loop-i-test.true in
     let path : Routed (train c.args.line c.loop-i.i) = routed_runnable _ _ (runnable) c.requires.0.stations.1 in
     (
@@ -39,7 +39,7 @@ bounds-dues-i c =
 
 pub overflow_mul-total : goal.overflow_mul-total
 overflow_mul-total c =
-    let runnable : let a = c.args in TrainRunnable a.line.track.station_count (train a.line c.loop-i.i) = let size : length c.args.line.traffic.trains ≡ 12 = sym (length-map c.args.line.traffic.trains _) ∙ c.well_formed.0.1.1.1.0.1.1.1.0.1.0.1 in
+    let runnable : let a = c.args in TrainRunnable a.line.track.station_count (train a.line c.loop-i.i) = let size : length c.args.line.traffic.trains ≡ 12 = omega arith in
     train_runnable c.args.line c.loop-i.i c.requires.0 size c.loop-i-test.true in
     let most : c.wide.result * (c.wide-arrival.result - c.wide-due.result) ≤ 99 * 65535 = mul-le-mul {n₂ = 99} {m₂ = 65535} (omega (arith, c.wide.ensures.0, (runnable).weight))
     (omega (arith, c.wide-arrival.ensures.1)) in
@@ -47,7 +47,7 @@ overflow_mul-total c =
 
 pub overflow_add-total : goal.overflow_add-total
 overflow_add-total c =
-    let runnable : let a = c.args in TrainRunnable a.line.track.station_count (train a.line c.loop-i.i) = let size : length c.args.line.traffic.trains ≡ 12 = sym (length-map c.args.line.traffic.trains _) ∙ c.well_formed.0.1.1.1.0.1.1.1.0.1.0.1 in
+    let runnable : let a = c.args in TrainRunnable a.line.track.station_count (train a.line c.loop-i.i) = let size : length c.args.line.traffic.trains ≡ 12 = omega arith in
     train_runnable c.args.line c.loop-i.i c.requires.0 size c.loop-i-test.true in
     let most : c.wide.result * (c.wide-arrival.result - c.wide-due.result) ≤ 99 * 65535 = mul-le-mul {n₂ = 99} {m₂ = 65535} (omega (arith, c.wide.ensures.0, (runnable).weight))
     (omega (arith, c.wide-arrival.ensures.1)) in
@@ -61,18 +61,21 @@ loop-i-preserved c =
     let legs = c.legs_between-last.ensures in
     let due = c.wide-due.ensures.0 in
     let trains = c.args.line.traffic.trains in
-    ⊎_elim
-    (λ w.
-    let late = cost_late trains c.args.dues.now c.args.m.now i.i legs last due w.1.ensures.0 in (
-      omega (arith, here),
-      w.2 ∙ sum-next (cost_by trains c.args.dues.now c.args.m.now) i.i i.invariant.1 late,
-      omega (arith, w.2, i.invariant.2, most (record { before = record { before = c; if1 = w.0 }; wide3 = w.1 })),
-    ))
-    (λ w.
-    let none = cost_none trains c.args.dues.now c.args.m.now i.i legs last due w.0.left in
-    let next = sum-next (cost_by trains c.args.dues.now c.args.m.now) i.i i.invariant.1 none in
-    (omega (arith, here), omega (arith, w.1, next), omega (arith, w.1, i.invariant.2)))
-    c.if-due-arrival.branch
+    let size : length trains ≡ 12 = omega arith in
+    elim c.if-due-arrival.branch [
+      | then-due-arrival w ↦
+          (let late = cost_late trains c.args.dues.now c.args.m.now i.i legs last due w.wide.ensures.0 in
+          let most : w.wide.result * (c.wide-arrival.result - c.wide-due.result) ≤ 99 * 65535 = mul-le-mul {n₂ = 99} {m₂ = 65535}
+              (omega (arith, w.wide.ensures.0, (train_runnable c.args.line i.i c.requires.0 size here).weight)) (omega (arith, c.wide-arrival.ensures.1)) in (
+            omega (arith, here),
+            w.total-is ∙ sum-next (cost_by trains c.args.dues.now c.args.m.now) i.i i.invariant.1 late,
+            omega (arith, w.total-is, i.invariant.2, most),
+          ))
+      | else-due-arrival w ↦
+          (let none = cost_none trains c.args.dues.now c.args.m.now i.i legs last due w.if-due-arrival.false in
+          let next = sum-next (cost_by trains c.args.dues.now c.args.m.now) i.i i.invariant.1 none in
+          (omega (arith, here), omega (arith, w.total-is, next), omega (arith, w.total-is, i.invariant.2)))
+    ]
 
 pub returns : goal.returns
 returns c =

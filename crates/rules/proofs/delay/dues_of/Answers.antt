@@ -1,6 +1,5 @@
 -- The answers; the idea of the proof is at the head of the invariants.
 use Rattle.std.proofs.Common.{◌≡◌, ◌-◌, length, sym, ◌∙◌, arith}
-use lib.ListN.{length-map}
 use Rattle.finite.specs.FillLaws.{begun_none, begun_more}
 use Rattle.rules.specs.Check.FloorsLaws.{runs_alone}
 use Rattle.rules.specs.Check.DuesLaws.{last_leg, due-from}
@@ -11,12 +10,12 @@ loop-i-init c = (omega arith, begun_none _ 12)
 
 pub bounds-trains-i : goal.bounds-trains-i
 bounds-trains-i c =
-    let size : length c.args.line.traffic.trains ≡ 12 = sym (length-map c.args.line.traffic.trains _) ∙ c.well_formed.0.1.1.1.0.1.1.1.0.1.0.1 in
+    let size : length c.args.line.traffic.trains ≡ 12 = omega arith in
     omega (arith, c.loop-i-test.true, c.requires.0.trains.1, size)
 
 pub due_by-requires : goal.due_by-requires
 due_by-requires c =
-    let size : length c.args.line.traffic.trains ≡ 12 = sym (length-map c.args.line.traffic.trains _) ∙ c.well_formed.0.1.1.1.0.1.1.1.0.1.0.1 in
+    let size : length c.args.line.traffic.trains ≡ 12 = omega arith in
     let l = c.args.line in
     let here = c.loop-i-test.true in
     let i = c.loop-i.i in (
@@ -36,7 +35,7 @@ loop-i-preserved c =
 
 pub returns : goal.returns
 returns c =
-    let size : length c.args.line.traffic.trains ≡ 12 = sym (length-map c.args.line.traffic.trains _) ∙ c.well_formed.0.1.1.1.0.1.1.1.0.1.0.1 in
+    let size : length c.args.line.traffic.trains ≡ 12 = omega arith in
     let h = c.loop-i.invariant in
     record {
       size = h.1.size;

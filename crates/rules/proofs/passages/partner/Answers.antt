@@ -1,8 +1,9 @@
 -- The answers; the idea of the proof is at the head of the invariants.
-use Rattle.std.proofs.Common.{◌-◌, false, ⊎_elim, arith, below_more}
+use Rattle.std.proofs.Common.{◌-◌, false, arith, below_more}
 use Rattle.rules.specs.Conflict.Conflicts.{clash}
 use Rattle.rules.specs.Conflict.ConflictsLaws.{clash_below, clash_off, clash_other_off, clash_here, clash-not, partner_found, partner_none}
 use Rattle.rules.proofs.passages.partner.Goals as goal
+use Rattle.rules.proofs.passages.partner.Goals.{then-y-ne0+else-neither, else-y-ne0}
 
 pub returns-then-x-eq0 : goal.returns-then-x-eq0
 returns-then-x-eq0 c = partner_none _ _ _ _ _ _ (λ k _. clash_off _ _ _ _ _ k _ c.passage_of-x.ensures c.if-x-eq0.true)
@@ -25,7 +26,10 @@ loop-j-preserved c =
       omega arith,
       omega arith,
       below_more _ _ c.loop-j.invariant.2
-          (⊎_elim (λ d. clash-not _ _ _ _ _ _ _ _ _ x y d.1.ensures d.2.left) (λ d. clash_other_off _ _ _ _ _ _ _ y d.left) c.if-y-ne0.branch),
+          (elim c.if-y-ne0.branch [
+            | then-y-ne0+else-neither w ↦ clash-not _ _ _ _ _ _ _ _ _ x y w.neither.ensures w.if-neither.false
+            | else-y-ne0 w ↦ clash_other_off _ _ _ _ _ _ _ y w.if-y-ne0.false
+          ]),
     )
 
 pub returns : goal.returns

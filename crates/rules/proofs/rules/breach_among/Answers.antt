@@ -1,20 +1,17 @@
 -- The answers; the idea of the proof is at the head of the invariants.
 use Rattle.std.proofs.Common.{◌≡◌, ℕ, ◌-◌, Bool, true, List, get_or, sym, ◌∙◌, arith, below_none, below_more}
-use borrow.Author.Tests.{not-true, not-false}
 use Rattle.line.specs.declared.Train.{Train}
 use Rattle.rules.specs.Statement.Paths.{past_train}
 use Rattle.rules.specs.Check.Floors.{floor_in}
 use Rattle.rules.specs.Check.Tests.{keeps_by}
 use Rattle.rules.specs.Check.BreachesLaws.{lowest_at, lowest_none}
+use Rattle.rules.proofs.rules.breach_among.Invariants.{keeps}
 use Rattle.rules.proofs.rules.breach_among.Goals as goal
-
-abbrev keeps : ℕ → List Train → List ℕ → List ℕ → ℕ → Bool
-keeps rule trains floors m i = keeps_by rule (floor_in floors i) (get_or trains i past_train) m i
 
 pub loop-i-init : goal.loop-i-init
 loop-i-init c =
     let a = c.args in
-    (omega arith, below_none (λ j. keeps a.rule a.t2 a.floors.now a.m.now j ≡ true))
+    (omega arith, below_none (λ j. keeps a.rule a.trains a.floors.now a.m.now j ≡ true))
 
 pub keeps_rule-requires : goal.keeps_rule-requires
 keeps_rule-requires c =
@@ -25,20 +22,20 @@ pub returns-then-not-keeps_rule : goal.returns-then-not-keeps_rule
 returns-then-not-keeps_rule c =
     let a = c.args in
     let w = c.loop-i in
-    lowest_at a.rule (keeps a.rule a.t2 a.floors.now a.m.now) a.count w.i c.loop-i-test.true
-    (sym c.keeps_rule.ensures ∙ not-true _ c.if-not-keeps_rule.true) w.invariant.1
+    lowest_at a.rule (keeps a.rule a.trains a.floors.now a.m.now) a.count w.i c.loop-i-test.true
+    (sym c.keeps_rule.ensures ∙ c.if-not-keeps_rule.true) w.invariant.1
 
 pub loop-i-preserved : goal.loop-i-preserved
 loop-i-preserved c =
     let a = c.args in
     let w = c.loop-i in (
       omega (arith, c.loop-i-test.true),
-      below_more (λ j. keeps a.rule a.t2 a.floors.now a.m.now j ≡ true) w.i w.invariant.1
-          (sym c.keeps_rule.ensures ∙ not-false _ c.if-not-keeps_rule.false),
+      below_more (λ j. keeps a.rule a.trains a.floors.now a.m.now j ≡ true) w.i w.invariant.1
+          (sym c.keeps_rule.ensures ∙ c.if-not-keeps_rule.false),
     )
 
 pub returns : goal.returns
 returns c =
     let a = c.args in
-    lowest_none a.rule (keeps a.rule a.t2 a.floors.now a.m.now) a.count
+    lowest_none a.rule (keeps a.rule a.trains a.floors.now a.m.now) a.count
     (λ j h. c.loop-i.invariant.1 j (omega (arith, h, c.loop-i-test.false)))

@@ -1,9 +1,10 @@
 -- The answers; the idea of the proof is at the head of the invariants.
-use Rattle.std.proofs.Common.{ℕ, ◌-◌, refl, ap, ◌∙◌, ⊎_elim, arith}
+use Rattle.std.proofs.Common.{ℕ, ◌-◌, refl, ap, ◌∙◌, arith}
 use Rattle.finite.specs.LoopLaws.{count_none, count_in, count_out, count_most}
 use Rattle.rules.specs.Conflict.Conflicts.{stands_at, crowd_mask}
 use Rattle.rules.specs.Scan.StationLaws.{stands_here, mask_start, mask_in, mask_full, mask_out, bit-next, bit_small}
 use Rattle.rules.proofs.stations.crowd_mask.Goals as goal
+use Rattle.rules.proofs.stations.crowd_mask.Goals.{then-stands, then-tracks-count, else-tracks-count, else-stands}
 
 pub loop-i-init : goal.loop-i-init
 loop-i-init c = (omega arith, mask_start _ _ _ _ _, refl, count_none _, omega arith)
@@ -29,18 +30,18 @@ loop-i-preserved c =
     let w = c.loop-i in
     let here = stands_here _ _ _ _ c.stay_at.ensures c.stands.ensures in
     let bit = bit-next _ _ w.invariant.2 in
-    ⊎_elim
-    (λ u.
-    let at = here ∙ u.0.taken in
-    let all = u.3 ∙ count_in _ _ _ at w.invariant.3 in
-    ⊎_elim
-    (λ v. (omega arith, u.2 ∙ v.1 ∙ mask_in _ _ _ _ _ _ _ w.invariant.1 _ _ at w.invariant.3 v.0.taken w.invariant.2, bit, all, omega (arith, u.2, v.1)))
-    (λ v. (omega arith, u.2 ∙ v.1 ∙ mask_full _ _ _ _ _ _ _ w.invariant.1 _ at w.invariant.3 (omega (arith, v.0.left)), bit, all, omega (arith, u.2, v.1)))
-    u.1.came)
-    (λ u.
-    let at = here ∙ u.0.left in
-    (omega arith, u.1 ∙ mask_out _ _ _ _ _ _ _ w.invariant.1 at, bit, u.2 ∙ count_out _ _ _ at w.invariant.3, omega (arith, u.1)))
-    c.if-stands.branch
+    elim c.if-stands.branch [
+      | then-stands u ↦
+          (let at = here ∙ u.if-stands.true in
+          let all = u.count-is ∙ count_in _ _ _ at w.invariant.3 in
+          elim u.if-tracks-count.branch [
+            | then-tracks-count v ↦ (omega arith, u.mask-is ∙ v.mask-is ∙ mask_in _ _ _ _ _ _ _ w.invariant.1 _ _ at w.invariant.3 v.if-tracks-count.true w.invariant.2, bit, all, omega (arith, u.mask-is, v.mask-is))
+            | else-tracks-count v ↦ (omega arith, u.mask-is ∙ v.mask-is ∙ mask_full _ _ _ _ _ _ _ w.invariant.1 _ at w.invariant.3 (omega (arith, v.if-tracks-count.false)), bit, all, omega (arith, u.mask-is, v.mask-is))
+          ])
+      | else-stands u ↦
+          (let at = here ∙ u.if-stands.false in
+          (omega arith, u.mask-is ∙ mask_out _ _ _ _ _ _ _ w.invariant.1 at, bit, u.count-is ∙ count_out _ _ _ at w.invariant.3, omega (arith, u.mask-is)))
+    ]
 
 pub returns : goal.returns
 returns c =

@@ -5,7 +5,7 @@ use Rattle.rules.specs.Scan.Scanning.{StaysOf}
 use Rattle.rules.proofs.stations.stays_at.Given as goal
 
 abbrev pub invariant-loop-i : goal.invariant-loop-i
-invariant-loop-i l = (l.i ≤ l.n) × StaysOf l.ds l.m l.i l.s (record { l.came = l.came; l.leaves = l.leaves })
+invariant-loop-i l = (l.i ≤ l.n) × StaysOf l.ds l.m l.i l.s (record { came = l.came; leaves = l.leaves })
 
 abbrev pub decreases-loop-i : goal.decreases-loop-i
 decreases-loop-i l = l.n - l.i
