@@ -15,7 +15,7 @@ goes_before-requires c =
     (r.shaped.marks_size, r.shaped.tables_size, r.shaped.directions_size, r.leg.0, f.0, c.requires.1)
 
 pub returns-then-goes_before : goal.returns-then-goes_before
-returns-then-goes_before c =
+returns-then-goes_before c = λ _.
     before_none _ _ _ _ _ _ _ _ _ c.requires.0.ready c.requires.1 c.requires.2 c.coming_leg-f.ensures
     (c.goes_before.ensures c.if-goes_before.true)
 
@@ -32,7 +32,7 @@ train_fails-requires c =
     )
 
 pub returns : goal.returns
-returns c =
+returns c = λ q.
     none_chosen _ _ _ _ _ _ _ _ _
     (serves_comes _ _ _ c.args.m.now c.args.e _ c.args.j c.requires.0.ready.leg c.requires.1 _ c.requires.2
     c.coming_leg-f.ensures refl) (c.train_fails.ensures q)

@@ -9,10 +9,10 @@ use Rattle.orders.specs.Look.ProspectsLaws.{none_late, none_dear}
 use Rattle.orders.proofs.prospects.end_fails.Goals as goal
 
 pub returns-then-arrival-limit_at : goal.returns-then-arrival-limit_at
-returns-then-arrival-limit_at c = none_late _ _ _ _ _ _ _ _ c.requires _ c.limit_at.ensures c.if-arrival-limit_at.true
+returns-then-arrival-limit_at c = λ _. none_late _ _ _ _ _ _ _ _ c.requires _ c.limit_at.ensures c.if-arrival-limit_at.true
 
 pub returns-then-arrival-former : goal.returns-then-arrival-former
-returns-then-arrival-former c = absurd (false≢true q)
+returns-then-arrival-former c = λ q. absurd (false≢true q)
 
 pub more_cost-requires : goal.more_cost-requires
 more_cost-requires c =
@@ -31,5 +31,5 @@ overflow_add-result c =
     omega (arith, c.more_cost.ensures.1, r.cost_is, cost-most c.args.t.now c.args.m.now r.shaped.weight-most r.within)
 
 pub returns : goal.returns
-returns c =
+returns c = λ q.
     none_dear _ _ _ _ _ _ _ _ c.requires _ _ refl (omega (arith, c.if-arrival-former.false)) c.more_cost.ensures.0 (ltb-true _ _ q)

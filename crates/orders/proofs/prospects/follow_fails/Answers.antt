@@ -16,7 +16,7 @@ train_fails-requires c =
     )
 
 pub returns : goal.returns
-returns c =
+returns c = λ q.
     none_chosen _ _ _ _ _ _ _ _ _
     (serves_behind _ _ _ c.args.m.now c.args.e _ c.args.j c.requires.0.ready.leg c.requires.1 _ _ c.requires.2 refl
     c.times_behind-b.ensures.0) (c.train_fails.ensures q)

@@ -3,27 +3,27 @@ use mathlib.Core.Path.{sym, ◌∙◌}
 use mathlib.Core.Logic.{inl, inr}
 use mathlib.Core.Bool.{true≢false}
 use native.Mathlib.Omega.{arith}
-use borrow.Author.Tests.{not-true, not-false, eqb-true, eqb-false}
+use borrow.Author.Tests.{not-true, eqb-true, eqb-false}
 use Rattle.orders.proofs.prospects.goes_before.Goals as goal
 
 pub returns-then-i-ge12 : goal.returns-then-i-ge12
-returns-then-i-ge12 c = absurd (true≢false (sym q))
+returns-then-i-ge12 c = λ q. absurd (true≢false (sym q))
 
 pub returns-then-not-has_bit : goal.returns-then-not-has_bit
-returns-then-not-has_bit c = absurd (true≢false (sym q))
+returns-then-not-has_bit c = λ q. absurd (true≢false (sym q))
 
 pub returns-then-f-x : goal.returns-then-f-x
-returns-then-f-x c =
+returns-then-f-x c = λ q.
     record {
       train = omega (arith, c.if-i-ge12.false);
-      marked = sym c.has_bit.ensures ∙ not-false _ c.if-not-has_bit.false;
+      marked = sym c.has_bit.ensures ∙ c.if-not-has_bit.false;
       goes = inl (c.if-f-x.true, eqb-false _ _ (not-true _ q));
     }
 
 pub returns : goal.returns
-returns c =
+returns c = λ q.
     record {
       train = omega (arith, c.if-i-ge12.false);
-      marked = sym c.has_bit.ensures ∙ not-false _ c.if-not-has_bit.false;
+      marked = sym c.has_bit.ensures ∙ c.if-not-has_bit.false;
       goes = inr (c.if-f-x.false, sym c.next_at.ensures ∙ eqb-true _ _ q);
     }

@@ -26,6 +26,6 @@ end_fails-requires c =
     ready_leg _ _ _ _ _ _ _ _ r (subst⁻¹ (UsedLeg c.args.ds.now) c.last_at.ensures last)
 
 pub returns : goal.returns
-returns c =
+returns c = λ q.
     none_by _ _ _ _ _ _ _ _ _ c.requires.0 _ _ _ _ c.run_at.ensures c.arrival_for-arrival.ensures
     c.last_at.ensures c.rest_at.ensures (c.end_fails.ensures q)

@@ -2,7 +2,7 @@
 use Prim.Native.Nat.{ℕ, ◌+◌, ◌-◌}
 use mathlib.Core.Path.{refl, ◌∙◌, ap}
 use mathlib.Core.Bool.{true}
-use mathlib.Core.Logic.{⊎_elim, inr}
+use mathlib.Core.Logic.{inr}
 use native.Mathlib.Omega.{arith}
 use lib.ListN.{get_or}
 use Rattle.orders.specs.LeastMinutes.NoLater.{slack}
@@ -14,44 +14,7 @@ use Rattle.orders.specs.Lift.ServingLaws.{serves_behind, serves_comes}
 use Rattle.orders.specs.Raise.RowLaws.{after-row, gone_row, row-start, row_none, row_next, row-end, comes_leg, row_still, row_raised, row_dead}
 use Rattle.orders.specs.Lift.SpreadingLaws.{RestAside, spread_after, spread_after_dead, spread_gone, spread_gone_dead, spread_end}
 use Rattle.orders.proofs.raising.+comers_followers_lift.Goals as goal
-
--- the path is raised
-lift-path : (t : ℕ) (c : lift-lts.Else1 (
-  raise-path-reads.Asked,
-  raise-path-reads.Learnt,
-  followers-below t,
-  followers.Post,
-  comers-below t,
-  comers.Post,
-  next-at-reads.Asked,
-  next-at-reads.Learnt,
-) (lift-at t) lift.Post lift-Inv-loop lift-μ-loop) →
-    let a = c.before.before.before.args in
-    let p = c.before.raise-path in
-    Stepped a.marks.now a.t.now a.ds.now (AsideOf a.t.now p.result.legs a.e) a.src a.cut a.e a.v a.w a.m.now
-    p.new.0 p.result.cost
-lift-path t c = c.before.raise-path.ensures.stepped c.if1.false
-
--- what `followers` leaves to do
-lift-followed : (t : ℕ) (c : lift-lts.Else2 (
-  raise-path-reads.Asked,
-  raise-path-reads.Learnt,
-  followers-below t,
-  followers.Post,
-  comers-below t,
-  comers.Post,
-  next-at-reads.Asked,
-  next-at-reads.Learnt,
-) (lift-at t) lift.Post lift-Inv-loop lift-μ-loop) →
-    let l = c.before.before.before.before in
-    let a = l.before.before.before.before.args in
-    let p = l.before.before.raise-path in
-    GoingFor a.marks.now a.t.now a.ds.now a.src a.cut (AsideOf a.t.now p.result.legs a.e)
-    (RestAside a.t.now l.loop.left l.loop.f) p.new.0 c.before.followers.new.0 c.before.followers.result
-lift-followed t c =
-    let l = c.before.before.before.before in
-    spread_after _ _ _ _ _ _ _ _ _ _ _ l.loop.invariant.2 l.loop.invariant.0 c.before.before.before.loop-test.true _ _
-    c.before.followers.ensures c.if2.false
+use Rattle.orders.proofs.raising.+comers_followers_lift.Goals.{comers-then-m-f+else-c, comers-else-m-f, followers-then-rises+else-c, followers-else-rises}
 
 pub comers-returns-then-s-eq0 : goal.comers-returns-then-s-eq0
 comers-returns-then-s-eq0 t c =
@@ -120,12 +83,12 @@ comers-loop-j-preserved t c =
     let on = c.loop-j.invariant.0 train in
     let g = c.loop-j.invariant.1 in
     row_next _ _ _ _ _ _ row _ _ _ _ (c.loop-j.j + 1) _
-    (⊎_elim
-    (λ w. row_raised _ _ _ _ _ _ row _ _ _ _ _ _ g _ _ _ _ _ (serves_comes _ _ _ _ _ _ _ c.requires.leg train _ on leg refl)
-    _ _ w.2.ensures w.3.left w.4 w.5)
-    (λ w. row_still _ _ _ _ _ _ row _ _ _ _ _ _ g _ _ _ _ _ (serves_comes _ _ _ _ _ _ _ c.requires.leg train _ on leg refl)
-    (omega arith) w.0.left w.1 w.2)
-    c.if-m-f.branch) _ _ (ap (λ (x : ℕ). get_or c.args.marks.now x 0) c.leaving_row-row.ensures.0)
+    (elim c.if-m-f.branch [
+      | comers-then-m-f+else-c w ↦ row_raised _ _ _ _ _ _ row _ _ _ _ _ _ g _ _ _ _ _ (serves_comes _ _ _ _ _ _ _ c.requires.leg train _ on leg refl)
+          _ _ w.lift-c.ensures w.if-c.false w.m-is w.c-is
+      | comers-else-m-f w ↦ row_still _ _ _ _ _ _ row _ _ _ _ _ _ g _ _ _ _ _ (serves_comes _ _ _ _ _ _ _ c.requires.leg train _ on leg refl)
+          (omega arith) w.if-m-f.false w.m-is w.c-is
+    ]) _ _ (ap (λ (x : ℕ). get_or c.args.marks.now x 0) c.leaving_row-row.ensures.0)
     c.next_bit-j-in-loop-j.ensures
 
 pub comers-returns : goal.comers-returns
@@ -190,13 +153,14 @@ followers-loop-j-preserved t c =
     let on = c.loop-j.invariant.0 train in
     let g = c.loop-j.invariant.1 in
     row_next _ _ _ _ _ _ row _ _ _ _ (c.loop-j.j + 1) _
-    (⊎_elim
-    (λ w. row_raised _ _ _ _ _ _ row _ _ _ _ _ _ g _ _ _ _ _ (serves_behind _ _ _ _ _ _ _ c.requires.leg train _ _ on refl behind)
-    _ _ w.2.ensures w.3.left w.4 w.5)
-    (λ w. let z = c.rises.ensures.1 w.0.left in
-    row_still _ _ _ _ _ _ row _ _ _ _ _ _ g _ _ _ _ _ (serves_behind _ _ _ _ _ _ _ c.requires.leg train _ _ on refl behind)
-    z.0 z.1 w.1 w.2)
-    c.if-rises.branch) _ _ refl c.next_bit-j-in-loop-j.ensures
+    (elim c.if-rises.branch [
+      | followers-then-rises+else-c w ↦ row_raised _ _ _ _ _ _ row _ _ _ _ _ _ g _ _ _ _ _ (serves_behind _ _ _ _ _ _ _ c.requires.leg train _ _ on refl behind)
+          _ _ w.lift-c.ensures w.if-c.false w.m-is w.c-is
+      | followers-else-rises w ↦
+          (let z = c.rises.ensures.1 w.if-rises.false in
+          row_still _ _ _ _ _ _ row _ _ _ _ _ _ g _ _ _ _ _ (serves_behind _ _ _ _ _ _ _ c.requires.leg train _ _ on refl behind)
+          z.0 z.1 w.m-is w.c-is)
+    ]) _ _ refl c.next_bit-j-in-loop-j.ensures
 
 pub followers-returns : goal.followers-returns
 followers-returns t c =
@@ -211,44 +175,49 @@ lift-returns-then-c t c = lifted_dead _ _ _ _ _ _ _ _ _ _ (c.raise_path-path.ens
 pub lift-loop-left-init : goal.lift-loop-left-init
 lift-loop-left-init t c =
     let r = c.requires.0 in
-    (going_start _ _ _ _ _ _ _ _ _ _ (stepped_ready _ _ _ _ _ _ _ _ _ _ _ _ (lift-path t c) _ r), r.leg, λ a d. d)
+    (going_start _ _ _ _ _ _ _ _ _ _ (stepped_ready _ _ _ _ _ _ _ _ _ _ _ _ (c.raise_path-path.ensures.stepped c.if-c.false) _ r), r.leg, λ a d. d)
 
 pub lift-followers-c-requires : goal.lift-followers-c-requires
 lift-followers-c-requires t c =
     let g = c.loop-left.invariant.0 in
-    let z = lift-path t c in (
+    let z = c.raise_path-path.ensures.stepped c.if-c.false in (
       omega (arith, c.decreases, z.less, going_slack _ _ _ _ _ _ _ _ _ _ _ g),
       going_ready _ _ _ _ _ _ _ _ _ _ _ g _ _ _ (stepped_ready _ _ _ _ _ _ _ _ _ _ _ _ z _ c.requires.0) c.loop-left.invariant.1,
     )
 
 pub lift-returns-then-c-2 : goal.lift-returns-then-c-2
 lift-returns-then-c-2 t c =
-    stepped_last _ _ _ _ _ _ _ _ _ _ _ _ (lift-path t c) _ _
+    stepped_last _ _ _ _ _ _ _ _ _ _ _ _ (c.raise_path-path.ensures.stepped c.if-c.false) _ _
     (spread_after_dead _ _ _ _ _ _ _ _ _ _ _ c.loop-left.invariant.2 c.loop-left.invariant.0 c.loop-left-test.true _ _
     c.followers-c.ensures c.if-c-2.true)
 
 pub lift-comers-c-requires : goal.lift-comers-c-requires
 lift-comers-c-requires t c =
-    let g = lift-followed t c in
-    let z = lift-path t c in (
+    let a = c.args in
+    let l = c.loop-left in
+    let p = c.raise_path-path in
+    let g : GoingFor a.marks.now a.t.now a.ds.now a.src a.cut (AsideOf a.t.now p.result.legs a.e) (RestAside a.t.now l.left l.f) p.new.m
+        c.followers-c.new.m c.followers-c.result =
+        spread_after _ _ _ _ _ _ _ _ _ _ _ c.loop-left.invariant.2 c.loop-left.invariant.0 c.loop-left-test.true _ _ c.followers-c.ensures c.if-c-2.false in
+    let z = c.raise_path-path.ensures.stepped c.if-c.false in (
       omega (arith, c.decreases, z.less, going_slack _ _ _ _ _ _ _ _ _ _ _ g),
       going_ready _ _ _ _ _ _ _ _ _ _ _ g _ _ _ (stepped_ready _ _ _ _ _ _ _ _ _ _ _ _ z _ c.requires.0) c.loop-left.invariant.1,
     )
 
 pub lift-returns-then-c-3 : goal.lift-returns-then-c-3
 lift-returns-then-c-3 t c =
-    stepped_last _ _ _ _ _ _ _ _ _ _ _ _ (lift-path t c) _ _
-    (spread_gone_dead _ _ _ _ _ _ _ _ _ _ _ c.loop-left.invariant.2 (lift-followed t c)
+    stepped_last _ _ _ _ _ _ _ _ _ _ _ _ (c.raise_path-path.ensures.stepped c.if-c.false) _ _
+    (spread_gone_dead _ _ _ _ _ _ _ _ _ _ _ c.loop-left.invariant.2 (spread_after _ _ _ _ _ _ _ _ _ _ _ c.loop-left.invariant.2 c.loop-left.invariant.0 c.loop-left-test.true _ _ c.followers-c.ensures c.if-c-2.false)
     c.loop-left-test.true _ _ c.comers-c.ensures c.if-c-3.true)
 
 pub lift-loop-left-preserved : goal.lift-loop-left-preserved
 lift-loop-left-preserved t c =
     let r = c.requires.0 in
-    spread_gone _ _ _ _ _ _ _ _ _ _ _ c.loop-left.invariant.2 (lift-followed t c)
+    spread_gone _ _ _ _ _ _ _ _ _ _ _ c.loop-left.invariant.2 (spread_after _ _ _ _ _ _ _ _ _ _ _ c.loop-left.invariant.2 c.loop-left.invariant.0 c.loop-left-test.true _ _ c.followers-c.ensures c.if-c-2.false)
     c.loop-left-test.true _ _ c.comers-c.ensures
     r.shaped c.loop-left.invariant.1 _ c.next_at-f.ensures c.if-c-3.false
 
 pub lift-returns : goal.lift-returns
 lift-returns t c =
-    stepped_last _ _ _ _ _ _ _ _ _ _ _ _ (lift-path t c) _ _
+    stepped_last _ _ _ _ _ _ _ _ _ _ _ _ (c.raise_path-path.ensures.stepped c.if-c.false) _ _
     (spread_end _ _ _ _ _ _ _ _ _ _ _ c.loop-left.invariant.2 c.loop-left.invariant.0 c.loop-left-test.false c.requires.0.cut_in)

@@ -1,11 +1,12 @@
 -- `orders::raising::follow` meets its contract: the choice is seen to arc by arc. The first lift leaves at most the arc between arrivals, and every solution
 -- has its minutes (`Halfway`); the second gives the least minutes or none. Each has as its source the event that its arc starts from.
 use mathlib.Core.Path.{refl}
-use mathlib.Core.Logic.{inl, inr, ⊎_elim}
+use mathlib.Core.Logic.{inl, inr}
 use native.Mathlib.Omega.{arith}
-use Rattle.orders.specs.Lift.TwoArcsLaws.{Halfway, halfway_as, departure_still, departure_dead, departure_lifted, arrival_still, arrival_lifted, }
+use Rattle.orders.specs.Lift.TwoArcsLaws.{Halfway, halfway_as, departure_still, departure_dead, departure_lifted, arrival_still, arrival_lifted}
 use Rattle.orders.specs.Lift.LiftingLaws.{ready_leg}
 use Rattle.orders.proofs.raising.follow.Goals as goal
+use Rattle.orders.proofs.raising.follow.Goals.{then-m-f+else-c, else-m-f}
 
 pub lift-c-requires : goal.lift-c-requires
 lift-c-requires c =
@@ -23,14 +24,14 @@ returns-then-c c =
 
 pub lift-requires : goal.lift-requires
 lift-requires c =
-    let half : let a = c.args in Halfway a.marks.now a.t.now a.ds.now a.e a.j a.cut a.m.now c.if-m-f.m c.if-m-f.c = ⊎_elim
-    (λ w. halfway_as _ _ _ _ _ _ _ _ _
-    (departure_lifted _ _ _ _ _ _ _ _ _ c.requires.0.ready.leg c.requires.1 c.requires.2 refl c.times_behind-b.ensures.0 _ _ _
-    w.1.ensures c.requires.0 _ _ w.3.ensures w.4.left) _ _ w.5 w.6)
-    (λ w. halfway_as _ _ _ _ _ _ _ _ _
-    (departure_still _ _ _ _ _ _ _ _ _ c.requires.0.ready.leg c.requires.1 c.requires.2 refl c.times_behind-b.ensures.0 _ _ _
-    refl c.requires.0 w.0.left) _ _ w.1 w.2)
-    c.if-m-f.branch in
+    let half : let a = c.args in Halfway a.marks.now a.t.now a.ds.now a.e a.j a.cut a.m.now c.if-m-f.m c.if-m-f.c = elim c.if-m-f.branch [
+      | then-m-f+else-c w ↦ halfway_as _ _ _ _ _ _ _ _ _
+          (departure_lifted _ _ _ _ _ _ _ _ _ c.requires.0.ready.leg c.requires.1 c.requires.2 refl c.times_behind-b.ensures.0 _ _ _
+          w.source_of-src.ensures c.requires.0 _ _ w.lift-c.ensures w.if-c.false) _ _ w.m-is w.c-is
+      | else-m-f w ↦ halfway_as _ _ _ _ _ _ _ _ _
+          (departure_still _ _ _ _ _ _ _ _ _ c.requires.0.ready.leg c.requires.1 c.requires.2 refl c.times_behind-b.ensures.0 _ _ _
+          refl c.requires.0 w.if-m-f.false) _ _ w.m-is w.c-is
+    ] in
     let r = (half).choosing.ready in (
       ready_leg _ _ _ _ _ _ _ _ r (r.shaped.beside_used c.args.e c.args.j r.leg c.requires.1 c.requires.2),
       inr c.if-m-f-2.true,
@@ -40,25 +41,25 @@ lift-requires c =
 
 pub returns-then-m-f-2 : goal.returns-then-m-f-2
 returns-then-m-f-2 c =
-    let half : let a = c.args in Halfway a.marks.now a.t.now a.ds.now a.e a.j a.cut a.m.now c.if-m-f.m c.if-m-f.c = ⊎_elim
-    (λ w. halfway_as _ _ _ _ _ _ _ _ _
-    (departure_lifted _ _ _ _ _ _ _ _ _ c.requires.0.ready.leg c.requires.1 c.requires.2 refl c.times_behind-b.ensures.0 _ _ _
-    w.1.ensures c.requires.0 _ _ w.3.ensures w.4.left) _ _ w.5 w.6)
-    (λ w. halfway_as _ _ _ _ _ _ _ _ _
-    (departure_still _ _ _ _ _ _ _ _ _ c.requires.0.ready.leg c.requires.1 c.requires.2 refl c.times_behind-b.ensures.0 _ _ _
-    refl c.requires.0 w.0.left) _ _ w.1 w.2)
-    c.if-m-f.branch in
+    let half : let a = c.args in Halfway a.marks.now a.t.now a.ds.now a.e a.j a.cut a.m.now c.if-m-f.m c.if-m-f.c = elim c.if-m-f.branch [
+      | then-m-f+else-c w ↦ halfway_as _ _ _ _ _ _ _ _ _
+          (departure_lifted _ _ _ _ _ _ _ _ _ c.requires.0.ready.leg c.requires.1 c.requires.2 refl c.times_behind-b.ensures.0 _ _ _
+          w.source_of-src.ensures c.requires.0 _ _ w.lift-c.ensures w.if-c.false) _ _ w.m-is w.c-is
+      | else-m-f w ↦ halfway_as _ _ _ _ _ _ _ _ _
+          (departure_still _ _ _ _ _ _ _ _ _ c.requires.0.ready.leg c.requires.1 c.requires.2 refl c.times_behind-b.ensures.0 _ _ _
+          refl c.requires.0 w.if-m-f.false) _ _ w.m-is w.c-is
+    ] in
     arrival_lifted _ _ _ _ _ _ _ _ _ c.requires.0.ready.leg c.requires.1 c.requires.2 refl c.times_behind-b.ensures.0 _ _ _ (half)
     c.if-m-f-2.true _ _ c.lift.ensures
 
 pub returns : goal.returns
 returns c =
-    let half : let a = c.args in Halfway a.marks.now a.t.now a.ds.now a.e a.j a.cut a.m.now c.if-m-f.m c.if-m-f.c = ⊎_elim
-    (λ w. halfway_as _ _ _ _ _ _ _ _ _
-    (departure_lifted _ _ _ _ _ _ _ _ _ c.requires.0.ready.leg c.requires.1 c.requires.2 refl c.times_behind-b.ensures.0 _ _ _
-    w.1.ensures c.requires.0 _ _ w.3.ensures w.4.left) _ _ w.5 w.6)
-    (λ w. halfway_as _ _ _ _ _ _ _ _ _
-    (departure_still _ _ _ _ _ _ _ _ _ c.requires.0.ready.leg c.requires.1 c.requires.2 refl c.times_behind-b.ensures.0 _ _ _
-    refl c.requires.0 w.0.left) _ _ w.1 w.2)
-    c.if-m-f.branch in
+    let half : let a = c.args in Halfway a.marks.now a.t.now a.ds.now a.e a.j a.cut a.m.now c.if-m-f.m c.if-m-f.c = elim c.if-m-f.branch [
+      | then-m-f+else-c w ↦ halfway_as _ _ _ _ _ _ _ _ _
+          (departure_lifted _ _ _ _ _ _ _ _ _ c.requires.0.ready.leg c.requires.1 c.requires.2 refl c.times_behind-b.ensures.0 _ _ _
+          w.source_of-src.ensures c.requires.0 _ _ w.lift-c.ensures w.if-c.false) _ _ w.m-is w.c-is
+      | else-m-f w ↦ halfway_as _ _ _ _ _ _ _ _ _
+          (departure_still _ _ _ _ _ _ _ _ _ c.requires.0.ready.leg c.requires.1 c.requires.2 refl c.times_behind-b.ensures.0 _ _ _
+          refl c.requires.0 w.if-m-f.false) _ _ w.m-is w.c-is
+    ] in
     arrival_still _ _ _ _ _ _ _ _ _ c.requires.0.ready.leg c.requires.1 c.requires.2 refl c.times_behind-b.ensures.0 _ _ _ (half) c.if-m-f-2.false

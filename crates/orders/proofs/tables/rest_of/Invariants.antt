@@ -9,7 +9,7 @@ use Rattle.orders.specs.LineTables.Tables.{rest_of}
 use Rattle.orders.proofs.tables.rest_of.Given as goal
 
 abbrev pub invariant-loop-k : goal.invariant-loop-k
-invariant-loop-k l = (l.k ≤ l.j) × ((l : Line) → l.legs ≡ paths.legs l l.i → l.runs ≡ (train l l.i).runs → l.stops ≡ (train l l.i).stops → l.rest ≡ rest_of l l.i l.k)
+invariant-loop-k l = (l.k ≤ l.j) × ((line : Line) → l.legs ≡ paths.legs line l.i → l.runs ≡ (train line l.i).runs → l.stops ≡ (train line l.i).stops → l.rest ≡ rest_of line l.i l.k)
 
 abbrev pub decreases-loop-k : goal.decreases-loop-k
 decreases-loop-k l = l.j - l.k

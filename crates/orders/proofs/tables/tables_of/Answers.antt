@@ -1,13 +1,13 @@
 -- The answers; the idea of the proof is at the head of the invariants.
 use Prim.Native.Nat.{◌-◌, ◌/◌, ◌%◌}
-use mathlib.Core.Path.{◌∙◌}
-use mathlib.Core.Logic.{⊎_elim}
+use mathlib.Core.Path.{◌≡◌, ◌∙◌}
 use native.Mathlib.Omega.{arith}
 use Rattle.orders.specs.LineTables.Tables.{table_size, table_entry}
 use Rattle.finite.specs.FillLaws.{begun_more}
 use Rattle.orders.specs.Graph.LegsLaws.{leg_is, leg-not}
 use Rattle.orders.specs.LineTables.TablesLaws.{no_leg_is, legs-later, tables_made}
 use Rattle.orders.proofs.tables.tables_of.Goals as goal
+use Rattle.orders.proofs.tables.tables_of.Goals.{then-ds-e-ne0, else-ds-e-ne0}
 
 pub directions_of-ds-requires : goal.directions_of-ds-requires
 directions_of-ds-requires c = c.requires.trains.1
@@ -34,11 +34,11 @@ loop-x-preserved c =
     let n = (w.x - 48) / 176 in
     let e = (w.x - 48) % 176 in
     let here = legs-later l w.x w.invariant.0 in
-    let entry = ⊎_elim
-    (λ h. h.3 ∙ h.2.ensures ∙ here)
-    (λ h. h.1 ∙ c.no_leg_entry-entry.ensures ∙
-    no_leg_is l n e (leg-not l e _ c.requires.trains.1 (omega arith) c.directions_of-ds.ensures h.0.left) ∙ here)
-    c.if-ds-e-ne0.branch in (
+    let entry : c.if-ds-e-ne0.entry ≡ table_entry l w.x = elim c.if-ds-e-ne0.branch [
+      | then-ds-e-ne0 h ↦ h.entry-is ∙ h.leg_entry-entry.ensures ∙ here
+      | else-ds-e-ne0 h ↦ h.entry-is ∙ c.no_leg_entry-entry.ensures ∙
+            no_leg_is l n e (leg-not l e _ c.requires.trains.1 (omega arith) c.directions_of-ds.ensures h.if-ds-e-ne0.false) ∙ here
+    ] in (
       omega (arith, w.invariant.0),
       omega (arith, c.loop-x-test.true),
       begun_more (table_entry l) table_size w.x _ _ w.invariant.2 c.loop-x-test.true entry,

@@ -3,7 +3,7 @@ use Prim.Native.Nat.{◌-◌}
 use mathlib.Core.Path.{◌≡◌, sym, ◌∙◌, ap}
 use mathlib.Core.List.{List}
 use native.Mathlib.Omega.{arith}
-use lib.ListN.{length, length-map}
+use lib.ListN.{length}
 use Rattle.line.specs.declared.Train.{Train}
 use Rattle.line.specs.declared.Line.{Line}
 use Rattle.line.specs.Record.{traffic_with}
@@ -25,7 +25,7 @@ bounds-trains-i-in-loop-i c = omega (arith, c.loop-i-test.true)
 
 pub loop-i-preserved : goal.loop-i-preserved
 loop-i-preserved c =
-    let size : length c.args.line.traffic.trains ≡ 12 = sym (length-map c.args.line.traffic.trains _) ∙ c.well_formed.0.1.1.1.0.1.1.1.0.1.0.1 in
+    let size : length c.args.line.traffic.trains ≡ 12 = omega arith in
     let here = c.loop-i-test.true in
     let i = c.loop-i.invariant in (
       omega (arith, here),
@@ -34,7 +34,7 @@ loop-i-preserved c =
 
 pub returns : goal.returns
 returns c =
-    let size : length c.args.line.traffic.trains ≡ 12 = sym (length-map c.args.line.traffic.trains _) ∙ c.well_formed.0.1.1.1.0.1.1.1.0.1.0.1 in
+    let size : length c.args.line.traffic.trains ≡ 12 = omega arith in
     let l = c.args.line in
     ap (λ (ts : List Train). made l ts)
     (waived-all _ _ _ c.loop-i.invariant.1 (omega (arith, c.loop-i-test.false, size)))

@@ -1,5 +1,5 @@
 -- The answers; the idea of the proof is at the head of the invariants.
-use Rattle.std.proofs.Common.{◌-◌, sym, arith, below_more}
+use Rattle.std.proofs.Common.{sym, arith, below_more}
 use Rattle.finite.specs.DecideLaws.{is_true, is_false}
 use Rattle.rules.specs.StatementLaws.PathsLaws.{legs_few}
 use Rattle.rules.specs.Check.Floors.{floor_in}

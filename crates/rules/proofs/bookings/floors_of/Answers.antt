@@ -1,5 +1,5 @@
 -- `rules::bookings::floors_of` meets its contract: each booking of a line that can be run has its entry (`has_entry`). Assumes nothing.
-use Rattle.std.proofs.Common.{◌≡◌, length, sym, ◌∙◌, arith}
+use Rattle.std.proofs.Common.{◌≡◌, length, arith}
 use Rattle.rules.specs.Check.FloorsLaws.{floors_line, has_entry}
 use Rattle.rules.proofs.bookings.floors_of.Goals as goal
 

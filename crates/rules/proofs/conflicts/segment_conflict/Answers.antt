@@ -1,5 +1,5 @@
 -- The answers; the idea of the proof is at the head of the invariants.
-use Rattle.std.proofs.Common.{◌-◌, sym, ◌∙◌, arith}
+use Rattle.std.proofs.Common.{sym, ◌∙◌, arith}
 use Rattle.rules.specs.Conflict.ConflictsLaws.{segment-start, segment-on, segment_found, segment_none}
 use Rattle.rules.specs.Conflict.KeptLaws.{conflict_kept}
 use Rattle.rules.proofs.conflicts.segment_conflict.Goals as goal

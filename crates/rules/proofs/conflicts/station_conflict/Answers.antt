@@ -1,5 +1,5 @@
 -- The answers; the idea of the proof is at the head of the invariants.
-use Rattle.std.proofs.Common.{◌-◌, arith}
+use Rattle.std.proofs.Common.{arith}
 use Rattle.rules.specs.Conflict.KeptLaws.{conflict_kept}
 use Rattle.rules.specs.Scan.StationLaws.{station-start, station-on, station_found, station_none}
 use Rattle.rules.proofs.conflicts.station_conflict.Goals as goal

@@ -1,5 +1,5 @@
 -- The answers; the idea of the proof is at the head of the invariants.
-use Rattle.std.proofs.Common.{◌≡◌, ◌+◌, ◌-◌, ◌<◌, ◌≤◌, max, get_or, sym, ap, ◌∙◌, arith, rules}
+use Rattle.std.proofs.Common.{◌≡◌, ◌+◌, ◌<◌, ◌≤◌, max, get_or, sym, ap, ◌∙◌, arith, rules}
 use Rattle.rules.specs.Check.Floors.{floor_in, arrived_by}
 use Rattle.rules.specs.Check.FloorsLaws.{arrived_start, arrived_next, alone_train, alone_leg, arrived_most}
 use Rattle.rules.proofs.delay.arrived_after.Goals as goal

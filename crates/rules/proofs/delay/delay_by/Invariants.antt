@@ -2,7 +2,6 @@
 -- so it fits. Assumes nothing.
 use Rattle.std.proofs.Common.{◌≡◌, ◌-◌, ◌*◌, ◌≤◌}
 use Rattle.finite.specs.Below.{sum}
-use Rattle.rules.specs.Statement.Paths.{train}
 use Rattle.rules.specs.Check.Dues.{cost_by}
 use Rattle.rules.proofs.delay.delay_by.Given as goal
 

@@ -1,5 +1,5 @@
 -- The answers; the idea of the proof is at the head of the invariants.
-use Rattle.std.proofs.Common.{◌≡◌, ◌-◌, length, sym, ◌∙◌, arith}
+use Rattle.std.proofs.Common.{◌≡◌, length, ◌∙◌, arith}
 use Rattle.finite.specs.FillLaws.{begun_none, begun_more}
 use Rattle.rules.specs.Check.FloorsLaws.{runs_alone}
 use Rattle.rules.specs.Check.DuesLaws.{last_leg, due-from}

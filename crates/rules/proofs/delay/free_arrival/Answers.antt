@@ -1,5 +1,5 @@
 -- `rules::delay::free_arrival` meets its contract. Assumes nothing.
-use Rattle.std.proofs.Common.{◌≡◌, ℕ, ◌-◌, ◌≤◌, length, sym, ap, ◌∙◌, arith}
+use Rattle.std.proofs.Common.{◌≡◌, ℕ, ◌-◌, ◌≤◌, length, ap, ◌∙◌, arith}
 use Rattle.rules.specs.Statement.Paths.{legs}
 use Rattle.rules.specs.StatementLaws.PathsLaws.{routed, legs_few}
 use Rattle.rules.specs.Statement.Delay.{free_after}

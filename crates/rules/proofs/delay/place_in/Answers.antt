@@ -1,5 +1,5 @@
 -- The answers; the idea of the proof is at the head of the invariants.
-use Rattle.std.proofs.Common.{◌-◌, ◌≤◌, length, refl, ◌∙◌, arith, rules}
+use Rattle.std.proofs.Common.{◌≤◌, length, refl, ◌∙◌, arith, rules}
 use Rattle.rules.specs.Check.DuesLaws.{found_here, found_later, found_nowhere}
 use Rattle.rules.proofs.delay.place_in.Goals as goal
 

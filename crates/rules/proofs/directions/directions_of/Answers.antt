@@ -1,5 +1,5 @@
 -- The answers; the idea of the proof is at the head of the invariants.
-use Rattle.std.proofs.Common.{◌-◌, sym, ◌∙◌, arith}
+use Rattle.std.proofs.Common.{sym, ◌∙◌, arith}
 use Rattle.rules.specs.Conflict.DirectionsLaws.{entry_is, filled_none, filled_at, filled_more, filled_all}
 use Rattle.rules.proofs.directions.directions_of.Goals as goal
 

@@ -1,5 +1,5 @@
 -- The answers; the idea of the proof is at the head of the invariants.
-use Rattle.std.proofs.Common.{◌-◌, sym, ◌∙◌, arith}
+use Rattle.std.proofs.Common.{sym, ◌∙◌, arith}
 use Rattle.rules.specs.Conflict.ConflictsLaws.{conflict_start, pair-on, pair_found, pair_none}
 use Rattle.rules.proofs.passages.pair_on.Goals as goal
 

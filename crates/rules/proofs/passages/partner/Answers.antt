@@ -1,6 +1,5 @@
 -- The answers; the idea of the proof is at the head of the invariants.
-use Rattle.std.proofs.Common.{◌-◌, false, arith, below_more}
-use Rattle.rules.specs.Conflict.Conflicts.{clash}
+use Rattle.std.proofs.Common.{arith, below_more}
 use Rattle.rules.specs.Conflict.ConflictsLaws.{clash_below, clash_off, clash_other_off, clash_here, clash-not, partner_found, partner_none}
 use Rattle.rules.proofs.passages.partner.Goals as goal
 use Rattle.rules.proofs.passages.partner.Goals.{then-y-ne0+else-neither, else-y-ne0}

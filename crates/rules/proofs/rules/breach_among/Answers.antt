@@ -1,9 +1,5 @@
 -- The answers; the idea of the proof is at the head of the invariants.
-use Rattle.std.proofs.Common.{◌≡◌, ℕ, ◌-◌, Bool, true, List, get_or, sym, ◌∙◌, arith, below_none, below_more}
-use Rattle.line.specs.declared.Train.{Train}
-use Rattle.rules.specs.Statement.Paths.{past_train}
-use Rattle.rules.specs.Check.Floors.{floor_in}
-use Rattle.rules.specs.Check.Tests.{keeps_by}
+use Rattle.std.proofs.Common.{◌≡◌, true, sym, ◌∙◌, arith, below_none, below_more}
 use Rattle.rules.specs.Check.BreachesLaws.{lowest_at, lowest_none}
 use Rattle.rules.proofs.rules.breach_among.Invariants.{keeps}
 use Rattle.rules.proofs.rules.breach_among.Goals as goal

@@ -1,6 +1,6 @@
 -- `rules::rules::train_breach` meets its contract: every train of a line has its path, and the list has the floors of the line (`breach_listed`). Assumes
 -- nothing.
-use Rattle.std.proofs.Common.{◌≡◌, length, arith, sym, ◌∙◌}
+use Rattle.std.proofs.Common.{◌≡◌, length, arith, ◌∙◌}
 use Rattle.line.specs.RunnableLaws.{within_runnable}
 use Rattle.rules.specs.StatementLaws.PathsLaws.{routed}
 use Rattle.rules.specs.Check.BreachesLaws.{breach_listed}

@@ -1,5 +1,5 @@
 -- The answers; the idea of the proof is at the head of the invariants.
-use Rattle.std.proofs.Common.{ℕ, ◌-◌, refl, ap, ◌∙◌, arith}
+use Rattle.std.proofs.Common.{ℕ, refl, ap, ◌∙◌, arith}
 use Rattle.finite.specs.LoopLaws.{count_none, count_in, count_out, count_most}
 use Rattle.rules.specs.Conflict.Conflicts.{stands_at, crowd_mask}
 use Rattle.rules.specs.Scan.StationLaws.{stands_here, mask_start, mask_in, mask_full, mask_out, bit-next, bit_small}

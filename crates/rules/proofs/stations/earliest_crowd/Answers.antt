@@ -1,5 +1,5 @@
 -- The answers; the idea of the proof is at the head of the invariants.
-use Rattle.std.proofs.Common.{◌≡◌, ℕ, ◌-◌, arith}
+use Rattle.std.proofs.Common.{◌≡◌, ℕ, arith}
 use Rattle.finite.specs.Below.{count as count_of}
 use Rattle.rules.specs.Conflict.Conflicts.{standing_at}
 use Rattle.rules.specs.Scan.Scanning.{stands_by}

@@ -1,5 +1,5 @@
 -- The answers; the idea of the proof is at the head of the invariants.
-use Rattle.std.proofs.Common.{◌-◌, ap, ◌∙◌, arith}
+use Rattle.std.proofs.Common.{ap, ◌∙◌, arith}
 use Rattle.finite.specs.Below.{count as count_of}
 use Rattle.finite.specs.LoopLaws.{count_none, count_in, count_out, count_most}
 use Rattle.rules.specs.Scan.Scanning.{stands_by}

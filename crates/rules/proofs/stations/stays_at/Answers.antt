@@ -1,5 +1,5 @@
 -- The answers; the idea of the proof is at the head of the invariants.
-use Rattle.std.proofs.Common.{ℕ, ◌-◌, subst, arith}
+use Rattle.std.proofs.Common.{ℕ, subst, arith}
 use Rattle.rules.specs.Scan.Scanning.{StaysOf}
 use Rattle.rules.specs.Scan.ScanningLaws.{stays_start, stays_in, stays_out}
 use Rattle.rules.proofs.stations.stays_at.Goals as goal
