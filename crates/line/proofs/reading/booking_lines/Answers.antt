@@ -4,7 +4,7 @@ use mathlib.Core.Path.{◌≡◌, ◌∙◌, sym, refl}
 use mathlib.Core.List.{List}
 use native.Mathlib.Omega.{arith}
 use native.Mathlib.Nat.{sub-zero}
-use lib.ListN.{length, set, replicate, take, length-map}
+use lib.ListN.{length, set, replicate, take}
 use Rattle.text.specs.declared.Cursor.{Cursor}
 use Rattle.text.specs.declared.Ending.{Ending}
 use Rattle.text.specs.Reading.Parsed.{Parsed}
@@ -49,7 +49,7 @@ module _ (n : ℕ) (f : Traffic) (count i : ℕ) (before : Booking) (s : List �
 pub lines-init : goal.lines-init
 lines-init c =
     let a = c.args in
-    (begin a.stations a.t5 a.count a.s.now a.start c.no_booking-before.ensures, omega arith, c.requires.2)
+    (begin a.stations a.traffic a.count a.s.now a.start c.no_booking-before.ensures, omega arith, c.requires.2)
 
 pub booking_place-part-requires : goal.booking_place-part-requires
 booking_place-part-requires c = c.lines.invariant.2
@@ -72,14 +72,14 @@ booking_rest-rest-requires c =
 
 pub lines-preserved : goal.lines-preserved
 lines-preserved c =
-    let room : c.args.traffic.train_count ≤ length c.args.traffic.trains = omega (arith, c.requires.1, sym (length-map c.args.traffic.trains _) ∙ c.well_formed.1.1.1.1.0.1.1.1.0.1.0.1) in
+    let room : c.args.traffic.train_count ≤ length c.args.traffic.trains = omega arith in
     let rest = c.booking_rest-rest in
     let a = c.args in
     let place = sym c.booking_place-part.ensures ∙ ended_told _ c.in-Done.is in
     let told = rest.ensures ∙ sym (booking_placed _ _ _ (room) c.lines.before _ _ place) in
     let counted = part_counted _ _ (stands-booking _ Counted (keeps_counted _) AnyNumber any_line_number _ _ _ _ c.lines.invariant.2) told
     c.in-Done-ended.is in (
-      line_read a.stations a.t5 a.count c.lines.i c.lines.before a.s.now c.lines.cursor c.lines.bookings _ c.lines.invariant.0 (omega arith)
+      line_read a.stations a.traffic a.count c.lines.i c.lines.before a.s.now c.lines.cursor c.lines.bookings _ c.lines.invariant.0 (omega arith)
           rest.result.ending rest.result.booking told c.in-Done-ended.is,
       omega arith,
       counted,
@@ -91,26 +91,26 @@ returns-then-i-count c =
     let w = c.lines in
     let a = c.args in
     let k : a.count - w.i ≡ 0 = omega arith in
-    sym (chain_lay_done (λ x y. y) (line_of a.stations a.t5) _ 0 _ _ _ _ _ k) ∙ w.invariant.0
+    sym (chain_lay_done (λ x y. y) (line_of a.stations a.traffic) _ 0 _ _ _ _ _ k) ∙ w.invariant.0
 
 pub returns-in_default : goal.returns-in_default
 unfolding padded
 returns-in_default c =
-    let room : c.args.traffic.train_count ≤ length c.args.traffic.trains = omega (arith, c.requires.1, sym (length-map c.args.traffic.trains _) ∙ c.well_formed.1.1.1.1.0.1.1.1.0.1.0.1) in
+    let room : c.args.traffic.train_count ≤ length c.args.traffic.trains = omega arith in
     let part = c.booking_place-part in
     let a = c.args in
     let refused = c.in_default.is in
     let place = sym part.ensures ∙ ended_told _ refused in
-    line_refused a.stations a.t5 a.count c.lines.i c.lines.before a.s.now c.lines.cursor c.lines.bookings _ c.lines.invariant.0 (omega arith)
+    line_refused a.stations a.traffic a.count c.lines.i c.lines.before a.s.now c.lines.cursor c.lines.bookings _ c.lines.invariant.0 (omega arith)
     part.result.ending no_booking (ended_told _ refused ∙ sym (booking_no_place _ _ _ (room) c.lines.before _ _ place)) _ refused
 
 pub returns-in_default-ended : goal.returns-in_default-ended
 unfolding padded
 returns-in_default-ended c =
-    let room : c.args.traffic.train_count ≤ length c.args.traffic.trains = omega (arith, c.requires.1, sym (length-map c.args.traffic.trains _) ∙ c.well_formed.1.1.1.1.0.1.1.1.0.1.0.1) in
+    let room : c.args.traffic.train_count ≤ length c.args.traffic.trains = omega arith in
     let rest = c.booking_rest-rest in
     let a = c.args in
     let place = sym c.booking_place-part.ensures ∙ ended_told _ c.in-Done.is in
     let told = rest.ensures ∙ sym (booking_placed _ _ _ (room) c.lines.before _ _ place) in
-    line_refused a.stations a.t5 a.count c.lines.i c.lines.before a.s.now c.lines.cursor c.lines.bookings _ c.lines.invariant.0 (omega arith)
+    line_refused a.stations a.traffic a.count c.lines.i c.lines.before a.s.now c.lines.cursor c.lines.bookings _ c.lines.invariant.0 (omega arith)
     rest.result.ending rest.result.booking told _ c.in_default-ended.is

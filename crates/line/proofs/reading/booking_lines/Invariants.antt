@@ -3,13 +3,15 @@
 -- and then the rest for that entry (`booking_placed`). Assumes nothing.
 use Prim.Native.Nat.{◌≤◌, ◌-◌}
 use mathlib.Core.Path.{◌≡◌}
-use lib.ListN.{replicate}
+use lib.ListN.{replicate, take}
 use Rattle.text.specs.Places.Lines.{Counted}
+use Rattle.text.specs.Elements.LayLaws.{lay_chain}
 use Rattle.line.specs.Record.{no_booking}
+use Rattle.line.specs.File.{booking_line}
 use Rattle.line.proofs.reading.booking_lines.Given as goal
 
 abbrev pub invariant-lines : goal.invariant-lines
-invariant-lines l = (yet l.stations l.traffic (l.count - l.i) l.before l.s l.cursor l.bookings l.i ≡ yet l.stations l.traffic l.count no_booking l.s l.initial.cursor (replicate 120 no_booking) 0)
+invariant-lines l = (lay_chain (λ a b. b) (booking_line l.stations (take l.traffic.train_count l.traffic.trains)) (l.count - l.i) l.before l.s l.cursor l.bookings l.i ≡ lay_chain (λ a b. b) (booking_line l.stations (take l.traffic.train_count l.traffic.trains)) l.count no_booking l.s l.initial.cursor (replicate 120 no_booking) 0)
     × (l.i ≤ l.count) × Counted l.cursor
 
 abbrev pub decreases-lines : goal.decreases-lines

@@ -10,13 +10,13 @@ use Rattle.line.proofs.reading.booking_rest.Goals as goal
 
 pub returns-then-not-may_stand : goal.returns-then-not-may_stand
 returns-then-not-may_stand c =
-    let test = ap not (sym c.may_stand.ensures) ∙ c.if-not-may_stand.true in
+    let test = ap not (sym c.may_stand.ensures ∙ c.if-not-may_stand.true) in
     ended_told _ c.no_booking_part.ensures ∙ sym (rest_not-standing _ _ _ _ _ test)
 
 pub returns-in_default : goal.returns-in_default
 returns-in_default c =
     let a = c.args in
-    let test = ap not (sym c.may_stand.ensures) ∙ c.if-not-may_stand.false in
+    let test = ap not (sym c.may_stand.ensures ∙ c.if-not-may_stand.false) in
     let refused = c.in_default.is in
     let minute = ranged_told 2 3 time 10 a.s.now _ refl refl c.ranged-m.ensures refused in
     ended_told _ (c.no_booking_part-in_default.ensures ∙ c.ending_of.ensures ∙ ap ending_of refused) ∙ sym (rest_no_minute _ _ _ _ _ test minute)
@@ -24,6 +24,6 @@ returns-in_default c =
 pub returns : goal.returns
 returns c =
     let a = c.args in
-    let test = ap not (sym c.may_stand.ensures) ∙ c.if-not-may_stand.false in
+    let test = ap not (sym c.may_stand.ensures ∙ c.if-not-may_stand.false) in
     let minute = ranged_told 2 3 time 10 a.s.now _ refl refl c.ranged-m.ensures c.in-Value.is in
     sym (rest_got _ _ _ _ _ test minute)

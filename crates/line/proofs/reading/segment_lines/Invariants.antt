@@ -1,11 +1,10 @@
 -- `line::reading::segment_lines` meets its contract. Each loop's invariant: what is yet to read, laid into its array as it stands, gives what its whole
 -- gives, and there are no more lines than bytes. A line's segment comes from its kind and what is yet to read of its gaps (`line-yet`). Assumes nothing.
 use Prim.Native.Nat.{◌≤◌, ◌-◌}
-use mathlib.Core.Path.{◌≡◌, ap}
+use mathlib.Core.Path.{◌≡◌}
 use lib.ListN.{replicate}
 use Rattle.text.specs.Places.Lines.{Counted}
 use Rattle.text.specs.Elements.LayLaws.{lay_many}
-use Rattle.line.specs.Ranges.{gap}
 use Rattle.line.specs.File.{segment_line}
 use Rattle.line.specs.FileLaws.{gap_at}
 use Rattle.line.proofs.reading.segment_lines.Given as goal

@@ -4,7 +4,6 @@ use Prim.Native.Nat.{◌≤◌, ◌-◌}
 use mathlib.Core.Path.{◌≡◌}
 use Rattle.text.specs.Places.Lines.{Counted}
 use Rattle.text.specs.Elements.LayLaws.{lay_many}
-use Rattle.line.specs.Ranges.{tracks}
 use Rattle.line.specs.File.{station_line}
 use Rattle.line.proofs.reading.station_lines.Given as goal
 

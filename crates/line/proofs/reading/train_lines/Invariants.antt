@@ -8,7 +8,6 @@ use Rattle.text.specs.Places.Lines.{Counted}
 use Rattle.text.specs.Elements.LayLaws.{lay_many}
 use Rattle.line.specs.Record.{no_train}
 use Rattle.line.specs.File.{train_line}
-use Rattle.line.specs.Ranges.{run, stop}
 use Rattle.line.specs.TrainLaws.{lay_journey}
 use Rattle.line.proofs.reading.train_lines.Given as goal
 

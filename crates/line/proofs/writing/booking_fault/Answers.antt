@@ -1,4 +1,6 @@
 -- `line::writing::booking_fault` meets its contract: each `return` is the first fault of the checks made so far. Assumes nothing.
+use mathlib.Core.Path.{ap}
+use mathlib.Core.Bool.{not}
 use Rattle.line.specs.FaultLaws.{found_first, found_later, fault_by, stands-not, stands}
 use Rattle.line.specs.Ranges.{train_number, station, time}
 use Rattle.line.specs.Writing.{booking_fault_with}
@@ -21,7 +23,7 @@ returns-then-not-may_stand c =
     found_later (fault_by (train_number _) _ _ c.value_fault-train.ensures c.value.ensures) c.in-None.is
     (found_later (fault_by (station _) _ _ c.value_fault-station.ensures c.value-2.ensures)
     c.in-None-station.is
-    (stands-not _ _ c.may_stand.ensures c.if-not-may_stand.true))
+    (stands-not _ _ c.may_stand.ensures (ap not c.if-not-may_stand.true)))
 
 pub returns : goal.returns
 unfolding booking_fault_with
@@ -29,5 +31,5 @@ returns c =
     found_later (fault_by (train_number _) _ _ c.value_fault-train.ensures c.value.ensures) c.in-None.is
     (found_later (fault_by (station _) _ _ c.value_fault-station.ensures c.value-2.ensures)
     c.in-None-station.is
-    (stands _ _ c.may_stand.ensures c.if-not-may_stand.false
+    (stands _ _ c.may_stand.ensures (ap not c.if-not-may_stand.false)
     (fault_by time _ _ c.value_fault.ensures c.value-3.ensures)))

@@ -5,11 +5,11 @@ use Prim.Native.Nat.{◌≤◌, ◌-◌, ◌+◌}
 use mathlib.Core.Path.{◌≡◌}
 use lib.ListN.{take, drop}
 use Rattle.line.specs.Record.{no_booking}
-use Rattle.line.specs.Writing.{rising_fault}
+use Rattle.line.specs.Writing.{rising_fault, booking_fault}
 use Rattle.line.proofs.writing.booking_faults.Given as goal
 
 abbrev pub invariant-loop-i : goal.invariant-loop-i
-invariant-loop-i l = (rising_fault (drop l.i (take l.count l.bookings)) (check l.stations l.traffic) l.before (l.first + l.i) ≡ rising_fault (take l.count l.bookings) (check l.stations l.traffic) no_booking l.first)
+invariant-loop-i l = (rising_fault (drop l.i (take l.count l.bookings)) (booking_fault l.stations (take l.traffic.train_count l.traffic.trains)) l.before (l.first + l.i) ≡ rising_fault (take l.count l.bookings) (booking_fault l.stations (take l.traffic.train_count l.traffic.trains)) no_booking l.first)
     × (l.i ≤ l.count)
 
 abbrev pub decreases-loop-i : goal.decreases-loop-i

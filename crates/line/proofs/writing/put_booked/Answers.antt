@@ -22,7 +22,7 @@ pub put_bookings-requires : goal.put_bookings-requires
 put_bookings-requires c =
     let a = c.args.booked in
     let written = sym c.left_off.ensures ∙ c.if-left_off.false in
-    (c.requires.0, omega (arith, section_size booking_text a.booking_count a.bookings written, c.requires.1, c.put_field-after_count.ensures.next, c.put_field-after_count.auto.0))
+    (c.requires.0, omega (arith, section_size booking_text a.booking_count a.bookings written, c.requires.1, c.put_field-after_count.ensures.next, c.put_field-after_count.auto.out))
 
 pub returns : goal.returns
 returns c =

@@ -6,18 +6,18 @@ use Rattle.line.proofs.writing.put_booking.Goals as goal
 
 pub put_field-after_train-requires : goal.put_field-after_train-requires
 put_field-after_train-requires c =
-    (omega (arith, booking_size c.args.booking), omega (arith, c.struct_known-1.given.0.fits))
+    (omega (arith, booking_size c.args.booking), omega arith)
 
 pub put_field-after_station-requires : goal.put_field-after_station-requires
 put_field-after_station-requires c = (
   omega (arith, booking_size c.args.booking),
-  omega (arith, c.struct_known-2-1.given.1.0.fits),
+  omega arith,
 )
 
 pub put_field-requires : goal.put_field-requires
 put_field-requires c = (
   omega (arith, booking_size c.args.booking),
-  omega (arith, c.struct_known-3-1.given.1.1.0.fits),
+  omega arith,
 )
 
 pub returns : goal.returns

@@ -11,7 +11,7 @@ put_booked-after_bookings-requires c =
 
 pub put_list-requires : goal.put_list-requires
 put_list-requires c =
-    (c.requires.1, omega (arith, further_size c.args.booked c.args.dues, c.requires.2, c.put_booked-after_bookings.ensures.next, c.put_booked-after_bookings.auto.0))
+    (c.requires.1, omega (arith, further_size c.args.booked c.args.dues, c.requires.2, c.put_booked-after_bookings.ensures.next, c.put_booked-after_bookings.auto.out))
 
 pub returns : goal.returns
 returns c =

@@ -6,24 +6,24 @@ use Rattle.line.proofs.writing.put_head.Goals as goal
 
 pub put_field-after_origin-requires : goal.put_field-after_origin-requires
 put_field-after_origin-requires c =
-    (omega (arith, head_size c.args.train), omega (arith, c.struct_known-1.given.0.fits))
+    (omega (arith, head_size c.args.train), omega arith)
 
 pub put_field-after_destination-requires : goal.put_field-after_destination-requires
 put_field-after_destination-requires c = (
   omega (arith, head_size c.args.train),
-  omega (arith, c.struct_known-2-1.given.1.0.fits),
+  omega arith,
 )
 
 pub put_field-after_earliest-requires : goal.put_field-after_earliest-requires
 put_field-after_earliest-requires c = (
   omega (arith, head_size c.args.train),
-  omega (arith, c.struct_known-3-1.given.1.1.0.fits),
+  omega arith,
 )
 
 pub put_field-after_latest-requires : goal.put_field-after_latest-requires
 put_field-after_latest-requires c =
     let a = c.args in
-    (omega (arith, head_size a.train), omega (arith, c.struct_known-4-1.given.1.1.1.0.fits))
+    (omega (arith, head_size a.train), omega arith)
 
 pub put_field-requires : goal.put_field-requires
 put_field-requires c =
@@ -33,15 +33,15 @@ put_field-requires c =
         head_size c.args.train,
         c.requires,
         c.put_field-after_origin.ensures.next,
-        c.put_field-after_origin.auto.0,
+        c.put_field-after_origin.auto.out,
         c.put_field-after_destination.ensures.next,
-        c.put_field-after_destination.auto.0,
+        c.put_field-after_destination.auto.out,
         c.put_field-after_earliest.ensures.next,
-        c.put_field-after_earliest.auto.0,
+        c.put_field-after_earliest.auto.out,
         c.put_field-after_latest.ensures.next,
-        c.put_field-after_latest.auto.0,
+        c.put_field-after_latest.auto.out,
       ),
-      omega (arith, c.struct_known-5-1.given.1.1.1.1.0.fits),
+      omega arith,
     )
 
 pub returns : goal.returns

@@ -1,5 +1,4 @@
 -- The answers; the idea of the proof is at the head of the invariants.
-use Prim.Native.Nat.{◌-◌}
 use native.Mathlib.Omega.{arith}
 use borrow.Author.Rules.{rules}
 use mir.Syntax.{w16}
@@ -29,7 +28,7 @@ put_field-at-requires c =
         arith,
         journey_room c.args.runs c.args.stops c.args.legs w.k (omega arith) w.invariant.0 (omega arith) c.requires.2,
         put.ensures.next,
-        put.auto.0,
+        put.auto.out,
       ),
       omega (arith, short.fits),
     )

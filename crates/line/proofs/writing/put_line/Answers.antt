@@ -15,7 +15,7 @@ put_field-after_count-requires c =
 
 pub put_stations-after_stations-requires : goal.put_stations-after_stations-requires
 put_stations-after_stations-requires c =
-    (omega (arith, c.requires.0.stations), omega (arith, line_size c.args.line, c.requires.1, c.put_field-after_count.ensures.next, c.put_field-after_count.auto.0))
+    (omega (arith, c.requires.0.stations), omega (arith, line_size c.args.line, c.requires.1, c.put_field-after_count.ensures.next, c.put_field-after_count.auto.out))
 
 pub put_field-after_joins-requires : goal.put_field-after_joins-requires
 put_field-after_joins-requires c =
@@ -25,9 +25,9 @@ put_field-after_joins-requires c =
         line_size c.args.line,
         c.requires.1,
         c.put_field-after_count.ensures.next,
-        c.put_field-after_count.auto.0,
+        c.put_field-after_count.auto.out,
         c.put_stations-after_stations.ensures.next,
-        c.put_stations-after_stations.auto.0,
+        c.put_stations-after_stations.auto.out,
       ),
       omega (arith, c.requires.0.stations),
     )
@@ -41,11 +41,11 @@ put_segments-after_segments-requires c =
         line_size c.args.line,
         c.requires.1,
         c.put_field-after_count.ensures.next,
-        c.put_field-after_count.auto.0,
+        c.put_field-after_count.auto.out,
         c.put_stations-after_stations.ensures.next,
-        c.put_stations-after_stations.auto.0,
+        c.put_stations-after_stations.auto.out,
         c.put_field-after_joins.ensures.next,
-        c.put_field-after_joins.auto.0,
+        c.put_field-after_joins.auto.out,
       ),
     )
 
@@ -57,13 +57,13 @@ put_field-after_number-requires c =
         line_size c.args.line,
         c.requires.1,
         c.put_field-after_count.ensures.next,
-        c.put_field-after_count.auto.0,
+        c.put_field-after_count.auto.out,
         c.put_stations-after_stations.ensures.next,
-        c.put_stations-after_stations.auto.0,
+        c.put_stations-after_stations.auto.out,
         c.put_field-after_joins.ensures.next,
-        c.put_field-after_joins.auto.0,
+        c.put_field-after_joins.auto.out,
         c.put_segments-after_segments.ensures.next,
-        c.put_segments-after_segments.auto.0,
+        c.put_segments-after_segments.auto.out,
       ),
       omega (arith, c.requires.0.trains),
     )
@@ -79,15 +79,15 @@ put_trains-after_trains-requires c =
         line_size c.args.line,
         c.requires.1,
         c.put_field-after_count.ensures.next,
-        c.put_field-after_count.auto.0,
+        c.put_field-after_count.auto.out,
         c.put_stations-after_stations.ensures.next,
-        c.put_stations-after_stations.auto.0,
+        c.put_stations-after_stations.auto.out,
         c.put_field-after_joins.ensures.next,
-        c.put_field-after_joins.auto.0,
+        c.put_field-after_joins.auto.out,
         c.put_segments-after_segments.ensures.next,
-        c.put_segments-after_segments.auto.0,
+        c.put_segments-after_segments.auto.out,
         c.put_field-after_number.ensures.next,
-        c.put_field-after_number.auto.0,
+        c.put_field-after_number.auto.out,
       ),
     )
 
@@ -101,17 +101,17 @@ put_further-requires c =
         line_size c.args.line,
         c.requires.1,
         c.put_field-after_count.ensures.next,
-        c.put_field-after_count.auto.0,
+        c.put_field-after_count.auto.out,
         c.put_stations-after_stations.ensures.next,
-        c.put_stations-after_stations.auto.0,
+        c.put_stations-after_stations.auto.out,
         c.put_field-after_joins.ensures.next,
-        c.put_field-after_joins.auto.0,
+        c.put_field-after_joins.auto.out,
         c.put_segments-after_segments.ensures.next,
-        c.put_segments-after_segments.auto.0,
+        c.put_segments-after_segments.auto.out,
         c.put_field-after_number.ensures.next,
-        c.put_field-after_number.auto.0,
+        c.put_field-after_number.auto.out,
         c.put_trains-after_trains.ensures.next,
-        c.put_trains-after_trains.auto.0,
+        c.put_trains-after_trains.auto.out,
       ),
     )
 
@@ -119,13 +119,13 @@ pub shape_of-out : goal.shape_of-out
 shape_of-out c =
     omega (
       arith,
-      c.put_field-after_count.auto.0,
-      c.put_stations-after_stations.auto.0,
-      c.put_field-after_joins.auto.0,
-      c.put_segments-after_segments.auto.0,
-      c.put_field-after_number.auto.0,
-      c.put_trains-after_trains.auto.0,
-      c.put_further.auto.0,
+      c.put_field-after_count.auto.out,
+      c.put_stations-after_stations.auto.out,
+      c.put_field-after_joins.auto.out,
+      c.put_segments-after_segments.auto.out,
+      c.put_field-after_number.auto.out,
+      c.put_trains-after_trains.auto.out,
+      c.put_further.auto.out,
     )
 
 pub returns : goal.returns

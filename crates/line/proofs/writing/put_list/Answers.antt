@@ -22,7 +22,7 @@ pub put_list_lines-requires : goal.put_list_lines-requires
 put_list_lines-requires c =
     let a = c.args.list in
     let written = sym c.left_off.ensures ∙ c.if-left_off.false in
-    (c.requires.0, omega (arith, section_size listed_text a.count a.listed written, c.requires.1, c.put_field-after_count.ensures.next, c.put_field-after_count.auto.0))
+    (c.requires.0, omega (arith, section_size listed_text a.count a.listed written, c.requires.1, c.put_field-after_count.ensures.next, c.put_field-after_count.auto.out))
 
 pub returns : goal.returns
 returns c =

@@ -5,12 +5,12 @@ use Rattle.line.specs.SpellLaws.{listed-parts, listed_size}
 use Rattle.line.proofs.writing.put_listed.Goals as goal
 
 pub put_field-after_train-requires : goal.put_field-after_train-requires
-put_field-after_train-requires c = (omega (arith, listed_size c.args.x), omega (arith, c.struct_known-1.given.0.fits))
+put_field-after_train-requires c = (omega (arith, listed_size c.args.x), omega arith)
 
 pub put_field-requires : goal.put_field-requires
 put_field-requires c = (
   omega (arith, listed_size c.args.x),
-  omega (arith, c.struct_known-2-1.given.1.0.fits),
+  omega arith,
 )
 
 pub returns : goal.returns

@@ -12,7 +12,7 @@ pub put_journey-requires : goal.put_journey-requires
 put_journey-requires c =
     let legs = c.legs_between-legs in
     let head = c.put_head-after_head in
-    rw legs.ensures (c.requires.0, c.requires.1, omega (arith, train_size c.args.train, c.requires.2, head.ensures.next, head.auto.0))
+    rw legs.ensures (c.requires.0, c.requires.1, omega (arith, train_size c.args.train, c.requires.2, head.ensures.next, head.auto.out))
 
 pub returns : goal.returns
 returns c =

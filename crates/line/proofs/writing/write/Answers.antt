@@ -1,8 +1,7 @@
 -- `line::writing::write` meets its contract. A fault of the record is its refusal, and the lent bytes are not touched. A record without one is within the
 -- limits, and its text is lent. The lengths of its arrays are those of its type, so a line within the limits is read back. Assumes nothing.
 use mathlib.Core.Path.{◌∙◌, sym, ap, refl}
-use mathlib.Core.List.{List, [], ◌∷◌, map}
-use lib.ListN.{length-map}
+use mathlib.Core.List.{List, [], ◌∷◌}
 use mir.Val.{Val}
 use denote.Array.{each}
 use denote.Shadow.{shadow}
@@ -15,16 +14,16 @@ use Rattle.line.specs.Within.{TrainArrays, Arrays}
 use Rattle.line.specs.RoundTripLaws.{read_back}
 use Rattle.line.specs.Writing.{on_fault, spelling}
 use Rattle.line.specs.WithinLaws.{within_of}
-use Rattle.line.specs.contracts.Train.{the_field as train_field}
+use Rattle.line.specs.contracts.Train.{the_row as train_row}
 use Rattle.line.proofs.writing.write.Goals as goal
 
 -- each train of an array has arrays of the lengths of its type
-trains-sized : (ts : List Train) (us : List Val) → shadow (each train_field.row.Denot train_field.row.own_val (map train_field.into ts) us) → Each TrainArrays ts
+trains-sized : (ts : List Train) (us : List Val) → shadow (each train_row.Denot train_row.own_val ts us) → Each TrainArrays ts
 trains-sized [] us h = tt
 trains-sized (t ∷ ts) [] h = absurd h
 trains-sized (t ∷ ts) (u ∷ us) h =
     let own = h.0.1.1.1.1.1.1.1 in
-    ((sym (length-map t.runs _) ∙ own.0.1.0.1, sym (length-map t.stops _) ∙ own.1.0.1.0.1), trains-sized ts us h.1)
+    ((own.0.1.0.1, own.1.0.1.0.1), trains-sized ts us h.1)
 
 pub write_text-requires : goal.write_text-requires
 write_text-requires c =
@@ -38,12 +37,12 @@ returns-in-None c =
     let trains = c.well_formed.0.1.1.1.0.1.1.1.0 in
     let further = c.well_formed.0.1.1.1.1 in
     record {
-      tracks = sym (length-map c.args.line.track.tracks _) ∙ track.0.1.0.1;
-      segments = sym (length-map c.args.line.track.segments _) ∙ track.1.0.1.0.1;
-      trains = sym (length-map c.args.line.traffic.trains _) ∙ trains.1.0.1;
+      tracks = track.0.1.0.1;
+      segments = track.1.0.1.0.1;
+      trains = trains.1.0.1;
       each_train = trains-sized c.args.line.traffic.trains trains.0 trains.1.1;
-      bookings = sym (length-map c.args.line.booked.bookings _) ∙ further.0.1.1.1.0.1.0.1;
-      dues = sym (length-map c.args.line.dues.listed _) ∙ further.1.0.1.1.1.0.1.0.1;
+      bookings = further.0.1.1.1.0.1.0.1;
+      dues = further.1.0.1.1.1.0.1.0.1;
     } in
     let a = c.args in
     let none = sym c.fault_of-fault.ensures ∙ c.in-None.is in
@@ -56,12 +55,12 @@ returns-in-At c =
     let trains = c.well_formed.0.1.1.1.0.1.1.1.0 in
     let further = c.well_formed.0.1.1.1.1 in
     record {
-      tracks = sym (length-map c.args.line.track.tracks _) ∙ track.0.1.0.1;
-      segments = sym (length-map c.args.line.track.segments _) ∙ track.1.0.1.0.1;
-      trains = sym (length-map c.args.line.traffic.trains _) ∙ trains.1.0.1;
+      tracks = track.0.1.0.1;
+      segments = track.1.0.1.0.1;
+      trains = trains.1.0.1;
       each_train = trains-sized c.args.line.traffic.trains trains.0 trains.1.1;
-      bookings = sym (length-map c.args.line.booked.bookings _) ∙ further.0.1.1.1.0.1.0.1;
-      dues = sym (length-map c.args.line.dues.listed _) ∙ further.1.0.1.1.1.0.1.0.1;
+      bookings = further.0.1.1.1.0.1.0.1;
+      dues = further.1.0.1.1.1.0.1.0.1;
     } in
     let a = c.args in
     let found = sym c.fault_of-fault.ensures ∙ c.in-At.is in

@@ -17,12 +17,12 @@ put_line-count-requires c =
 pub slice_bounds-text-end : goal.slice_bounds-text-end
 slice_bounds-text-end c =
     let put = c.put_line-count in
-    omega (arith, text_fits c.args.line c.requires, put.ensures.next, put.auto.0)
+    omega (arith, text_fits c.args.line c.requires, put.ensures.next, put.auto.out)
 
 pub slice_bounds-lend_text-end : goal.slice_bounds-lend_text-end
 slice_bounds-lend_text-end c =
     let put = c.put_line-count in
-    sym (length-take-le _ _ (omega (arith, text_fits c.args.line c.requires, put.ensures.next, put.auto.0)))
+    sym (length-take-le _ _ (omega (arith, text_fits c.args.line c.requires, put.ensures.next, put.auto.out)))
 
 pub returns : goal.returns
 returns c =
