@@ -1,8 +1,8 @@
 -- `starts::filling::line_from` meets its contract: the train is taken out, altered and stored again, which alters it in the list. Assumes nothing.
-use mathlib.Core.Path.{◌∙◌, sym, ap}
+use mathlib.Core.Path.{◌≡◌, ◌∙◌, ap}
 use mathlib.Core.List.{List}
 use native.Mathlib.Omega.{arith}
-use lib.ListN.{set}
+use lib.ListN.{length, set}
 use Rattle.finite.specs.AlterLaws.{altered-set}
 use Rattle.line.specs.declared.Train.{Train}
 use Rattle.line.specs.declared.Line.{Line}
@@ -19,7 +19,7 @@ pub returns : goal.returns
 returns c =
     let l = c.args.line in
     let ts = l.traffic.trains in
-    let size = search rules in
+    let size : length ts ≡ 12 = search rules in
     ap (λ (xs : List Train). made l xs)
     (ap (λ (t : Train). set ts c.args.i t) c.train_from.ensures
     ∙ altered-set (starting_at c.args.minute) c.args.i ts _ (omega (arith, c.requires, size)))

@@ -1,6 +1,7 @@
 -- `starts::knowing::known_after` meets its contract: nothing was lawful, or the minutes judged are of least delay still, or the line is solved. Assumes nothing.
 use native.Mathlib.Omega.{arith}
 use borrow.Author.Rules.{rules}
+use borrow.Author.Tests.{not-true, not-false}
 use Rattle.line.specs.RunnableLaws.{within_runnable}
 use Rattle.rules.specs.StatementLaws.PathsLaws.{routed}
 use Rattle.starts.specs.KnowingLaws.{next_within, next_arrays, next_here, none_knows, carried_knows}
@@ -8,7 +9,7 @@ use Rattle.starts.proofs.knowing.known_after.Goals as goal
 
 pub returns-then-not-known : goal.returns-then-not-known
 returns-then-not-known c =
-    none_knows _ _ _ c.requires.0 _ (c.if-not-known.true) c.requires.1
+    none_knows _ _ _ c.requires.0 _ (not-true _ c.if-not-known.true) c.requires.1
 
 pub bounds-traffic-i : goal.bounds-traffic-i
 bounds-traffic-i c =
@@ -33,7 +34,7 @@ weighted_delay-total-requires c =
 pub returns-then-carries : goal.returns-then-carries
 returns-then-carries c =
     let some = c.if-not-known.false in
-    carried_knows _ _ _ c.requires.0 c.args.known some c.requires.1 _
+    carried_knows _ _ _ c.requires.0 c.args.known (not-false _ some) c.requires.1 _
     (c.carries.ensures c.if-carries.true) _ c.weighted_delay-total.ensures
 
 pub known_by_solving-requires : goal.known_by_solving-requires
