@@ -4,10 +4,6 @@ use Rattle.text.specs.Writing.SpliceLaws.{put_then}
 use borrow.Author.Rules.{rules}
 use Rattle.gtfs.proofs.exporting.put_clock.Goals as goal
 
--- UNMATCHED slice-aggregate-put-text
--- slice-aggregate-put-text : tie.Need-slice-aggregate-put-text
--- slice-aggregate-put-text c = search rules
-
 pub returns : goal.returns
 returns c =
     put_then c.put_pair-after_hour.ensures

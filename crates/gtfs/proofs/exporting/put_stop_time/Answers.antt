@@ -6,10 +6,6 @@ use Rattle.gtfs.specs.WritingLaws.{time-parts, time_size}
 use borrow.Author.Rules.{rules}
 use Rattle.gtfs.proofs.exporting.put_stop_time.Goals as goal
 
--- UNMATCHED slice-aggregate-put-text
--- slice-aggregate-put-text : tie.Need-slice-aggregate-put-text
--- slice-aggregate-put-text c = search rules
-
 pub put_text-after_letter-requires : goal.put_text-after_letter-requires
 put_text-after_letter-requires c =
     omega (arith, time_size c.args.time, c.requires)
@@ -17,7 +13,7 @@ put_text-after_letter-requires c =
 pub put_field-after_trip-requires : goal.put_field-after_trip-requires
 put_field-after_trip-requires c =
     (
-      omega (arith, time_size c.args.time, c.requires, c.put_text-after_letter.ensures.next, c.put_text-after_letter.auto.0),
+      omega (arith, time_size c.args.time, c.requires, c.put_text-after_letter.ensures.next, c.put_text-after_letter.auto.out),
       omega (arith, c.struct_known-1.given.0.fits),
     )
 
@@ -28,9 +24,9 @@ put_clock-after_arrival-requires c =
       time_size c.args.time,
       c.requires,
       c.put_text-after_letter.ensures.next,
-      c.put_text-after_letter.auto.0,
+      c.put_text-after_letter.auto.out,
       c.put_field-after_trip.ensures.next,
-      c.put_field-after_trip.auto.0,
+      c.put_field-after_trip.auto.out,
     )
 
 pub put_clock-after_departure-requires : goal.put_clock-after_departure-requires
@@ -40,11 +36,11 @@ put_clock-after_departure-requires c =
       time_size c.args.time,
       c.requires,
       c.put_text-after_letter.ensures.next,
-      c.put_text-after_letter.auto.0,
+      c.put_text-after_letter.auto.out,
       c.put_field-after_trip.ensures.next,
-      c.put_field-after_trip.auto.0,
+      c.put_field-after_trip.auto.out,
       c.put_clock-after_arrival.ensures.next,
-      c.put_clock-after_arrival.auto.0,
+      c.put_clock-after_arrival.auto.out,
     )
 
 pub put_field-after_station-requires : goal.put_field-after_station-requires
@@ -55,13 +51,13 @@ put_field-after_station-requires c =
         time_size c.args.time,
         c.requires,
         c.put_text-after_letter.ensures.next,
-        c.put_text-after_letter.auto.0,
+        c.put_text-after_letter.auto.out,
         c.put_field-after_trip.ensures.next,
-        c.put_field-after_trip.auto.0,
+        c.put_field-after_trip.auto.out,
         c.put_clock-after_arrival.ensures.next,
-        c.put_clock-after_arrival.auto.0,
+        c.put_clock-after_arrival.auto.out,
         c.put_clock-after_departure.ensures.next,
-        c.put_clock-after_departure.auto.0,
+        c.put_clock-after_departure.auto.out,
       ),
       omega (arith, c.struct_known-2-1.given.1.1.1.0.fits),
     )
@@ -74,15 +70,15 @@ put_field-requires c =
         time_size c.args.time,
         c.requires,
         c.put_text-after_letter.ensures.next,
-        c.put_text-after_letter.auto.0,
+        c.put_text-after_letter.auto.out,
         c.put_field-after_trip.ensures.next,
-        c.put_field-after_trip.auto.0,
+        c.put_field-after_trip.auto.out,
         c.put_clock-after_arrival.ensures.next,
-        c.put_clock-after_arrival.auto.0,
+        c.put_clock-after_arrival.auto.out,
         c.put_clock-after_departure.ensures.next,
-        c.put_clock-after_departure.auto.0,
+        c.put_clock-after_departure.auto.out,
         c.put_field-after_station.ensures.next,
-        c.put_field-after_station.auto.0,
+        c.put_field-after_station.auto.out,
       ),
       omega (arith, c.struct_known-3-1.given.1.1.1.1.0.fits),
     )

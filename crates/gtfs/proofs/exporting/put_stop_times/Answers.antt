@@ -6,10 +6,6 @@ use Rattle.text.specs.Writing.SpliceLaws.{put_then}
 use Rattle.gtfs.specs.WritingLaws.{stop_times_parts, stop_times_size}
 use Rattle.gtfs.proofs.exporting.put_stop_times.Goals as goal
 
--- UNMATCHED slice-aggregate-put-text
--- slice-aggregate-put-text : tie.Need-slice-aggregate-put-text
--- slice-aggregate-put-text c = search rules
-
 pub put_text-after_header-requires : goal.put_text-after_header-requires
 put_text-after_header-requires c =
     omega (arith, stop_times_size c.args.line c.args.m.now, c.requires.2)
@@ -17,7 +13,7 @@ put_text-after_header-requires c =
 pub put_trips-requires : goal.put_trips-requires
 put_trips-requires c =
     let header = c.put_text-after_header in
-    (c.requires.0, c.requires.1, omega (arith, stop_times_size c.args.line c.args.m.now, c.requires.2, header.ensures.next, header.auto.0))
+    (c.requires.0, c.requires.1, omega (arith, stop_times_size c.args.line c.args.m.now, c.requires.2, header.ensures.next, header.auto.out))
 
 pub returns : goal.returns
 returns c =

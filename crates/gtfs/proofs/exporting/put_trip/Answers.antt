@@ -17,7 +17,7 @@ put_stops-requires c =
     let origin = c.origin_time in
     let size = trip_size c.args.train c.args.m.now c.args.i (legs_of c.args.train) in
     let after = rw origin.ensures at put.ensures.next in
-    (c.requires.0, c.requires.1, c.requires.2, omega (arith, size, c.requires.3, after, put.auto.0))
+    (c.requires.0, c.requires.1, c.requires.2, omega (arith, size, c.requires.3, after, put.auto.out))
 
 pub returns : goal.returns
 returns c =

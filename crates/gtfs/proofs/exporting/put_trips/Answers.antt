@@ -3,11 +3,12 @@ use Prim.Native.Nat.{◌-◌}
 use mathlib.Core.Path.{◌≡◌, sym, ◌∙◌}
 use native.Mathlib.Nat.{sub-zero}
 use native.Mathlib.Omega.{arith}
-use lib.ListN.{length, length-map}
+use lib.ListN.{length}
 use Rattle.text.specs.Writing.SpliceLaws.{putting_start, putting_step, putting_end}
 use Rattle.line.specs.RunnableLaws.{within_runnable}
 use Rattle.rules.specs.StatementLaws.PathsLaws.{routed}
 use Rattle.gtfs.specs.WritingLaws.{next_trip, no_trip, trip_room}
+use borrow.Author.Rules.{rules}
 use Rattle.gtfs.proofs.exporting.put_trips.Goals as goal
 
 pub loop-i-init : goal.loop-i-init
@@ -18,7 +19,7 @@ put_trip-at-requires c =
     let here = c.loop-i-test.true in
     let w = c.loop-i in
     let trains = c.args.line.traffic.trains in
-    let size : length trains ≡ 12 = sym (length-map trains _) ∙ c.well_formed.1.1.0.1.1.1.0.1.1.1.0.1.0.1 in (
+    let size : length trains ≡ 12 = search rules in (
       routed c.args.line w.i (within_runnable c.args.line c.requires.0) size here,
       c.requires.1,
       omega (arith, here, c.requires.0.trains),

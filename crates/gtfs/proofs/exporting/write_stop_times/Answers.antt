@@ -19,12 +19,12 @@ put_stop_times-count-requires c =
 pub slice_bounds-text-end : goal.slice_bounds-text-end
 slice_bounds-text-end c =
     let put = c.put_stop_times-count in
-    omega (arith, stop_times_fit c.args.line c.args.minutes c.requires.0, put.ensures.next, put.auto.0)
+    omega (arith, stop_times_fit c.args.line c.args.minutes c.requires.0, put.ensures.next, put.auto.out)
 
 pub slice_bounds-lend_text-end : goal.slice_bounds-lend_text-end
 slice_bounds-lend_text-end c =
     let put = c.put_stop_times-count in
-    sym (length-take-le _ _ (omega (arith, stop_times_fit c.args.line c.args.minutes c.requires.0, put.ensures.next, put.auto.0)))
+    sym (length-take-le _ _ (omega (arith, stop_times_fit c.args.line c.args.minutes c.requires.0, put.ensures.next, put.auto.out)))
 
 pub returns : goal.returns
 returns c =

@@ -11,10 +11,6 @@ use Rattle.gtfs.specs.LineLaws.{clock_no_hour, clock_no_minute, clock_no_seconds
 use borrow.Author.Rules.{rules}
 use Rattle.gtfs.proofs.importing.clock_field.Goals as goal
 
--- UNMATCHED slice-aggregate-past-text
--- slice-aggregate-past-text : tie.Need-slice-aggregate-past-text
--- slice-aggregate-past-text c = search rules
-
 pub returns-in_default : goal.returns-in_default
 returns-in_default c =
     let refused = c.in_default.is in

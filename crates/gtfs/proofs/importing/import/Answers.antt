@@ -13,11 +13,11 @@ import_for-requires c = file_within _ c.read-reading.ensures c.in-Accepted.is
 pub returns-in-Accepted : goal.returns-in-Accepted
 unfolding minutes_of
 returns-in-Accepted c =
-    let s = c.args.stop-times.now in
+    let s = c.args.stop_times.now in
     c.import_for.ensures ∙ ap imported (sym (after_accepted _ (λ (l : Line). stop_times_file l s) c.read-reading.ensures c.in-Accepted.is))
 
 pub returns-in-Refused : goal.returns-in-Refused
 unfolding minutes_of
 returns-in-Refused c =
-    let s = c.args.stop-times.now in
+    let s = c.args.stop_times.now in
     c.not_imported.ensures ∙ ap imported (sym (after_refused _ (λ (l : Line). stop_times_file l s) c.read-reading.ensures c.in-Refused.is))

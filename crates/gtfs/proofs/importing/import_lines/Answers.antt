@@ -14,7 +14,7 @@ import_lines_for-requires c = file_within _ c.read-reading.ensures c.in-Accepted
 pub returns-in-Accepted : goal.returns-in-Accepted
 unfolding importing
 returns-in-Accepted c =
-    let s = c.args.stop-times.now in
+    let s = c.args.stop_times.now in
     lent_as (ap spelt (after_accepted _ (λ (l : Line). lines_of l (stop_times_file l s)) c.read-reading.ensures c.in-Accepted.is))
     c.import_lines_for.ensures
 
@@ -22,5 +22,5 @@ pub returns-in-Refused : goal.returns-in-Refused
 unfolding importing
 returns-in-Refused c =
     let a = c.args in
-    let s = a.stop-times.now in
+    let s = a.stop_times.now in
     lent_refused a.out.now refl (ap spelt (after_refused _ (λ (l : Line). lines_of l (stop_times_file l s)) c.read-reading.ensures c.in-Refused.is))

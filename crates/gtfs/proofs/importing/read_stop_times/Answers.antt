@@ -9,10 +9,6 @@ use Rattle.gtfs.specs.StopsLaws.{file_no_header, file_no_trips, file_more, file_
 use borrow.Author.Rules.{rules}
 use Rattle.gtfs.proofs.importing.read_stop_times.Goals as goal
 
--- UNMATCHED slice-aggregate-past-text
--- slice-aggregate-past-text : tie.Need-slice-aggregate-past-text
--- slice-aggregate-past-text c = search rules
-
 pub past_text-header-requires : goal.past_text-header-requires
 past_text-header-requires c = record { fits = omega arith }
 

@@ -10,10 +10,6 @@ use Rattle.gtfs.specs.LineLaws.{time_no_letter, time_no_trip, time_no_arrival, t
 use borrow.Author.Rules.{rules}
 use Rattle.gtfs.proofs.importing.stop_time.Goals as goal
 
--- UNMATCHED slice-aggregate-past-text
--- slice-aggregate-past-text : tie.Need-slice-aggregate-past-text
--- slice-aggregate-past-text c = search rules
-
 pub returns-in_default : goal.returns-in_default
 returns-in_default c =
     let refused = c.in_default.is in

@@ -1,5 +1,5 @@
 -- `orders::first::first_minutes` meets its contract, by the laws of the minutes of the trains alone on the line. Assumes nothing.
-use mathlib.Core.Path.{◌≡◌, sym, ◌∙◌}
+use mathlib.Core.Path.{◌≡◌}
 use native.Mathlib.Omega.{arith}
 use lib.ListN.{length}
 use Rattle.orders.specs.LeastMinutes.FirstPlanLaws.{first_plan}

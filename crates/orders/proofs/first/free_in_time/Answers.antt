@@ -1,5 +1,4 @@
 -- The answers; the idea of the proof is at the head of the invariants.
-use Prim.Native.Nat.{◌-◌}
 use native.Mathlib.Omega.{arith}
 use Rattle.orders.specs.LeastMinutes.FirstPlanLaws.{ends_more, ends_late, ends_all}
 use Rattle.orders.proofs.first.free_in_time.Goals as goal

@@ -1,13 +1,10 @@
 -- The answers; the idea of the proof is at the head of the invariants.
-use Prim.Native.Nat.{ℕ, ◌+◌, ◌-◌}
+use Prim.Native.Nat.{ℕ, ◌+◌}
 use mathlib.Core.Path.{refl, ◌∙◌, ap}
-use mathlib.Core.Bool.{true}
 use mathlib.Core.Logic.{inr}
 use native.Mathlib.Omega.{arith}
 use lib.ListN.{get_or}
-use Rattle.orders.specs.LeastMinutes.NoLater.{slack}
-use Rattle.orders.specs.Graph.LegGraph.{leaving}
-use Rattle.orders.specs.Lift.Lifting.{GoingFor, Stepped}
+use Rattle.orders.specs.Lift.Lifting.{GoingFor}
 use Rattle.orders.specs.Lift.RaisedPaths.{AsideOf}
 use Rattle.orders.specs.Lift.LiftingLaws.{lifted_dead, going_start, going_ready, going_slack, stepped_ready, stepped_last}
 use Rattle.orders.specs.Lift.ServingLaws.{serves_behind, serves_comes}

@@ -4,7 +4,7 @@ use Rattle.plans.specs.Clauses.ChoosingLaws.{segment_asks, station_asks, none_ra
 use Rattle.plans.proofs.choosing.fails.Goals as goal
 
 pub returns-then-cut-cost : goal.returns-then-cut-cost
-returns-then-cut-cost c = dear_none l p _ _ _ _ _ _ _ x h c.if-cut-cost.true
+returns-then-cut-cost c e l x p h = dear_none l p _ _ _ _ _ _ _ x h c.if-cut-cost.true
 
 pub come_after_fails-requires : goal.come_after_fails-requires
 come_after_fails-requires c =
@@ -12,7 +12,7 @@ come_after_fails-requires c =
     station_asks a.line a.plan _ _ _ _ _ _ _ a.choice a.chooses c.if-way.true (omega (arith, c.if-cut-cost.false)) a.cut_low
 
 pub returns-then-way : goal.returns-then-way
-returns-then-way c = none_raises l p _ _ _ _ _ _ _ x h (c.come_after_fails.ensures e)
+returns-then-way c e l x p h = none_raises l p _ _ _ _ _ _ _ x h (c.come_after_fails.ensures e)
 
 pub follow_fails-requires : goal.follow_fails-requires
 follow_fails-requires c =
@@ -20,4 +20,4 @@ follow_fails-requires c =
     segment_asks a.line a.plan _ _ _ _ _ _ _ a.choice a.chooses c.if-way.false (omega (arith, c.if-cut-cost.false)) a.cut_low
 
 pub returns : goal.returns
-returns c = none_raises l p _ _ _ _ _ _ _ x h (c.follow_fails.ensures e)
+returns c e l x p h = none_raises l p _ _ _ _ _ _ _ x h (c.follow_fails.ensures e)

@@ -4,7 +4,7 @@ use Rattle.plans.specs.Clauses.ChoosingLaws.{segment_asks, station_asks, chose_r
 use Rattle.plans.proofs.choosing.raised.Goals as goal
 
 pub returns-then-cut-cost : goal.returns-then-cut-cost
-returns-then-cut-cost c = dear_raises l p _ _ _ _ _ _ _ x h c.if-cut-cost.true
+returns-then-cut-cost c l x p h = dear_raises l p _ _ _ _ _ _ _ x h c.if-cut-cost.true
 
 pub come_after-requires : goal.come_after-requires
 come_after-requires c =
@@ -12,7 +12,7 @@ come_after-requires c =
     station_asks a.line a.plan _ _ _ _ _ _ _ a.choice a.chooses c.if-way.true (omega (arith, c.if-cut-cost.false)) a.cut_low
 
 pub returns-then-way : goal.returns-then-way
-returns-then-way c = chose_raises l p _ _ _ _ _ _ _ x h _ _ c.come_after.ensures
+returns-then-way c l x p h = chose_raises l p _ _ _ _ _ _ _ x h _ _ c.come_after.ensures
 
 pub follow-requires : goal.follow-requires
 follow-requires c =
@@ -20,4 +20,4 @@ follow-requires c =
     segment_asks a.line a.plan _ _ _ _ _ _ _ a.choice a.chooses c.if-way.false (omega (arith, c.if-cut-cost.false)) a.cut_low
 
 pub returns : goal.returns
-returns c = chose_raises l p _ _ _ _ _ _ _ x h _ _ c.follow.ensures
+returns c l x p h = chose_raises l p _ _ _ _ _ _ _ x h _ _ c.follow.ensures

@@ -17,6 +17,6 @@ raised-requires c =
     }
 
 pub returns : goal.returns
-returns c =
+returns c l x p h =
     raises_tells l x p _ _ _ _ _ _ h _ (λ m z. omega (arith, delay-most l h.runnable m z)) _ _
     (c.raised.ensures (waived l) x p (waived_chooses l x p _ _ _ _ _ _ h))

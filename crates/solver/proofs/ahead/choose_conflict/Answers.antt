@@ -16,7 +16,7 @@ look_ahead-b-requires c =
 pub returns-then-way_count-eq0 : goal.returns-then-way_count-eq0
 returns-then-way_count-eq0 c =
     let e = c.select_conflict-plain.ensures in
-    chosen_after _ _ _ _ _ _ e c.look_ahead-b.new.1.0 c.look_ahead-b.ensures.marks_same
+    chosen_after _ _ _ _ _ _ e c.look_ahead-b.new.marks c.look_ahead-b.ensures.marks_same
 
 pub returns : goal.returns
 returns c =

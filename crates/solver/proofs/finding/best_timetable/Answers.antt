@@ -18,9 +18,6 @@ use Rattle.solver.specs.Search.Finding.{FirstHeld}
 use Rattle.solver.specs.Search.FindingLaws.{finds_searched, finds_nothing}
 use Rattle.solver.proofs.finding.best_timetable.Goals as goal
 
-abbrev firstly : tie.After-key → tie.After-first-minutes
-firstly c = (laid c).before.before.before.before.before.before.before
-
 pub first_minutes-first-requires : goal.first_minutes-first-requires
 first_minutes-first-requires c = within_runnable c.args.line c.requires.0
 
@@ -35,31 +32,28 @@ tables_of-t-requires c = within_runnable c.args.line c.requires.0
 
 pub search_whole-whole-requires : goal.search_whole-whole-requires
 search_whole-whole-requires c =
-    let timely : let l = (firstly c).before.args.line in let m = (firstly c).first-minutes.result.minutes in WithinDays m × EachTrain l (NotLate l m) = (firstly c).first-minutes.ensures.timely (not-false _ c.if-not-first.false) in
-    let carried : Carried (firstly c).before.args.line free (firstly c).first-minutes.result.minutes (firstly c).first-minutes.result.cost = (firstly c).first-minutes.ensures.carried (timely).0 in
-    let first : FirstHeld (firstly c).before.args.line (firstly c).first-minutes.result.minutes (replicate 352 0) c.tables_of-t.result c.directions_of-ds.result c.key_of-key.result c.layout_of-layout.result (firstly c).first-minutes.result.cost (record { found = false; delay = 0; steps = 0 }) = let a = (firstly c).before in
-    record {
+    let timely : let l = c.args.line in let m = c.first_minutes-first.result.minutes in WithinDays m × EachTrain l (NotLate l m) = c.first_minutes-first.ensures.timely (not-false _ c.if-not-first.false) in
+    let carried : Carried c.args.line free c.first_minutes-first.result.minutes c.first_minutes-first.result.cost = c.first_minutes-first.ensures.carried timely.0 in
+    let first : FirstHeld c.args.line c.first_minutes-first.result.minutes (replicate 352 0) c.tables_of-t.result c.directions_of-ds.result c.key_of-key.result c.layout_of-layout.result c.first_minutes-first.result.cost (record { found = false; delay = 0; steps = 0 }) = record {
       given =
-          first_given a.args.line a.pre.0 a.pre.1 _ _ (carried) (timely).1 _ _ _ _ c.tables_of-t.ensures
+          first_given c.args.line c.requires.0 c.requires.1 _ _ carried timely.1 _ _ _ _ c.tables_of-t.ensures
           c.directions_of-ds.ensures c.key_of-key.ensures c.layout_of-layout.ensures _ refl (omega arith);
-      under = first_under a.args.line a.pre.0 a.pre.1 _ _ (carried);
+      under = first_under c.args.line c.requires.0 c.requires.1 _ _ carried;
     } in
-    record { line = (firstly c).before.args.line; first = first }
+    record { line = c.args.line; first = first }
 
 pub returns : goal.returns
 returns c =
-    let timely : let l = (firstly c).before.args.line in let m = (firstly c).first-minutes.result.minutes in WithinDays m × EachTrain l (NotLate l m) = (firstly c).first-minutes.ensures.timely (not-false _ c.if-not-first.false) in
-    let carried : Carried (firstly c).before.args.line free (firstly c).first-minutes.result.minutes (firstly c).first-minutes.result.cost = (firstly c).first-minutes.ensures.carried (timely).0 in
-    let first : FirstHeld (firstly c).before.args.line (firstly c).first-minutes.result.minutes (replicate 352 0) c.tables_of-t.result c.directions_of-ds.result c.key_of-key.result c.layout_of-layout.result (firstly c).first-minutes.result.cost (record { found = false; delay = 0; steps = 0 }) = let a = (firstly c).before in
-    record {
+    let timely : let l = c.args.line in let m = c.first_minutes-first.result.minutes in WithinDays m × EachTrain l (NotLate l m) = c.first_minutes-first.ensures.timely (not-false _ c.if-not-first.false) in
+    let carried : Carried c.args.line free c.first_minutes-first.result.minutes c.first_minutes-first.result.cost = c.first_minutes-first.ensures.carried timely.0 in
+    let first : FirstHeld c.args.line c.first_minutes-first.result.minutes (replicate 352 0) c.tables_of-t.result c.directions_of-ds.result c.key_of-key.result c.layout_of-layout.result c.first_minutes-first.result.cost (record { found = false; delay = 0; steps = 0 }) = record {
       given =
-          first_given a.args.line a.pre.0 a.pre.1 _ _ (carried) (timely).1 _ _ _ _ c.tables_of-t.ensures
+          first_given c.args.line c.requires.0 c.requires.1 _ _ carried timely.1 _ _ _ _ c.tables_of-t.ensures
           c.directions_of-ds.ensures c.key_of-key.ensures c.layout_of-layout.ensures _ refl (omega arith);
-      under = first_under a.args.line a.pre.0 a.pre.1 _ _ (carried);
+      under = first_under c.args.line c.requires.0 c.requires.1 _ _ carried;
     } in
-    let a = (firstly c).before in
     let whole = c.search_whole-whole in
     let afresh = c.afresh in
-    let best = finds_searched a.args.line a.pre.0 a.pre.1 _ _ _ whole.result afresh.result refl
-    (whole.ensures a.args.line (first)) afresh.ensures in
-    subst (λ (r : Found). Finds a.args.line r × (r.steps ≡ 0)) (sym c.found_of-2.ensures) (best, afresh.ensures.2)
+    let best = finds_searched c.args.line c.requires.0 c.requires.1 _ _ _ whole.result afresh.result refl
+    (whole.ensures c.args.line first) afresh.ensures in
+    subst (λ (r : Found). Finds c.args.line r × (r.steps ≡ 0)) (sym c.found_of-2.ensures) (best, afresh.ensures.2)

@@ -24,7 +24,7 @@ keep_orders-c-requires c =
     )
 
 pub returns-then-c : goal.returns-then-c
-returns-then-c c =
+returns-then-c c l h =
     improved_none l _ _ _ c.afresh-b.ensures h.given.tallied
 
 pub take_up-requires : goal.take_up-requires
@@ -42,7 +42,7 @@ take_up-requires c =
 
 pub returns : goal.returns
 unfolding free
-returns c =
+returns c l h =
     let g = h.given in
     let near = (c.keep_orders-c.ensures c.if-c.false).leads l (record { tabled = g.tabled; layout_is = g.layout_is })
     (first_searchable l _ _ _ _ _ _ _ _ h _ c.copy_minutes.ensures) in

@@ -15,6 +15,6 @@ take_up-requires c =
 
 pub returns : goal.returns
 unfolding free
-returns c =
+returns c l h =
     let afresh = c.afresh-b.ensures in
     searched_sought l _ _ _ afresh _ _ _ _ (c.take_up.ensures l (afresh_held l _ _ _ afresh _ _ _ _ _ _ _ h))

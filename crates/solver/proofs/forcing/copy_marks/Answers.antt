@@ -15,7 +15,7 @@ loop-e-preserved c =
     let i = c.loop-e in (
       simp length-set i.invariant.0,
       omega arith,
-      entries_more _ 0 i.own_val i.e _ (omega (arith, i.invariant.0, c.loop-e-test.true)) refl i.invariant.2,
+      entries_more _ 0 i.own i.e _ (omega (arith, i.invariant.0, c.loop-e-test.true)) refl i.invariant.2,
     )
 
 pub returns : goal.returns

@@ -8,7 +8,9 @@ use Rattle.solver.specs.Lookahead.Forcing.{Narrowed}
 use Rattle.solver.proofs.forcing.forced_price.Given as goal
 
 abbrev pub invariant-loop-left : goal.invariant-loop-left
-invariant-loop-left l = ((l : Line) (p : Plan) → Narrowed l p l.initial.q l.initial.own l.best l.t l.ds l.key l.layout l.initial.c l.tally → Narrowed l p l.q l.own l.best l.t l.ds l.key l.layout l.c l.tally) × (length l.former ≡ 352)
+invariant-loop-left l =
+    ((y : Line) (p : Plan) → Narrowed y p l.initial.q l.initial.own l.best l.t l.ds l.key l.layout l.initial.c l.tally →
+    Narrowed y p l.q l.own l.best l.t l.ds l.key l.layout l.c l.tally) × (length l.former ≡ 352)
 
 abbrev pub decreases-loop-left : goal.decreases-loop-left
 decreases-loop-left l = l.left

@@ -1,7 +1,6 @@
 -- The answers; the idea of the proof is at the head of the invariants.
 use Prim.Native.Nat.{ℕ, ◌-◌}
 use mathlib.Core.Path.{◌≡◌}
-use mathlib.Core.Logic.{⊎_elim}
 use native.Mathlib.Omega.{arith}
 use lib.ListN.{length, length-set, length-replicate}
 use Rattle.rules.specs.Scan.StationLaws.{directions_size}
@@ -10,6 +9,7 @@ use Rattle.plans.specs.Clauses.WaysToldLaws.{steps_within}
 use Rattle.plans.specs.Clauses.TryingLaws.{way_there, count_most, range_of, way_of_real}
 use Rattle.solver.specs.Selection.PricingLaws.{dead_skip, dead_more}
 use Rattle.solver.proofs.forcing.forced_prices.Goals as goal
+use Rattle.solver.proofs.forcing.forced_prices.Goals.{then-way, else-way}
 
 pub loop-w-init : goal.loop-w-init
 loop-w-init c = (omega arith, (λ l _ _ k b. absurd (omega arith)), length-replicate {A = ℕ} 144 4294967295)
@@ -39,7 +39,7 @@ forced_price-requires c =
     }
 
 pub overflow_add-w : goal.overflow_add-w
-overflow_add-w c = omega (arith, c.way_of-way.ensures.1.up_to_lem)
+overflow_add-w c = omega (arith, c.way_of-way.ensures.1.up_to)
 
 pub loop-w-smaller : goal.loop-w-smaller
 loop-w-smaller c = omega (arith, c.way_of-way.ensures.1.on, c.loop-w-test.true)
@@ -51,16 +51,20 @@ loop-w-preserved c =
     let low = c.loop-w-test.true in
     let way = c.way_of-way.ensures in (
       steps_within _ _ _ _ count low way.1,
-      ⊎_elim
-          (λ w. rw w.2 (λ l h real.
-          dead_more _ _ c.args.conflict i.w i.prices (i.invariant.1 l h real) _ way.0 way.1 w.0.taken _
+      elim c.if-way.branch [
+        then-way w ↦
+          rw w.prices-is (λ l h real.
+          dead_more _ _ c.args.conflict i.w i.prices (i.invariant.1 l h real) _ way.0 way.1 w.if-way.true _
           (omega (arith, i.invariant.2, count_most c.args.conflict))
           (λ d one tells.
-          w.1.ensures l d h
-          (way_of_real l h.given.tabled.within h.given.tabled.raisable.arrays _ c.args.conflict real _ _ _ i.w count low d one tells))))
-          (λ w. rw w.1 (λ l h real. dead_skip _ _ c.args.conflict i.w i.prices (i.invariant.1 l h real) _ way.0 way.1 w.0.left))
-          c.if-way.branch,
-      ⊎_elim (λ w. rw w.2 (simp length-set i.invariant.2)) (λ w. rw w.1 i.invariant.2) c.if-way.branch,
+          w.forced_price.ensures l d h
+          (way_of_real l h.given.tabled.within h.given.tabled.raisable.arrays _ c.args.conflict real _ _ _ i.w count low d one tells)))
+      | else-way w ↦ rw w.prices-is (λ l h real. dead_skip _ _ c.args.conflict i.w i.prices (i.invariant.1 l h real) _ way.0 way.1 w.if-way.false)
+      ],
+      elim c.if-way.branch [
+        then-way w ↦ rw w.prices-is (simp length-set i.invariant.2)
+      | else-way w ↦ rw w.prices-is i.invariant.2
+      ],
     )
 
 pub returns : goal.returns

@@ -31,7 +31,7 @@ raised-requires c =
     }
 
 pub returns : goal.returns
-returns c =
+returns c l x tabled planned i =
     let v = c.with_bit.ensures in (
       way_raises l _ _ _ _ _ tabled planned x _ i _ v _ refl _ _ _ c.raised.ensures,
       way_added l _ _ _ _ _ tabled planned x _ i _ v,

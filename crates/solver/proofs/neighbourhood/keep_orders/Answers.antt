@@ -27,7 +27,7 @@ keep_segment-c-requires c =
     )
 
 pub returns-then-c : goal.returns-then-c
-returns-then-c c = absurd (alive c.if-c.true)
+returns-then-c c alive = absurd (alive c.if-c.true)
 
 pub loop-p-preserved : goal.loop-p-preserved
 loop-p-preserved c =
@@ -35,4 +35,4 @@ loop-p-preserved c =
     (leads_among _ _ _ _ _ (segment_among _ _ _ _ _ _ refl c.loop-p-test.true) _ _ _ (c.keep_segment-c.ensures c.if-c.false))
 
 pub returns : goal.returns
-returns c = leads_among _ _ _ _ _ (layout_segments _ _ _) _ _ _ c.loop-p.invariant
+returns c _ = leads_among _ _ _ _ _ (layout_segments _ _ _) _ _ _ c.loop-p.invariant

@@ -12,11 +12,11 @@ keep_train-c-requires c =
     (keep_after _ _ _ _ _ a.0 _ _ _ c.loop-i.invariant, a.1, a.2, c.loop-i-test.true)
 
 pub returns-then-c : goal.returns-then-c
-returns-then-c c = absurd (alive c.if-c.true)
+returns-then-c c alive = absurd (alive c.if-c.true)
 
 pub loop-i-preserved : goal.loop-i-preserved
 loop-i-preserved c =
     leads_then _ _ _ _ _ _ _ _ _ _ c.loop-i.invariant (c.keep_train-c.ensures c.if-c.false)
 
 pub returns : goal.returns
-returns c = c.loop-i.invariant
+returns c _ = c.loop-i.invariant

@@ -17,7 +17,7 @@ keep_pair-c-requires c =
     (keep_after _ _ _ _ _ a.0 _ _ _ c.loop-j.invariant, a.1, omega (arith, a.2, a.3), omega (arith, a.2, low))
 
 pub returns-then-c : goal.returns-then-c
-returns-then-c c = absurd (alive c.if-c.true)
+returns-then-c c alive = absurd (alive c.if-c.true)
 
 pub overflow_add-j-in-loop-j : goal.overflow_add-j-in-loop-j
 overflow_add-j-in-loop-j c = let a = c.requires in omega (arith, a.2, c.loop-j-test.true)
@@ -30,4 +30,4 @@ loop-j-preserved c =
     leads_then _ _ _ _ _ _ _ _ _ _ c.loop-j.invariant (c.keep_pair-c.ensures c.if-c.false)
 
 pub returns : goal.returns
-returns c = c.loop-j.invariant
+returns c _ = c.loop-j.invariant

@@ -7,22 +7,22 @@ use native.Mathlib.Omega.{arith}
 use Rattle.solver.proofs.neighbourhood.keeps_order.Goals as goal
 
 pub returns-then-has_bit : goal.returns-then-has_bit
-returns-then-has_bit c = absurd (false≢true e)
+returns-then-has_bit c e = absurd (false≢true e)
 
 pub returns-then-has_bit-2 : goal.returns-then-has_bit-2
-returns-then-has_bit-2 c = absurd (false≢true e)
+returns-then-has_bit-2 c e = absurd (false≢true e)
 
 pub returns-then-a-eq0 : goal.returns-then-a-eq0
-returns-then-a-eq0 c = absurd (false≢true e)
+returns-then-a-eq0 c e = absurd (false≢true e)
 
 pub returns-then-b-eq0 : goal.returns-then-b-eq0
-returns-then-b-eq0 c = absurd (false≢true e)
+returns-then-b-eq0 c e = absurd (false≢true e)
 
 pub returns-then-a-b : goal.returns-then-a-b
-returns-then-a-b c = record { one = c.if-a-eq0.false; other = c.if-b-eq0.false; asks = λ _. c.if-a-b.true }
+returns-then-a-b c e = record { one = c.if-a-eq0.false; other = c.if-b-eq0.false; asks = λ _. c.if-a-b.true }
 
 pub returns-in-S : goal.returns-in-S
-returns-in-S c =
+returns-in-S c e =
     record {
       one = c.if-a-eq0.false;
       other = c.if-b-eq0.false;
@@ -30,7 +30,7 @@ returns-in-S c =
     }
 
 pub returns-in-F : goal.returns-in-F
-returns-in-F c =
+returns-in-F c e =
     record {
       one = c.if-a-eq0.false;
       other = c.if-b-eq0.false;
@@ -38,4 +38,4 @@ returns-in-F c =
     }
 
 pub returns-in-D : goal.returns-in-D
-returns-in-D c = absurd (false≢true e)
+returns-in-D c e = absurd (false≢true e)

@@ -1,7 +1,6 @@
 -- The answers; the idea of the proof is at the head of the invariants.
 use Prim.Native.Nat.{ℕ, ◌-◌}
 use mathlib.Core.Path.{◌≡◌}
-use mathlib.Core.Logic.{⊎_elim}
 use native.Mathlib.Omega.{arith}
 use lib.ListN.{length, length-set, length-replicate}
 use Rattle.rules.specs.Scan.StationLaws.{directions_size}
@@ -10,6 +9,7 @@ use Rattle.plans.specs.Clauses.WaysToldLaws.{steps_within}
 use Rattle.plans.specs.Clauses.TryingLaws.{way_there, count_most, range_of, way_of_real}
 use Rattle.solver.specs.Selection.PricingLaws.{prices_none, prices_skip, prices_more, planned_after}
 use Rattle.solver.proofs.pricing.way_prices.Goals as goal
+use Rattle.solver.proofs.pricing.way_prices.Goals.{then-way, else-way}
 
 pub loop-w-init : goal.loop-w-init
 loop-w-init c = (omega arith, prices_none _ _ _ _ _ _ _ _, length-replicate {A = ℕ} 144 4294967295)
@@ -39,7 +39,7 @@ way_price-requires c =
     }
 
 pub overflow_add-w : goal.overflow_add-w
-overflow_add-w c = omega (arith, c.way_of-way.ensures.1.up_to_lem)
+overflow_add-w c = omega (arith, c.way_of-way.ensures.1.up_to)
 
 pub loop-w-smaller : goal.loop-w-smaller
 loop-w-smaller c = omega (arith, c.way_of-way.ensures.1.on, c.loop-w-test.true)
@@ -51,12 +51,16 @@ loop-w-preserved c =
     let low = c.loop-w-test.true in
     let way = c.way_of-way.ensures in (
       steps_within _ _ _ _ count low way.1,
-      ⊎_elim
-          (λ w. rw (w.3, w.4) (prices_more _ _ _ _ _ _ _ _ count _ low _ _ i.invariant.1 _ way.0 way.1 w.0.taken _ _ w.2.ensures
-          (omega (arith, i.invariant.2, count_most c.args.conflict))))
-          (λ w. rw (w.1, w.2) (prices_skip _ _ _ _ _ _ _ _ count _ low _ _ i.invariant.1 _ way.0 way.1 w.0.left))
-          c.if-way.branch,
-      ⊎_elim (λ w. rw w.4 (simp length-set i.invariant.2)) (λ w. rw w.2 i.invariant.2) c.if-way.branch,
+      elim c.if-way.branch [
+        then-way w ↦
+          rw (w.marks-is, w.prices-is) (prices_more _ _ _ _ _ _ _ _ count _ low _ _ i.invariant.1 _ way.0 way.1 w.if-way.true _ _ w.way_price.ensures
+          (omega (arith, i.invariant.2, count_most c.args.conflict)))
+      | else-way w ↦ rw (w.marks-is, w.prices-is) (prices_skip _ _ _ _ _ _ _ _ count _ low _ _ i.invariant.1 _ way.0 way.1 w.if-way.false)
+      ],
+      elim c.if-way.branch [
+        then-way w ↦ rw w.prices-is (simp length-set i.invariant.2)
+      | else-way w ↦ rw w.prices-is i.invariant.2
+      ],
     )
 
 pub returns : goal.returns

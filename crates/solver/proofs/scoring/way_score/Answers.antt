@@ -1,7 +1,6 @@
 -- The answers; the idea of the proof is at the head of the invariants.
 use Prim.Native.Nat.{◌-◌}
 use mathlib.Core.Path.{refl, ◌∙◌}
-use mathlib.Core.Logic.{⊎_elim}
 use native.Mathlib.Omega.{arith}
 use Rattle.rules.specs.Scan.StationLaws.{directions_size}
 use Rattle.plans.specs.Conflict.Ways.{way_of}
@@ -9,6 +8,7 @@ use Rattle.plans.specs.Clauses.WaysToldLaws.{steps_within}
 use Rattle.plans.specs.Clauses.TryingLaws.{way_there, count_most, range_of, way_of_real}
 use Rattle.solver.specs.Selection.PricingLaws.{planned_after}
 use Rattle.solver.proofs.scoring.way_score.Goals as goal
+use Rattle.solver.proofs.scoring.way_score.Goals.{then-way, else-way}
 
 pub loop-w-init : goal.loop-w-init
 loop-w-init c = (omega arith, refl)
@@ -38,7 +38,7 @@ way_price-x-requires c =
     }
 
 pub overflow_add-w : goal.overflow_add-w
-overflow_add-w c = omega (arith, c.way_of-way.ensures.1.up_to_lem)
+overflow_add-w c = omega (arith, c.way_of-way.ensures.1.up_to)
 
 pub loop-w-smaller : goal.loop-w-smaller
 loop-w-smaller c = omega (arith, c.way_of-way.ensures.1.on, c.loop-w-test.true)
@@ -50,7 +50,10 @@ loop-w-preserved c =
     let low = c.loop-w-test.true in
     let way = c.way_of-way.ensures in (
       steps_within _ _ _ _ count low way.1,
-      ⊎_elim (λ w. rw w.5 (w.2.ensures.marks_same ∙ i.invariant.1)) (λ w. rw w.1 i.invariant.1) c.if-way.branch,
+      elim c.if-way.branch [
+        then-way w ↦ rw w.marks-is (w.way_price-x.ensures.marks_same ∙ i.invariant.1)
+      | else-way w ↦ rw w.marks-is i.invariant.1
+      ],
     )
 
 pub returns-then-n-eq2 : goal.returns-then-n-eq2

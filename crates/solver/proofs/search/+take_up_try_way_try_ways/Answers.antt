@@ -1,6 +1,7 @@
 -- The answers; the idea of the proof is at the head of the invariants.
 use Prim.Native.Nat.{ℕ}
-use mathlib.Core.Logic.{⊎_elim}
+use mathlib.Core.Path.{ap}
+use mathlib.Core.Bool.{not}
 use native.Mathlib.Omega.{arith}
 use borrow.Author.Rules.{rules}
 use lib.ListN.{length, length-set, length-replicate}
@@ -15,9 +16,10 @@ use Rattle.solver.specs.Selection.PricingLaws.{untried_falls}
 use Rattle.solver.specs.Search.SearchingLaws.{counted_tallied, held_after, held_by, sought_spent, sought_cut, sought_clear, sought_dead, next_held}
 use Rattle.solver.specs.Search.SearchingLaws.{sought_alive, sought_marks, sought_by, ways_priced, ways_done, ways_skip, ways-more}
 use Rattle.solver.proofs.search.+take_up_try_way_try_ways.Goals as goal
+use Rattle.solver.proofs.search.+take_up_try_way_try_ways.Goals.{try_ways-then-way, try_ways-else-way}
 
 pub take_up-returns-then-spent : goal.take_up-returns-then-spent
-take_up-returns-then-spent t c =
+take_up-returns-then-spent t c l h =
     sought_spent l _ _ _ _ _ _ _ _ _ _ h _ c.if-spent.true c.spent.ensures
 
 pub take_up-improves-requires : goal.take_up-improves-requires
@@ -27,7 +29,7 @@ take_up-improves-requires t c =
     (g.planned.carried.least.fit.size, g.tallied.size, key_long p.line _ _ _ _ _ _ _ _ _ g)
 
 pub take_up-returns-then-not-improves : goal.take_up-returns-then-not-improves
-take_up-returns-then-not-improves t c = sought_cut l _ _ _ _ _ _ _ _ _ _ h _ c.improves.ensures c.if-not-improves.true
+take_up-returns-then-not-improves t c l h = sought_cut l _ _ _ _ _ _ _ _ _ _ h _ c.improves.ensures (ap not c.if-not-improves.true)
 
 pub take_up-choose_conflict-selected-requires : goal.take_up-choose_conflict-selected-requires
 take_up-choose_conflict-selected-requires t c = c.requires
@@ -37,19 +39,18 @@ take_up-copy_minutes-requires t c =
     (c.requires.held.given.planned.carried.least.fit.size, c.requires.held.given.tallied.size)
 
 pub take_up-returns-then-n-eq0 : goal.take_up-returns-then-n-eq0
-take_up-returns-then-n-eq0 t c =
+take_up-returns-then-n-eq0 t c l h =
     let o = c.choose_conflict-selected.ensures in
     sought_marks l _ _ _ _ _ _ _ _ o.marks_same
-    (sought_clear l _ _ _ _ _ _ _ _ _ _ h _ c.improves.ensures c.if-not-improves.false _ o.chosen _ c.way_count-n.ensures
+    (sought_clear l _ _ _ _ _ _ _ _ _ _ h _ c.improves.ensures (ap not c.if-not-improves.false) _ o.chosen _ c.way_count-n.ensures
     c.if-n-eq0.true _ c.copy_minutes.ensures)
 
 pub take_up-try_ways-requires : goal.take_up-try_ways-requires
 take_up-try_ways-requires t c =
-    let a = c.requires in
-    let p = a.1 in
+    let p = c.requires in
     let g = p.held.given in
     let o = c.choose_conflict-selected.ensures in (
-      omega (arith, a.0),
+      omega (arith, c.decreases),
       record {
         line = p.line;
         held = held_by p.line _ _ _ _ _ _ _ _ 0 _ p.held _ o.marks_same;
@@ -60,7 +61,7 @@ take_up-try_ways-requires t c =
     )
 
 pub take_up-returns : goal.take_up-returns
-take_up-returns t c =
+take_up-returns t c l h =
     let g = h.given in
     let o = c.choose_conflict-selected.ensures in
     sought_by l _ _ _ _ _ _ _ _ o.marks_same
@@ -119,21 +120,20 @@ try_way-bounds-marks-row-then-c t c =
     row_few p.line p.held.given.tabled.within _ _ p.choice _ p.is_way
 
 pub try_way-returns-then-c : goal.try_way-returns-then-c
-try_way-returns-then-c t c =
+try_way-returns-then-c t c l x h i =
     sought_dead l _ _ _ _ _ _ _ _ _ _ h x _ i _ c.counted-b.ensures _ c.with_bit.ensures _ c.copy_minutes.ensures _
     c.cut_of-cut.ensures _ _ c.raised-c.ensures c.if-c.true
 
 pub try_way-take_up-r-requires : goal.try_way-take_up-r-requires
 try_way-take_up-r-requires t c =
-    let a = c.requires in
-    let p = a.1 in
+    let p = c.requires in
     let g = p.held.given in
     let alive = c.if-c.false in
     let falls = next_falls p.line _ _ _ _ _ g.tabled g.planned p.choice _ p.is_way _ c.with_bit.ensures _ c.copy_minutes.ensures _ _ _
     c.raised-c.ensures alive in
     let held = next_held p.line _ _ _ _ _ _ _ _ 0 _ p.held p.choice _ p.is_way _ c.counted-b.ensures _ c.with_bit.ensures _
     c.copy_minutes.ensures _ c.cut_of-cut.ensures _ _ c.raised-c.ensures alive in
-    (omega (arith, a.0, falls), record { line = p.line; held = held; former_size = g.planned.carried.least.fit.size })
+    (omega (arith, c.decreases, falls), record { line = p.line; held = held; former_size = g.planned.carried.least.fit.size })
 
 pub try_way-offset_bounds-marks-row-3 : goal.try_way-offset_bounds-marks-row-3
 try_way-offset_bounds-marks-row-3 t c =
@@ -146,7 +146,7 @@ try_way-bounds-marks-row-3 t c =
     row_few p.line p.held.given.tabled.within _ _ p.choice _ p.is_way
 
 pub try_way-returns : goal.try_way-returns
-try_way-returns t c =
+try_way-returns t c l x h i =
     let alive = c.if-c.false in
     let held = next_held l _ _ _ _ _ _ _ _ 0 _ h x _ i _ c.counted-b.ensures _ c.with_bit.ensures _ c.copy_minutes.ensures _
     c.cut_of-cut.ensures _ _ c.raised-c.ensures alive in
@@ -213,21 +213,22 @@ try_ways-loop-w-preserved t c =
     let way = c.way_of-way.ensures in (
       (λ l h real.
           let done = i.invariant.0 l h real in
-          ⊎_elim
-          (λ w.
-          let there = way_there _ _ (way_of c.args.conflict i.w) way.0 w.0.taken in
-          let is_way = way_of_real l h.given.tabled.within h.given.tabled.raisable.arrays _ c.args.conflict real _ _ _ i.w c.requires.count_is
-          c.loop-w-test.true there.0 there.1 there.2 in
-          let held = held_after l _ _ _ _ _ _ _ _ 0 _ h _ _ _ done.marks_same done.tallied in
-          rw (w.4, w.5, w.6) (ways-more l _ _ _ _ _ _ _ _ _ _ done i.w there.0 there.1 _ _ _ (w.3.ensures l there.0 held is_way)))
-          (λ w. rw (w.1, w.2, w.3) (ways_skip l _ _ _ _ _ _ _ _ _ _ done i.w (way_absent _ _ (way_of c.args.conflict i.w) way.0 w.0.left)))
-          c.if-way.branch),
+          elim c.if-way.branch [
+            try_ways-then-way w ↦
+              let there = way_there _ _ (way_of c.args.conflict i.w) way.0 w.if-way.true in
+              let is_way = way_of_real l h.given.tabled.within h.given.tabled.raisable.arrays _ c.args.conflict real _ _ _ i.w c.requires.count_is
+              c.loop-w-test.true there.0 there.1 there.2 in
+              let held = held_after l _ _ _ _ _ _ _ _ 0 _ h _ _ _ done.marks_same done.tallied in
+              rw (w.marks-is, w.best-is, w.b-is) (ways-more l _ _ _ _ _ _ _ _ _ _ done i.w there.0 there.1 _ _ _ (w.try_way-b.ensures l there.0 held is_way))
+          | try_ways-else-way w ↦
+              rw (w.marks-is, w.best-is, w.b-is) (ways_skip l _ _ _ _ _ _ _ _ _ _ done i.w (way_absent _ _ (way_of c.args.conflict i.w) way.0 w.if-way.false))
+          ]),
       c.cheapest-w-in-loop-w.ensures,
       simp length-set i.invariant.2,
     )
 
 pub try_ways-returns : goal.try_ways-returns
-try_ways-returns t c =
+try_ways-returns t c l h real =
     let i = c.loop-w in
     let p = c.requires in
     let same = c.chosen_prices-prices.ensures.marks_same in

@@ -6,7 +6,7 @@ use borrow.Author.Tests.{leb-true}
 use Rattle.solver.proofs.search.spent.Goals as goal
 
 pub returns-then-limit-eq-NO_LIMIT : goal.returns-then-limit-eq-NO_LIMIT
-returns-then-limit-eq-NO_LIMIT c = absurd (false≢true e)
+returns-then-limit-eq-NO_LIMIT c e = absurd (false≢true e)
 
 pub returns : goal.returns
-returns c = ⊎_elim (λ none. c.if-limit-eq-NO_LIMIT.false none) (λ less. omega (arith, leb-true, e))
+returns c e = ⊎_elim (λ none. c.if-limit-eq-NO_LIMIT.false none) (λ less. omega (arith, leb-true, e))

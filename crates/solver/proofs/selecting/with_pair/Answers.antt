@@ -1,5 +1,7 @@
 -- `solver::selecting::with_pair` meets its contract: two trains that the test finds in conflict are in one on every line with this segment. Assumes
 -- nothing.
+use mathlib.Core.Path.{ap}
+use mathlib.Core.Bool.{not}
 use native.Mathlib.Omega.{arith}
 use Rattle.rules.specs.Scan.StationLaws.{directions_size}
 use Rattle.solver.specs.Selection.SelectingLaws.{on_low, clash-on, higher_real, scores_on_none}
@@ -29,7 +31,7 @@ higher_scored-requires c =
       planned = p.planned;
       real =
           clash-on p.line p.tabled.within p.tabled.raisable.arrays _ _ p.tabled.raisable.directions _ _ _ p.on _ _ a.1 a.2 _
-          c.in_conflict.ensures c.if-not-in_conflict.false;
+          c.in_conflict.ensures (ap not c.if-not-in_conflict.false);
       cut_low = p.cut_low;
     }
 
@@ -40,5 +42,5 @@ returns c =
       marks_same = c.higher_scored.ensures.marks_same;
       real = λ l w a₁ d on old.
           higher_real l _ _ _ _ _ _ c.higher_scored.ensures old
-          (clash-on l w a₁ _ _ d _ _ _ on _ _ a.1 a.2 _ c.in_conflict.ensures c.if-not-in_conflict.false);
+          (clash-on l w a₁ _ _ d _ _ _ on _ _ a.1 a.2 _ c.in_conflict.ensures (ap not c.if-not-in_conflict.false));
     }

@@ -1,13 +1,14 @@
 -- `starts::filling::line_from` meets its contract: the train is taken out, altered and stored again, which alters it in the list. Assumes nothing.
-use mathlib.Core.Path.{◌∙◌, sym, ap}
+use mathlib.Core.Path.{◌≡◌, ◌∙◌, ap}
 use mathlib.Core.List.{List}
 use native.Mathlib.Omega.{arith}
-use lib.ListN.{set, length-map}
+use lib.ListN.{length, set}
 use Rattle.finite.specs.AlterLaws.{altered-set}
 use Rattle.line.specs.declared.Train.{Train}
 use Rattle.line.specs.declared.Line.{Line}
 use Rattle.line.specs.Record.{traffic_with}
 use Rattle.line.specs.Starting.{starting_at}
+use borrow.Author.Rules.{rules}
 use Rattle.starts.proofs.filling.line_from.Goals as goal
 
 -- the line with these trains
@@ -18,7 +19,7 @@ pub returns : goal.returns
 returns c =
     let l = c.args.line in
     let ts = l.traffic.trains in
-    let size = sym (length-map ts _) ∙ c.well_formed.0.1.1.1.0.1.1.1.0.1.0.1 in
+    let size : length ts ≡ 12 = search rules in
     ap (λ (xs : List Train). made l xs)
     (ap (λ (t : Train). set ts c.args.i t) c.train_from.ensures
     ∙ altered-set (starting_at c.args.minute) c.args.i ts _ (omega (arith, c.requires, size)))

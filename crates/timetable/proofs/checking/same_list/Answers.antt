@@ -12,21 +12,21 @@ use Rattle.timetable.proofs.checking.same_list.Goals as goal
 pub returns-then-size_of-n : goal.returns-then-size_of-n
 returns-then-size_of-n c =
     let a = c.args in
-    sym (is_false (decides_same a.t1 a.t2)
+    sym (is_false (decides_same a.read a.right)
     (λ h. c.if-size_of-n.true (c.size_of.ensures.0 ∙ h.0 ∙ sym c.size_of-n.ensures.0)))
 
 pub loop-j-init : goal.loop-j-init
 loop-j-init c =
     let a = c.args in
-    (omega arith, below_none (SameAt a.t1 a.t2))
+    (omega arith, below_none (SameAt a.read a.right))
 
 pub returns-then-read-j : goal.returns-then-read-j
 returns-then-read-j c =
     let a = c.args in
     let n = c.size_of-n.ensures.0 in
     let j = c.loop-j.j in
-    let own : j < length (listed a.t2) = omega (arith, n, c.loop-j-test.true) in
-    sym (is_false (decides_same a.t1 a.t2)
+    let own : j < length (listed a.right) = omega (arith, n, c.loop-j-test.true) in
+    sym (is_false (decides_same a.read a.right)
     (λ h. c.if-read-j.true (h.1 j own)))
 
 pub loop-j-preserved : goal.loop-j-preserved
@@ -35,7 +35,7 @@ loop-j-preserved c =
     let w = c.loop-j in
     let here = c.loop-j-test.true in (
       omega (arith, here),
-      below_more (SameAt a.t1 a.t2) w.j w.invariant.1 c.if-read-j.false,
+      below_more (SameAt a.read a.right) w.j w.invariant.1 c.if-read-j.false,
     )
 
 pub returns : goal.returns
@@ -43,7 +43,7 @@ returns c =
     let a = c.args in
     let w = c.loop-j in
     let n = c.size_of-n.ensures.0 in
-    sym (is_true (decides_same a.t1 a.t2) (
+    sym (is_true (decides_same a.read a.right) (
       omega (arith, n, c.size_of.ensures.0, c.if-size_of-n.false),
       λ i l. w.invariant.1 i (omega (arith, n, l, c.loop-j-test.false)),
     ))

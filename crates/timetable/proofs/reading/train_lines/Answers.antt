@@ -3,7 +3,7 @@ use Prim.Native.Nat.{suc, ◌<◌, ◌-◌, ◌+◌}
 use mathlib.Core.Path.{◌≡◌, ◌∙◌, sym, refl}
 use native.Mathlib.Omega.{arith}
 use native.Mathlib.Nat.{sub-zero}
-use lib.ListN.{length, length-map}
+use lib.ListN.{length}
 use Rattle.text.specs.Places.Lines.{Counted, AnyNumber}
 use Rattle.text.proofs.Places.LinesLaws.{keeps_counted}
 use Rattle.line.specs.FileLaws.{ended_told}
@@ -12,6 +12,7 @@ use Rattle.line.specs.RunnableLaws.{within_runnable}
 use Rattle.rules.specs.StatementLaws.PathsLaws.{routed}
 use Rattle.timetable.specs.PlaceLaws.{any_timetable_number, stands-legs}
 use Rattle.timetable.specs.ReadingLaws.{trains_done, trains_refused, trains_step}
+use borrow.Author.Rules.{rules}
 use Rattle.timetable.proofs.reading.train_lines.Goals as goal
 
 pub lines-init : goal.lines-init
@@ -21,7 +22,7 @@ pub train_line-part-requires : goal.train_line-part-requires
 train_line-part-requires c =
     let w = c.lines in
     let left : w.i < c.args.line.traffic.train_count = omega (arith, w.invariant.1, c.if-i-n.false) in
-    let size : length c.args.line.traffic.trains ≡ 12 = sym (length-map c.args.line.traffic.trains _) ∙ c.well_formed.1.1.0.1.1.1.0.1.1.1.0.1.0.1 in
+    let size : length c.args.line.traffic.trains ≡ 12 = search rules in
     (routed c.args.line w.i (within_runnable c.args.line c.requires.0) size left, omega (arith, left, c.requires.0.trains), w.invariant.2)
 
 pub lines-preserved : goal.lines-preserved

@@ -3,11 +3,11 @@ use Prim.Native.Nat.{◌-◌}
 use mathlib.Core.Path.{◌≡◌, sym, ◌∙◌}
 use native.Mathlib.Omega.{arith}
 use borrow.Author.Count.{below_none, below_more}
-use borrow.Author.Tests.{not-true, not-false}
-use lib.ListN.{length, length-map}
+use lib.ListN.{length}
 use Rattle.line.specs.RunnableLaws.{within_runnable}
 use Rattle.rules.specs.StatementLaws.PathsLaws.{routed}
 use Rattle.timetable.specs.WritingLaws.{Timed, late_at, late_none}
+use borrow.Author.Rules.{rules}
 use Rattle.timetable.proofs.writing.minutes_fault.Goals as goal
 
 pub loop-i-init : goal.loop-i-init
@@ -16,20 +16,20 @@ loop-i-init c =
 
 pub times_right-requires : goal.times_right-requires
 times_right-requires c =
-    let size : length c.args.line.traffic.trains ≡ 12 = sym (length-map c.args.line.traffic.trains _) ∙ c.well_formed.0.1.1.1.0.1.1.1.0.1.0.1 in
+    let size : length c.args.line.traffic.trains ≡ 12 = search rules in
     let here = c.loop-i-test.true in
     (routed c.args.line c.loop-i.i (within_runnable c.args.line c.requires.0) size here, c.requires.1, omega (arith, here, c.requires.0.trains))
 
 pub returns-then-not-times_right : goal.returns-then-not-times_right
 returns-then-not-times_right c =
     let i = c.loop-i in
-    let late = sym c.times_right.ensures ∙ not-true _ c.if-not-times_right.true in
+    let late = sym c.times_right.ensures ∙ c.if-not-times_right.true in
     late_at c.args.line c.args.m.now i.i c.loop-i-test.true late i.invariant.1
 
 pub loop-i-preserved : goal.loop-i-preserved
 loop-i-preserved c =
     let i = c.loop-i in
-    (omega arith, below_more (Timed c.args.line c.args.m.now) i.i i.invariant.1 (sym c.times_right.ensures ∙ not-false _ c.if-not-times_right.false))
+    (omega arith, below_more (Timed c.args.line c.args.m.now) i.i i.invariant.1 (sym c.times_right.ensures ∙ c.if-not-times_right.false))
 
 pub returns : goal.returns
 returns c =

@@ -1,7 +1,6 @@
 -- The answers; the idea of the proof is at the head of the invariants.
 use Prim.Native.Nat.{◌-◌}
 use mathlib.Core.Path.{◌≡◌}
-use mathlib.Core.Logic.{⊎_elim}
 use mathlib.Core.Bool.{cond}
 use native.Mathlib.Omega.{arith}
 use borrow.Author.Rules.{rules}
@@ -13,13 +12,14 @@ use Rattle.text.specs.Writing.SpliceLaws.{putting_start, putting_step, putting_e
 use Rattle.timetable.specs.ListLaws.{byte_none, byte_some}
 use Rattle.timetable.specs.WritingLaws.{next_name, no_name, name_room, list-parts, list_size}
 use Rattle.timetable.proofs.writing.put_list.Goals as goal
+use Rattle.timetable.proofs.writing.put_list.Goals.{then-count-eq0, else-count-eq0}
 
 pub put_field-at-requires : goal.put_field-at-requires
 put_field-at-requires c =
-    let ends : c.if-count-eq0.b ≡ cond (eqb c.size_of-count.result 0) 10 32 = ⊎_elim
-    (λ w. byte_none _ _ w.0.taken w.1)
-    (λ w. byte_some _ _ w.0.left w.1)
-    c.if-count-eq0.branch in
+    let ends : c.if-count-eq0.b ≡ cond (eqb c.size_of-count.result 0) 10 32 = elim c.if-count-eq0.branch [
+      then-count-eq0 w ↦ byte_none _ _ w.if-count-eq0.true w.b-is
+      | else-count-eq0 w ↦ byte_some _ _ w.if-count-eq0.false w.b-is
+    ] in
     let count = c.size_of-count in
     (omega (arith, list_size c.args.list count.result count.ensures.0 (ends), c.requires), omega (arith, count.ensures.1))
 
@@ -33,10 +33,10 @@ overflow_add-number c =
 
 pub put_field-at-requires-in-loop-k : goal.put_field-at-requires-in-loop-k
 put_field-at-requires-in-loop-k c =
-    let ends : c.if-count-eq0.b ≡ cond (eqb c.size_of-count.result 0) 10 32 = ⊎_elim
-    (λ w. byte_none _ _ w.0.taken w.1)
-    (λ w. byte_some _ _ w.0.left w.1)
-    c.if-count-eq0.branch in
+    let ends : c.if-count-eq0.b ≡ cond (eqb c.size_of-count.result 0) 10 32 = elim c.if-count-eq0.branch [
+      then-count-eq0 w ↦ byte_none _ _ w.if-count-eq0.true w.b-is
+      | else-count-eq0 w ↦ byte_some _ _ w.if-count-eq0.false w.b-is
+    ] in
     let here = c.loop-k-test.true in
     let w = c.loop-k in
     let put = c.put_field-at in
@@ -44,7 +44,7 @@ put_field-at-requires-in-loop-k c =
     let size = list_size c.args.list count.result count.ensures.0 (ends) in
     let short : Fits w16 (get_or c.args.list.trains w.k 0) = search rules in
     let room = name_room c.args.list count.result count.ensures.0 w.k w.invariant.0 here in
-    (rw c.after_field.ensures (room (omega (arith, size, c.requires, put.ensures.next, put.auto.0))), omega (arith, short.fits))
+    (rw c.after_field.ensures (room (omega (arith, size, c.requires, put.ensures.next, put.auto.out))), omega (arith, short.fits))
 
 pub loop-k-preserved : goal.loop-k-preserved
 loop-k-preserved c =
@@ -57,10 +57,10 @@ loop-k-preserved c =
 
 pub returns : goal.returns
 returns c =
-    let ends : c.if-count-eq0.b ≡ cond (eqb c.size_of-count.result 0) 10 32 = ⊎_elim
-    (λ w. byte_none _ _ w.0.taken w.1)
-    (λ w. byte_some _ _ w.0.left w.1)
-    c.if-count-eq0.branch in
+    let ends : c.if-count-eq0.b ≡ cond (eqb c.size_of-count.result 0) 10 32 = elim c.if-count-eq0.branch [
+      then-count-eq0 w ↦ byte_none _ _ w.if-count-eq0.true w.b-is
+      | else-count-eq0 w ↦ byte_some _ _ w.if-count-eq0.false w.b-is
+    ] in
     let w = c.loop-k in
     let put = c.put_field-at in
     let count = c.size_of-count in

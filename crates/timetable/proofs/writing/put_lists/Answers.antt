@@ -3,11 +3,12 @@ use Prim.Native.Nat.{◌-◌}
 use mathlib.Core.Path.{◌≡◌, sym, ◌∙◌}
 use mathlib.Core.List.{[]}
 use native.Mathlib.Omega.{arith}
-use lib.ListN.{length, take, length-map}
+use lib.ListN.{length, take}
 use Rattle.text.specs.Writing.SpliceLaws.{putting_start}
 use Rattle.line.specs.SpellLaws.{each_room, each_put, each_end}
 use Rattle.rules.specs.declared.orders.OrderList.{OrderList}
 use Rattle.timetable.specs.WritingLaws.{order_text, order_then, lists_text}
+use borrow.Author.Rules.{rules}
 use Rattle.timetable.proofs.writing.put_lists.Goals as goal
 
 -- what reading past the end of the array would give
@@ -21,7 +22,7 @@ pub put_list-at-requires : goal.put_list-at-requires
 put_list-at-requires c =
     let here = c.loop-k-test.true in
     let w = c.loop-k in
-    let size : length c.args.lists.at ≡ 22 = sym (length-map c.args.lists.at _) ∙ c.well_formed.1.1.0.1.1.1.0.1.0.1 in
+    let size : length c.args.lists.at ≡ 22 = search rules in
     let fits = rw (lists_text (take c.args.lists.count c.args.lists.at) []) at c.requires.1 in
     each_room order_text order_then c.args.lists.count c.args.lists.at w.k (omega (arith, size, c.requires.0)) w.invariant.0 beyond here fits
 
@@ -29,7 +30,7 @@ pub loop-k-preserved : goal.loop-k-preserved
 loop-k-preserved c =
     let here = c.loop-k-test.true in
     let w = c.loop-k in
-    let size : length c.args.lists.at ≡ 22 = sym (length-map c.args.lists.at _) ∙ c.well_formed.1.1.0.1.1.1.0.1.0.1 in
+    let size : length c.args.lists.at ≡ 22 = search rules in
     let put = c.put_list-at.ensures in
     let next = each_put order_text order_then c.args.lists.count c.args.lists.at w.k (omega (arith, size, c.requires.0)) w.invariant.0 beyond here put in
     (next, omega (arith, here))
@@ -37,6 +38,6 @@ loop-k-preserved c =
 pub returns : goal.returns
 returns c =
     let w = c.loop-k in
-    let size : length c.args.lists.at ≡ 22 = sym (length-map c.args.lists.at _) ∙ c.well_formed.1.1.0.1.1.1.0.1.0.1 in
+    let size : length c.args.lists.at ≡ 22 = search rules in
     rw (lists_text (take c.args.lists.count c.args.lists.at) [])
     (each_end order_text order_then c.args.lists.count c.args.lists.at w.k (omega (arith, size, c.requires.0)) w.invariant.0 (omega arith))

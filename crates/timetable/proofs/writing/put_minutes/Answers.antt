@@ -12,7 +12,7 @@ put_field-after_count-requires c =
 pub put_trains-requires : goal.put_trains-requires
 put_trains-requires c =
     let count = c.put_field-after_count in
-    (c.requires.0, c.requires.1, omega (arith, minutes_size c.args.line c.args.m.now, c.requires.2, count.ensures.next, count.auto.0))
+    (c.requires.0, c.requires.1, omega (arith, minutes_size c.args.line c.args.m.now, c.requires.2, count.ensures.next, count.auto.out))
 
 pub returns : goal.returns
 returns c =

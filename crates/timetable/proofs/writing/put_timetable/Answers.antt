@@ -14,7 +14,7 @@ put_minutes-after_trains-requires c =
 pub put_field-after_number-requires : goal.put_field-after_number-requires
 put_field-after_number-requires c =
     let size = timetable_size c.args.line c.args.m.now in (
-      rw c.list_count.ensures.0 (omega (arith, size, c.requires.3, c.put_minutes-after_trains.ensures.next, c.put_minutes-after_trains.auto.0)),
+      rw c.list_count.ensures.0 (omega (arith, size, c.requires.3, c.put_minutes-after_trains.ensures.next, c.put_minutes-after_trains.auto.out)),
       omega (arith, c.list_count.ensures.1),
     )
 
@@ -25,7 +25,7 @@ put_lists-after_lists-requires c =
     let after = rw c.list_count.ensures.0 at c.put_field-after_number.ensures.next in (
       lists.ensures.2,
       rw lists.ensures.0
-          (omega (arith, size, c.requires.3, c.put_minutes-after_trains.ensures.next, c.put_minutes-after_trains.auto.0, after, c.put_field-after_number.auto.0)),
+          (omega (arith, size, c.requires.3, c.put_minutes-after_trains.ensures.next, c.put_minutes-after_trains.auto.out, after, c.put_field-after_number.auto.out)),
     )
 
 pub weighted_delay-requires : goal.weighted_delay-requires
@@ -44,11 +44,11 @@ put_field-requires c =
             size,
             c.requires.3,
             c.put_minutes-after_trains.ensures.next,
-            c.put_minutes-after_trains.auto.0,
+            c.put_minutes-after_trains.auto.out,
             after,
-            c.put_field-after_number.auto.0,
+            c.put_field-after_number.auto.out,
             last,
-            c.put_lists-after_lists.auto.0,
+            c.put_lists-after_lists.auto.out,
           )),
       omega (arith, c.weighted_delay.ensures, total_small c.args.line c.args.m.now c.requires.0 c.requires.2),
     )

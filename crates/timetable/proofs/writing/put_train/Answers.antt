@@ -33,7 +33,7 @@ put_field-at-requires c =
     let short : Fits w16 arrives.result = search rules in
     let fits = rw (sym legs.ensures) at c.requires.3 in
     let room = leg_room c.args.train c.args.m.now c.args.i legs.result w.j w.invariant.0 (omega arith) fits in (
-      rw (arrives.ensures, c.after_field.ensures) (omega (arith, rw (sym departs.ensures) at room, put.ensures.next, put.auto.0)),
+      rw (arrives.ensures, c.after_field.ensures) (omega (arith, rw (sym departs.ensures) at room, put.ensures.next, put.auto.out)),
       omega (arith, short.fits),
     )
 

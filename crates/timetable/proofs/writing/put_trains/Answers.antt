@@ -3,11 +3,12 @@ use Prim.Native.Nat.{◌-◌}
 use mathlib.Core.Path.{◌≡◌, sym, ◌∙◌}
 use native.Mathlib.Nat.{sub-zero}
 use native.Mathlib.Omega.{arith}
-use lib.ListN.{length, length-map}
+use lib.ListN.{length}
 use Rattle.text.specs.Writing.SpliceLaws.{putting_start, putting_step, putting_end}
 use Rattle.line.specs.RunnableLaws.{within_runnable}
 use Rattle.rules.specs.StatementLaws.PathsLaws.{routed}
 use Rattle.timetable.specs.WritingLaws.{next-train, no_train_lem, train_room}
+use borrow.Author.Rules.{rules}
 use Rattle.timetable.proofs.writing.put_trains.Goals as goal
 
 pub loop-i-init : goal.loop-i-init
@@ -17,7 +18,7 @@ pub put_train-at-requires : goal.put_train-at-requires
 put_train-at-requires c =
     let here = c.loop-i-test.true in
     let w = c.loop-i in
-    let size : length c.args.line.traffic.trains ≡ 12 = sym (length-map c.args.line.traffic.trains _) ∙ c.well_formed.1.1.0.1.1.1.0.1.1.1.0.1.0.1 in (
+    let size : length c.args.line.traffic.trains ≡ 12 = search rules in (
       routed c.args.line w.i (within_runnable c.args.line c.requires.0) size here,
       c.requires.1,
       omega (arith, here, c.requires.0.trains),

@@ -9,17 +9,17 @@ use Rattle.timetable.proofs.writing.write.Goals as goal
 pub write_text-requires : goal.write_text-requires
 write_text-requires c =
     let a = c.args in
-    (tells_first a.line a.t2).holds (sym c.first_fault-fault.ensures ∙ c.in-None.is)
+    (tells_first a.line a.minutes).holds (sym c.first_fault-fault.ensures ∙ c.in-None.is)
 
 pub returns-in-None : goal.returns-in-None
 unfolding spelling
 returns-in-None c =
     let a = c.args in
     let none = sym c.first_fault-fault.ensures ∙ c.in-None.is in
-    lent_as (spelling_clean a.line a.t2 _ none) c.write_text.ensures
+    lent_as (spelling_clean a.line a.minutes _ none) c.write_text.ensures
 
 pub returns-in-At : goal.returns-in-At
 unfolding spelling
 returns-in-At c =
     let a = c.args in
-    lent_refused a.out.now refl (spelling_refused a.line a.t2 _ (sym c.first_fault-fault.ensures ∙ c.in-At.is))
+    lent_refused a.out.now refl (spelling_refused a.line a.minutes _ (sym c.first_fault-fault.ensures ∙ c.in-At.is))

@@ -20,12 +20,12 @@ put_minutes-count-requires c =
 pub slice_bounds-text-end : goal.slice_bounds-text-end
 slice_bounds-text-end c =
     let put = c.put_minutes-count in
-    omega (arith, lines_fit c.args.line c.args.minutes c.requires.0 c.requires.1, put.ensures.next, put.auto.0)
+    omega (arith, lines_fit c.args.line c.args.minutes c.requires.0 c.requires.1, put.ensures.next, put.auto.out)
 
 pub slice_bounds-lend_text-end : goal.slice_bounds-lend_text-end
 slice_bounds-lend_text-end c =
     let put = c.put_minutes-count in
-    sym (length-take-le _ _ (omega (arith, lines_fit c.args.line c.args.minutes c.requires.0 c.requires.1, put.ensures.next, put.auto.0)))
+    sym (length-take-le _ _ (omega (arith, lines_fit c.args.line c.args.minutes c.requires.0 c.requires.1, put.ensures.next, put.auto.out)))
 
 pub returns : goal.returns
 returns c =

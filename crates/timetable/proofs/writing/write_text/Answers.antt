@@ -19,12 +19,12 @@ put_timetable-count-requires c =
 pub slice_bounds-text-end : goal.slice_bounds-text-end
 slice_bounds-text-end c =
     let put = c.put_timetable-count in
-    omega (arith, timetable_fits c.args.line c.args.minutes c.requires.0 c.requires.1, put.ensures.next, put.auto.0)
+    omega (arith, timetable_fits c.args.line c.args.minutes c.requires.0 c.requires.1, put.ensures.next, put.auto.out)
 
 pub slice_bounds-lend_text-end : goal.slice_bounds-lend_text-end
 slice_bounds-lend_text-end c =
     let put = c.put_timetable-count in
-    sym (length-take-le _ _ (omega (arith, timetable_fits c.args.line c.args.minutes c.requires.0 c.requires.1, put.ensures.next, put.auto.0)))
+    sym (length-take-le _ _ (omega (arith, timetable_fits c.args.line c.args.minutes c.requires.0 c.requires.1, put.ensures.next, put.auto.out)))
 
 pub returns : goal.returns
 returns c =

@@ -17,9 +17,6 @@ use Rattle.walk.specs.Finding.{FindsWalked}
 use Rattle.walk.specs.FindingLaws.{finds_walked, finds_nothing}
 use Rattle.walk.proofs.finding.best_of.Goals as goal
 
-abbrev first : tie.After-key → tie.After-first-minutes
-first c = (laid c).before.before.before.before.before.before.before
-
 pub first_minutes-first-requires : goal.first_minutes-first-requires
 first_minutes-first-requires c = within_runnable c.args.line c.requires.0
 
@@ -35,22 +32,19 @@ tables_of-t-requires c = within_runnable c.args.line c.requires.0
 pub take_up-tally-requires : goal.take_up-tally-requires
 unfolding free
 take_up-tally-requires c =
-    let timely : let l = (first c).before.args.line in let m = (first c).first-minutes.result.minutes in WithinDays m × EachTrain l (NotLate l m) = (first c).first-minutes.ensures.timely (not-false _ c.if-not-first.false) in
-    let carried : Carried (first c).before.args.line free (first c).first-minutes.result.minutes (first c).first-minutes.result.cost = (first c).first-minutes.ensures.carried (timely).0 in
-    let given : Given (first c).before.args.line (first c).first-minutes.result.minutes (replicate 368 0) (replicate 352 0) c.tables_of-t.result c.directions_of-ds.result c.key_of-key.result c.layout_of-layout.result (first c).first-minutes.result.cost (record { found = false; delay = 0; steps = 1 }) = let a = (first c).before in
-    first_given a.args.line a.pre.0 a.pre.1 _ _ (carried) (timely).1 _ _ _ _ c.tables_of-t.ensures
+    let timely : let l = c.args.line in let m = c.first_minutes-first.result.minutes in WithinDays m × EachTrain l (NotLate l m) = c.first_minutes-first.ensures.timely (not-false _ c.if-not-first.false) in
+    let carried : Carried c.args.line free c.first_minutes-first.result.minutes c.first_minutes-first.result.cost = c.first_minutes-first.ensures.carried timely.0 in
+    let given : Given c.args.line c.first_minutes-first.result.minutes (replicate 368 0) (replicate 352 0) c.tables_of-t.result c.directions_of-ds.result c.key_of-key.result c.layout_of-layout.result c.first_minutes-first.result.cost (record { found = false; delay = 0; steps = 1 }) = first_given c.args.line c.requires.0 c.requires.1 _ _ carried timely.1 _ _ _ _ c.tables_of-t.ensures
     c.directions_of-ds.ensures c.key_of-key.ensures c.layout_of-layout.ensures _ refl (omega arith) in
-    record { line = (first c).before.args.line; given = given; former_size = (given).planned.carried.least.fit.size; known = clear_none _ _ _ }
+    record { line = c.args.line; given = given; former_size = given.planned.carried.least.fit.size; known = clear_none _ _ _ }
 
 pub returns : goal.returns
 unfolding free
 returns c =
-    let timely : let l = (first c).before.args.line in let m = (first c).first-minutes.result.minutes in WithinDays m × EachTrain l (NotLate l m) = (first c).first-minutes.ensures.timely (not-false _ c.if-not-first.false) in
-    let carried : Carried (first c).before.args.line free (first c).first-minutes.result.minutes (first c).first-minutes.result.cost = (first c).first-minutes.ensures.carried (timely).0 in
-    let given : Given (first c).before.args.line (first c).first-minutes.result.minutes (replicate 368 0) (replicate 352 0) c.tables_of-t.result c.directions_of-ds.result c.key_of-key.result c.layout_of-layout.result (first c).first-minutes.result.cost (record { found = false; delay = 0; steps = 1 }) = let a = (first c).before in
-    first_given a.args.line a.pre.0 a.pre.1 _ _ (carried) (timely).1 _ _ _ _ c.tables_of-t.ensures
+    let timely : let l = c.args.line in let m = c.first_minutes-first.result.minutes in WithinDays m × EachTrain l (NotLate l m) = c.first_minutes-first.ensures.timely (not-false _ c.if-not-first.false) in
+    let carried : Carried c.args.line free c.first_minutes-first.result.minutes c.first_minutes-first.result.cost = c.first_minutes-first.ensures.carried timely.0 in
+    let given : Given c.args.line c.first_minutes-first.result.minutes (replicate 368 0) (replicate 352 0) c.tables_of-t.result c.directions_of-ds.result c.key_of-key.result c.layout_of-layout.result c.first_minutes-first.result.cost (record { found = false; delay = 0; steps = 1 }) = first_given c.args.line c.requires.0 c.requires.1 _ _ carried timely.1 _ _ _ _ c.tables_of-t.ensures
     c.directions_of-ds.ensures c.key_of-key.ensures c.layout_of-layout.ensures _ refl (omega arith) in
-    let a = (first c).before in
-    subst (FindsWalked a.args.line) (sym c.found_of-2.ensures)
-    (finds_walked a.args.line a.pre.0 a.pre.1 (first c).first-minutes.result.minutes (carried).least (replicate 352 0) refl refl
-    (c.take_up-tally.ensures a.args.line (given)))
+    subst (FindsWalked c.args.line) (sym c.found_of-2.ensures)
+    (finds_walked c.args.line c.requires.0 c.requires.1 c.first_minutes-first.result.minutes carried.least (replicate 352 0) refl refl
+    (c.take_up-tally.ensures c.args.line given))

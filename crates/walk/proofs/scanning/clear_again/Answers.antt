@@ -1,7 +1,6 @@
 -- The answers; the idea of the proof is at the head of the invariants.
 use Prim.Native.Nat.{◌-◌}
 use native.Mathlib.Omega.{arith}
-use borrow.Author.Tests.{not-false}
 use Rattle.rules.specs.Conflict.ConflictsLaws.{segment-start, segment-on}
 use Rattle.walk.specs.ScanningLaws.{clear_within, clear_at, clear_first}
 use Rattle.walk.proofs.scanning.clear_again.Goals as goal
@@ -28,7 +27,7 @@ returns-then-not-still_clear c =
 pub loop-p-preserved : goal.loop-p-preserved
 loop-p-preserved c =
     let y = c.args.layout in
-    (segment-on y.segments _ _ _ _ c.loop-p.invariant.0 (c.still_clear.ensures (not-false _ c.if-not-still_clear.false)), omega arith, c.loop-p.invariant.2)
+    (segment-on y.segments _ _ _ _ c.loop-p.invariant.0 (c.still_clear.ensures c.if-not-still_clear.false), omega arith, c.loop-p.invariant.2)
 
 pub returns : goal.returns
 returns c =

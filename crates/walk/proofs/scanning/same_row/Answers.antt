@@ -1,13 +1,13 @@
 -- The answers; the idea of the proof is at the head of the invariants.
 use Prim.Native.Nat.{◌+◌, ◌-◌}
 use mathlib.Core.Path.{◌≡◌, sym, ◌∙◌}
-use mathlib.Core.Logic.{⊎_elim}
 use mathlib.Core.Bool.{true, false≢true}
 use native.Mathlib.Omega.{arith}
 use lib.ListN.{get_or}
 use borrow.Author.Count.{below_more}
 use Rattle.walk.specs.ScanningLaws.{row_same}
 use Rattle.walk.proofs.scanning.same_row.Goals as goal
+use Rattle.walk.proofs.scanning.same_row.Goals.{then-m-b, else-m-b}
 
 pub loop-i-init : goal.loop-i-init
 loop-i-init c = (omega arith, λ _ j l. absurd (omega arith))
@@ -17,10 +17,10 @@ loop-i-preserved c =
     let w = c.loop-i in
     let a = c.args in (
       omega arith,
-      ⊎_elim
-          (λ u e. absurd (false≢true (sym u.1 ∙ e)))
-          (λ u e. below_more (λ j. get_or a.m.now (a.b + j) 0 ≡ get_or a.former.now (a.b + j) 0) w.i (w.invariant.1 (sym u.1 ∙ e)) u.0.left)
-          c.if-m-b.branch,
+      elim c.if-m-b.branch [
+        then-m-b u ↦ λ e. absurd (false≢true (sym u.same-is ∙ e))
+      | else-m-b u ↦ λ e. below_more (λ j. get_or a.m.now (a.b + j) 0 ≡ get_or a.former.now (a.b + j) 0) w.i (w.invariant.1 (sym u.same-is ∙ e)) u.if-m-b.false
+      ],
     )
 
 pub returns : goal.returns

@@ -5,9 +5,9 @@ use Rattle.walk.specs.ScanningLaws.{same_changed, changed_clear}
 use Rattle.walk.proofs.scanning.still_clear.Goals as goal
 
 pub returns-then-same_on : goal.returns-then-same_on
-returns-then-same_on c =
+returns-then-same_on c _ =
     changed_clear _ _ _ _ _ _ c.requires.5
     (same_changed _ _ _ _ _ _ (omega arith) (c.same_on.ensures c.if-same_on.true))
 
 pub returns : goal.returns
-returns c = changed_clear _ _ _ _ _ _ c.requires.5 (c.changed_apart.ensures e)
+returns c e = changed_clear _ _ _ _ _ _ c.requires.5 (c.changed_apart.ensures e)

@@ -1,7 +1,7 @@
 -- The answers; the idea of the proof is at the head of the invariants.
 use Prim.Native.Nat.{ℕ, ◌-◌}
-use mathlib.Core.Path.{◌≡◌, refl}
-use mathlib.Core.Logic.{⊎_elim}
+use mathlib.Core.Path.{◌≡◌, refl, ap}
+use mathlib.Core.Bool.{not}
 use native.Mathlib.Omega.{arith}
 use lib.ListN.{length-replicate}
 use Rattle.rules.specs.Scan.StationLaws.{directions_size}
@@ -14,13 +14,14 @@ use Rattle.walk.specs.TakenLaws.{clear_known, given_cut, given_clear, given_spli
 use Rattle.walk.specs.TakenLaws.{given_alive, given_after, tries_more, tries_skip}
 use Rattle.plans.specs.Clauses.NextPlansLaws.{row_few, second_there, way_chooses, next_falls}
 use Rattle.walk.proofs.walk.+take_up_try_way_try_ways.Goals as goal
+use Rattle.walk.proofs.walk.+take_up_try_way_try_ways.Goals.{try_ways-then-way, try_ways-else-way}
 
 pub take_up-improves-requires : goal.take_up-improves-requires
 take_up-improves-requires t c =
     (c.requires.given.planned.carried.least.fit.size, c.requires.given.tallied.size, key_long c.requires.line _ _ _ _ _ _ _ _ _ c.requires.given)
 
 pub take_up-returns-then-not-improves : goal.take_up-returns-then-not-improves
-take_up-returns-then-not-improves t c = given_cut l _ _ _ _ _ _ _ _ _ g _ c.improves.ensures c.if-not-improves.true
+take_up-returns-then-not-improves t c l g = given_cut l _ _ _ _ _ _ _ _ _ g _ c.improves.ensures (ap not c.if-not-improves.true)
 
 pub take_up-lowest_conflict-conflict-requires : goal.take_up-lowest_conflict-conflict-requires
 take_up-lowest_conflict-conflict-requires t c =
@@ -39,15 +40,14 @@ take_up-copy_minutes-requires t c =
     (c.requires.given.planned.carried.least.fit.size, c.requires.given.tallied.size)
 
 pub take_up-returns-then-n-eq0 : goal.take_up-returns-then-n-eq0
-take_up-returns-then-n-eq0 t c =
-    given_clear l _ _ _ _ _ _ _ _ _ g _ c.improves.ensures c.if-not-improves.false _ c.lowest_conflict-conflict.ensures _ c.way_count-n.ensures
+take_up-returns-then-n-eq0 t c l g =
+    given_clear l _ _ _ _ _ _ _ _ _ g _ c.improves.ensures (ap not c.if-not-improves.false) _ c.lowest_conflict-conflict.ensures _ c.way_count-n.ensures
     c.if-n-eq0.true _ c.copy_minutes.ensures
 
 pub take_up-try_ways-requires : goal.take_up-try_ways-requires
 take_up-try_ways-requires t c =
-    let a = c.requires in
-    let g = a.1 in (
-      omega (arith, a.0),
+    let g = c.requires in (
+      omega (arith, c.decreases),
       record {
         line = g.line;
         given = g.given;
@@ -57,9 +57,9 @@ take_up-try_ways-requires t c =
     )
 
 pub take_up-returns : goal.take_up-returns
-take_up-returns t c =
+take_up-returns t c l g =
     let is = c.lowest_conflict-conflict.ensures in
-    given_split l _ _ _ _ _ _ _ _ _ g _ c.improves.ensures c.if-not-improves.false _ is _ c.way_count-n.ensures
+    given_split l _ _ _ _ _ _ _ _ _ g _ c.improves.ensures (ap not c.if-not-improves.false) _ is _ c.way_count-n.ensures
     c.if-n-eq0.false _ _ _
     (c.try_ways.ensures l g (conflict_known l _ _ _ _ _ _ _ _ _ g _ is))
 
@@ -102,7 +102,7 @@ try_way-bounds-marks-row-then-fails t c =
     row_few c.requires.line c.requires.given.tabled.within _ _ c.requires.choice _ c.requires.is_way
 
 pub try_way-returns-then-fails : goal.try_way-returns-then-fails
-try_way-returns-then-fails t c =
+try_way-returns-then-fails t c l x g i =
     given_fails l _ _ _ _ _ _ _ _ _ g x _ i _ c.with_bit.ensures _ c.counted-b.ensures _ c.cut_of.ensures
     (c.fails.ensures c.if-fails.true)
 
@@ -131,20 +131,19 @@ try_way-bounds-marks-row-then-c t c =
     row_few c.requires.line c.requires.given.tabled.within _ _ c.requires.choice _ c.requires.is_way
 
 pub try_way-returns-then-c : goal.try_way-returns-then-c
-try_way-returns-then-c t c =
+try_way-returns-then-c t c l x g i =
     given_dead l _ _ _ _ _ _ _ _ _ g x _ i _ c.with_bit.ensures _ c.counted-b.ensures _ c.copy_minutes.ensures _
     c.cut_of-2.ensures _ _ c.raised-c.ensures c.if-c.true
 
 pub try_way-take_up-r-requires : goal.try_way-take_up-r-requires
 try_way-take_up-r-requires t c =
-    let a = c.requires in
-    let p = a.1 in
+    let p = c.requires in
     let alive = c.if-c.false in
     let falls = next_falls p.line _ _ _ _ _ p.given.tabled p.given.planned p.choice _ p.is_way _ c.with_bit.ensures _
     c.copy_minutes.ensures _ _ _ c.raised-c.ensures alive in
     let given = next_given p.line _ _ _ _ _ _ _ _ _ p.given p.choice _ p.is_way _ c.with_bit.ensures _ c.counted-b.ensures _
     c.copy_minutes.ensures _ c.cut_of-2.ensures _ _ c.raised-c.ensures alive in
-    (omega (arith, a.0, falls), record { line = p.line; given = given; former_size = p.given.planned.carried.least.fit.size; known = p.known })
+    (omega (arith, c.decreases, falls), record { line = p.line; given = given; former_size = p.given.planned.carried.least.fit.size; known = p.known })
 
 pub try_way-offset_bounds-marks-row-3 : goal.try_way-offset_bounds-marks-row-3
 try_way-offset_bounds-marks-row-3 t c =
@@ -155,7 +154,7 @@ try_way-bounds-marks-row-3 t c =
     row_few c.requires.line c.requires.given.tabled.within _ _ c.requires.choice _ c.requires.is_way
 
 pub try_way-returns : goal.try_way-returns
-try_way-returns t c =
+try_way-returns t c l x g i =
     let alive = c.if-c.false in
     let given = next_given l _ _ _ _ _ _ _ _ _ g x _ i _ c.with_bit.ensures _ c.counted-b.ensures _
     c.copy_minutes.ensures _ c.cut_of-2.ensures _ _ c.raised-c.ensures alive in
@@ -194,7 +193,7 @@ try_ways-try_way-b-requires t c =
     )
 
 pub try_ways-overflow_add-w : goal.try_ways-overflow_add-w
-try_ways-overflow_add-w t c = omega (arith, c.way_of-way.ensures.1.up_to_lem)
+try_ways-overflow_add-w t c = omega (arith, c.way_of-way.ensures.1.up_to)
 
 pub try_ways-loop-w-smaller : goal.try_ways-loop-w-smaller
 try_ways-loop-w-smaller t c = omega (arith, c.way_of-way.ensures.1.on, c.loop-w-test.true)
@@ -205,12 +204,12 @@ try_ways-loop-w-preserved t c =
     let count = c.requires.count_is in
     let low = c.loop-w-test.true in
     let way = c.way_of-way.ensures in (
-      ⊎_elim
-          (λ w.
-          tries_more _ _ _ _ _ _ _ _ _ _ _ count i.w low _ _ _ i.invariant.0 _ way.0 way.1 _ _ _ w.0.taken _ _ _ w.3.ensures
-          w.4 w.5 w.6)
-          (λ w. tries_skip _ _ _ _ _ _ _ _ _ _ _ count i.w low _ _ _ i.invariant.0 _ way.0 way.1 _ _ _ w.0.left w.1 w.2 w.3)
-          c.if-way.branch,
+      elim c.if-way.branch [
+        try_ways-then-way w ↦
+          tries_more _ _ _ _ _ _ _ _ _ _ _ count i.w low _ _ _ i.invariant.0 _ way.0 way.1 _ _ _ w.if-way.true _ _ _ w.try_way-b.ensures
+          w.marks-is w.best-is w.b-is
+      | try_ways-else-way w ↦ tries_skip _ _ _ _ _ _ _ _ _ _ _ count i.w low _ _ _ i.invariant.0 _ way.0 way.1 _ _ _ w.if-way.false w.marks-is w.best-is w.b-is
+      ],
       steps_within _ _ _ _ count low way.1,
     )
 

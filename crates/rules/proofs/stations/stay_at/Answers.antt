@@ -1,1 +1,0 @@
--- `rules::stations::stay_at` meets its contract: the minutes by the train's way over the segment after the station. Assumes nothing.
