@@ -1,7 +1,5 @@
--- The line as an instance of the theory: its parts (`Planning`), their laws, and what a search of everything has found (`LineSearchedLaws`).
+-- The line as an instance of the theory: its parts (`Planning`, `TidyMinutes`). Their laws are in proofs/Instance.
 pub mod Planning
 pub mod TidyMinutes
-pub mod PlanningLaws
 pub mod PreferredLaws
 pub mod TidyMinutesLaws
-pub mod LineSearchedLaws

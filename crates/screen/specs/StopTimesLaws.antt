@@ -5,7 +5,7 @@ use Rattle.std.proofs.Common.{ap, ◌∙◌, arith}
 use Rattle.text.specs.declared.Written.{Written}
 use Rattle.text.specs.Writing.Lend.{Spelling, Lent}
 use Rattle.text.specs.Writing.LendLaws.{lent_there, text_written, text_refused, refusal_lent}
-use Rattle.gtfs.specs.BoundsLaws.{SpellingBounded}
+use Rattle.gtfs.proofs.BoundsLaws.{SpellingBounded}
 use Rattle.service.specs.Packing.{packed_written, PacksWritten, LentPacked}
 use Rattle.service.specs.PackingLaws.{Unpacks, packed_tells, text_packs, refusal_packs}
 

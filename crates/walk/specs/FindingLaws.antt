@@ -20,8 +20,8 @@ use Rattle.plans.specs.Theory.BestSoFar.{BestSoFar, nothing, found}
 use Rattle.walk.specs.Walk.{Walked, walk, plenty, take_up}
 use Rattle.walk.specs.ProblemLaws.{least_found}
 use Rattle.plans.specs.Instance.Planning.{in_time, planning}
-use Rattle.plans.specs.Instance.PlanningLaws.{decides_in_time}
-use Rattle.plans.specs.Instance.LineSearchedLaws.{planning_laws}
+use Rattle.plans.proofs.Instance.PlanningLaws.{decides_in_time}
+use Rattle.plans.proofs.Instance.LineSearchedLaws.{planning_laws}
 use Rattle.walk.specs.WalkBestLaws.{walk_best, walk-nothing}
 use Rattle.plans.specs.Clauses.Tallies.{best_of, cut_off}
 use Rattle.walk.specs.Taking.{taken_up, plan_part, Walks}

@@ -20,9 +20,9 @@ use Rattle.walk.specs.Scanning.{ClearBelow, clear_segments}
 use Rattle.walk.specs.ScanningLaws.{clear_told}
 use Rattle.plans.specs.Clauses.Choosing.{Planned, Given, NoRaise, Fails, RaisesChoice, Raises, IsWay}
 use Rattle.walk.specs.Taking.{Tries, TriesFirst, Walks, plan_part, way_part, ways_part}
-use Rattle.plans.specs.Clauses.TryingLaws.{way_there, way_absent, is_way, put_back}
-use Rattle.plans.specs.Clauses.NextPlansLaws.{cut_low, way_added, way_chooses, way_raises, way-least, next_planned, next_falls}
-use Rattle.plans.specs.Clauses.GivenLaws.{conflict_known, told}
+use Rattle.plans.proofs.Clauses.TryingLaws.{way_there, way_absent, is_way, put_back}
+use Rattle.plans.proofs.Clauses.NextPlansLaws.{cut_low, way_added, way_chooses, way_raises, way-least, next_planned, next_falls}
+use Rattle.plans.proofs.Clauses.GivenLaws.{conflict_known, told}
 use Rattle.walk.specs.WalksLaws.{walks_cut, walks_clear, walks_split, counted_tallied, walks_dead, walks_alive, walks_skip, walks_more}
 use Rattle.plans.specs.declared.tally.Tally.{Tally}
 use Rattle.plans.specs.declared.ways.Way.{Way}

@@ -8,7 +8,7 @@ use Rattle.orders.specs.Plan.Marks.{free}
 use Rattle.plans.specs.Theory.BestSoFar.{BestSoFar, nothing, found}
 use Rattle.plans.specs.Theory.Search.{Searched}
 use Rattle.plans.specs.Instance.Planning.{planning}
-use Rattle.plans.specs.Instance.LineSearchedLaws.{planning_laws, searched_best, searched_nothing}
+use Rattle.plans.proofs.Instance.LineSearchedLaws.{planning_laws, searched_best, searched_nothing}
 use Rattle.walk.specs.Walk.{walk}
 use Rattle.walk.specs.WalkLaws.{walk_searched}
 

@@ -18,16 +18,16 @@ use Rattle.orders.specs.LeastMinutes.PlanArcs.{least}
 use Rattle.walk.specs.Walk.{Walked, in_order, take_up}
 use Rattle.plans.specs.Theory.BestSoFar.{BestSoFar, found, improves, improves_true}
 use Rattle.plans.specs.Conflict.Ways.{way_of, way_count, ways}
-use Rattle.plans.specs.Conflict.WaysLaws.{ways_none, all_ways, no_ways}
+use Rattle.plans.proofs.Conflict.WaysLaws.{ways_none, all_ways, no_ways}
 use Rattle.plans.specs.Instance.Planning.{in_time, planning}
 use Rattle.plans.specs.Clauses.Tallies.{best_of, cut_of, cut_off, Tallied}
 use Rattle.plans.specs.Clauses.Choosing.{Planned, NoRaise}
 use Rattle.walk.specs.Taking.{taken_up, Walks, plan_part, way_part, ways_part}
 use Rattle.walk.specs.TakingLaws.{taken_up_lem, taken_none, taken_some, taken_cut, taken_clear, taken_split, none_more, more_best, more_steps}
 use Rattle.orders.specs.LeastMinutes.CarriedLaws.{delay-most}
-use Rattle.plans.specs.Clauses.NextPlansLaws.{recounted, recounted_best, raise_none}
+use Rattle.plans.proofs.Clauses.NextPlansLaws.{recounted, recounted_best, raise_none}
 use Rattle.walk.specs.ProblemLaws.{least_found}
-use Rattle.plans.specs.Instance.LineSearchedLaws.{planning_laws}
+use Rattle.plans.proofs.Instance.LineSearchedLaws.{planning_laws}
 use Rattle.plans.specs.declared.tally.Tally.{Tally}
 
 -- ---- a choice more: the walk goes on with its least minutes, or leaves it where raising found none within the cut

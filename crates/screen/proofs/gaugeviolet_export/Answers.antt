@@ -1,5 +1,5 @@
 -- `screen::gaugeviolet_export` meets its contract: the answer of exporting, packed, which its bounds allow. Assumes nothing.
-use Rattle.gtfs.specs.BoundsLaws.{export_bounded}
+use Rattle.gtfs.proofs.BoundsLaws.{export_bounded}
 use Rattle.service.specs.PackingLaws.{lent-packed}
 use Rattle.screen.specs.StopTimesLaws.{bounded_packs}
 use Rattle.screen.proofs.gaugeviolet_export.Goals as goal

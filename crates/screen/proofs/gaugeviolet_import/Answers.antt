@@ -1,5 +1,5 @@
 -- `screen::gaugeviolet_import` meets its contract: the answer of importing, packed, which its bounds allow. Assumes nothing.
-use Rattle.gtfs.specs.BoundsLaws.{import_bounded}
+use Rattle.gtfs.proofs.BoundsLaws.{import_bounded}
 use Rattle.service.specs.PackingLaws.{lent-packed}
 use Rattle.screen.specs.StopTimesLaws.{bounded_packs}
 use Rattle.screen.proofs.gaugeviolet_import.Goals as goal

@@ -6,7 +6,7 @@ use Rattle.rules.specs.declared.conflicts.Layout.{Layout}
 use Rattle.plans.specs.Conflict.Ways.{way_count}
 use Rattle.plans.specs.Clauses.Choosing.{NoRaise}
 use Rattle.plans.specs.Clauses.Tallies.{cut_of}
-use Rattle.plans.specs.Clauses.NextPlansLaws.{none_raised}
+use Rattle.plans.proofs.Clauses.NextPlansLaws.{none_raised}
 use Rattle.plans.specs.declared.tally.Tally.{Tally}
 use Rattle.solver.specs.Selection.Pricing.{CanPriceWays, PricesWays}
 use Rattle.solver.specs.Selection.Selecting.{CanSelect, ChoosesOne, KnownReal, FindsReal}

@@ -17,18 +17,18 @@ use Rattle.plans.specs.Theory.BestSoFar.{improves_false}
 use Rattle.plans.specs.Theory.Search.{NoneBetter, Narrows}
 use Rattle.plans.specs.Theory.SearchLaws.{none_worse, none_split, narrows_forced, narrows_all, narrows_rest, narrows_then, none_narrows, under_least, under_also}
 use Rattle.plans.specs.Conflict.Ways.{way_of, way_count, ways_of}
-use Rattle.plans.specs.Conflict.WaysLaws.{way-number}
+use Rattle.plans.proofs.Conflict.WaysLaws.{way-number}
 use Rattle.plans.specs.Clauses.WaysTold.{TellsWay}
 use Rattle.plans.specs.Conflict.RealConflicts.{Real}
-use Rattle.plans.specs.Conflict.SplitsLaws.{conflict_splits}
+use Rattle.plans.proofs.Conflict.SplitsLaws.{conflict_splits}
 use Rattle.plans.specs.Instance.Planning.{planning}
-use Rattle.plans.specs.Instance.LineSearchedLaws.{planning_laws}
+use Rattle.plans.proofs.Instance.LineSearchedLaws.{planning_laws}
 use Rattle.plans.specs.Clauses.Keys.{better_by}
 use Rattle.plans.specs.Clauses.Tallies.{best_of, cut_of}
 use Rattle.plans.specs.Clauses.Choosing.{Tabled, Planned, Given, NoRaise, Raises, IsWay}
-use Rattle.plans.specs.Clauses.TryingLaws.{way_there, way_absent, way_of_real}
-use Rattle.plans.specs.Clauses.NextPlansLaws.{none_raised, child_planned, child_above}
-use Rattle.plans.specs.Clauses.GivenLaws.{told}
+use Rattle.plans.proofs.Clauses.TryingLaws.{way_there, way_absent, way_of_real}
+use Rattle.plans.proofs.Clauses.NextPlansLaws.{none_raised, child_planned, child_above}
+use Rattle.plans.proofs.Clauses.GivenLaws.{told}
 use Rattle.plans.specs.declared.tally.Tally.{Tally}
 use Rattle.plans.specs.declared.ways.Way.{Way}
 use Rattle.solver.specs.Selection.Pricing.{PricesWays, Cheapest}

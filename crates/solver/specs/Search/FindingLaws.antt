@@ -14,11 +14,11 @@ use Rattle.plans.specs.Theory.BestSoFar.{BestSoFar, nothing, found}
 use Rattle.plans.specs.Theory.Search.{Onward, Searched}
 use Rattle.plans.specs.Theory.SearchLaws.{onward_then, searched_dead}
 use Rattle.plans.specs.Instance.Planning.{planning}
-use Rattle.plans.specs.Instance.LineSearchedLaws.{searched_best, searched_nothing}
+use Rattle.plans.proofs.Instance.LineSearchedLaws.{searched_best, searched_nothing}
 use Rattle.plans.specs.Clauses.FoundBest.{found_of, Finds}
 use Rattle.plans.specs.Clauses.FoundBestLaws.{finds_of}
-use Rattle.plans.specs.Clauses.FirstLaws.{first_late}
-use Rattle.plans.specs.Clauses.NextPlansLaws.{cut_low, recounted, recounted_best}
+use Rattle.plans.proofs.Clauses.FirstLaws.{first_late}
+use Rattle.plans.proofs.Clauses.NextPlansLaws.{cut_low, recounted, recounted_best}
 use Rattle.plans.specs.Clauses.Tallies.{best_of, cut_of, Tallied}
 use Rattle.plans.specs.declared.tally.Tally.{Tally}
 use Rattle.solver.specs.Search.Searching.{Held, Sought}

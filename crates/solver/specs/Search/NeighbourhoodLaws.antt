@@ -18,10 +18,10 @@ use Rattle.orders.specs.Plan.Marks.{also}
 use Rattle.orders.specs.Lift.Lifting.{Alive}
 use Rattle.plans.specs.Theory.SearchLaws.{under_least, under_also}
 use Rattle.plans.specs.Instance.Planning.{planning}
-use Rattle.plans.specs.Instance.LineSearchedLaws.{planning_laws}
+use Rattle.plans.proofs.Instance.LineSearchedLaws.{planning_laws}
 use Rattle.plans.specs.Clauses.Choosing.{Chooses, RaisesChoice}
-use Rattle.plans.specs.Clauses.TryingLaws.{row_low, second_low, marks_added}
-use Rattle.plans.specs.Clauses.NextPlansLaws.{child_planned, child_above}
+use Rattle.plans.proofs.Clauses.TryingLaws.{row_low, second_low, marks_added}
+use Rattle.plans.proofs.Clauses.NextPlansLaws.{child_planned, child_above}
 use Rattle.solver.specs.Search.Neighbourhood.{Searchable, CanKeep, Leads, WithChoice, OnSegment, OnSegments, OnLayout, way_for, OrderToKeep}
 
 -- ---- steps

@@ -17,18 +17,18 @@ use Rattle.plans.specs.Theory.BestSoFar.{improves_true, improves_false}
 use Rattle.plans.specs.Theory.Search.{Under, NoneBetter}
 use Rattle.plans.specs.Theory.SearchLaws.{onward_then, none_onward, none_worse, searched_clear, none_split, under_least, under_also}
 use Rattle.plans.specs.Conflict.Ways.{way_of, way_count, ways_of}
-use Rattle.plans.specs.Conflict.WaysLaws.{way-number}
+use Rattle.plans.proofs.Conflict.WaysLaws.{way-number}
 use Rattle.plans.specs.Conflict.RealConflicts.{Real}
-use Rattle.plans.specs.Conflict.SplitsLaws.{conflict_splits}
+use Rattle.plans.proofs.Conflict.SplitsLaws.{conflict_splits}
 use Rattle.plans.specs.Instance.Planning.{planning}
-use Rattle.plans.specs.Instance.LineSearchedLaws.{planning_laws, clear_lawful}
+use Rattle.plans.proofs.Instance.LineSearchedLaws.{planning_laws, clear_lawful}
 use Rattle.plans.specs.Clauses.Keys.{better_by}
 use Rattle.plans.specs.Clauses.Tallies.{best_of, cut_of, cut_off, Tallied}
 use Rattle.plans.specs.Clauses.Choosing.{Planned, Given, NoRaise, RaisesChoice, IsWay}
-use Rattle.plans.specs.Clauses.TryingLaws.{put_back}
+use Rattle.plans.proofs.Clauses.TryingLaws.{put_back}
 use Rattle.orders.specs.LeastMinutes.CarriedLaws.{delay-most}
-use Rattle.plans.specs.Clauses.NextPlansLaws.{cut_low, recounted, recounted_best, none_raised, way_added, way_raises, way-least, next_planned}
-use Rattle.plans.specs.Clauses.GivenLaws.{told}
+use Rattle.plans.proofs.Clauses.NextPlansLaws.{cut_low, recounted, recounted_best, none_raised, way_added, way_raises, way-least, next_planned}
+use Rattle.plans.proofs.Clauses.GivenLaws.{told}
 use Rattle.plans.specs.declared.tally.Tally.{Tally}
 use Rattle.plans.specs.declared.ways.Way.{Way}
 use Rattle.solver.specs.Selection.Pricing.{Cheapest}

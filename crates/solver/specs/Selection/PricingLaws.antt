@@ -14,8 +14,8 @@ use Rattle.orders.specs.Plan.Choices.{Choice}
 use Rattle.plans.specs.Conflict.Ways.{way_of, way_count}
 use Rattle.plans.specs.Clauses.WaysTold.{Tells, TellsWay, Steps}
 use Rattle.plans.specs.Clauses.Choosing.{Planned, NoRaise, RaisesChoice}
-use Rattle.plans.specs.Clauses.TryingLaws.{way_there, way_absent, way_of_real, put_back}
-use Rattle.plans.specs.Clauses.NextPlansLaws.{way_raises}
+use Rattle.plans.proofs.Clauses.TryingLaws.{way_there, way_absent, way_of_real, put_back}
+use Rattle.plans.proofs.Clauses.NextPlansLaws.{way_raises}
 use Rattle.plans.specs.declared.ways.Way.{Way}
 use Rattle.solver.specs.Selection.Pricing.{Prices, DeadBelow, PricesWays, Cheapest, untried}
 

@@ -1,6 +1,6 @@
 -- `plans::choosing::fails` meets its contract: the plan costs too much already, or a first look along the legs shows it. Assumes nothing.
 use native.Mathlib.Omega.{arith}
-use Rattle.plans.specs.Clauses.ChoosingLaws.{segment_asks, station_asks, none_raises, dear_none}
+use Rattle.plans.proofs.Clauses.ChoosingLaws.{segment_asks, station_asks, none_raises, dear_none}
 use Rattle.plans.proofs.choosing.fails.Goals as goal
 
 pub returns-then-cut-cost : goal.returns-then-cut-cost

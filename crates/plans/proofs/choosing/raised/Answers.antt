@@ -1,6 +1,6 @@
 -- `plans::choosing::raised` meets its contract: the laws of raising, for every line of which what it asks for holds. Assumes nothing.
 use native.Mathlib.Omega.{arith}
-use Rattle.plans.specs.Clauses.ChoosingLaws.{segment_asks, station_asks, chose_raises, dear_raises}
+use Rattle.plans.proofs.Clauses.ChoosingLaws.{segment_asks, station_asks, chose_raises, dear_raises}
 use Rattle.plans.proofs.choosing.raised.Goals as goal
 
 pub returns-then-cut-cost : goal.returns-then-cut-cost

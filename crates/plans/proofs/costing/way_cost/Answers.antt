@@ -2,7 +2,7 @@
 use native.Mathlib.Omega.{arith}
 use Rattle.orders.specs.LeastMinutes.CarriedLaws.{delay-most}
 use Rattle.orders.specs.Waived.WaivedLine.{waived}
-use Rattle.plans.specs.Clauses.WayCostsLaws.{waived_chooses, raises_tells}
+use Rattle.plans.proofs.Clauses.WayCostsLaws.{waived_chooses, raises_tells}
 use Rattle.plans.proofs.costing.way_cost.Goals as goal
 
 pub raised-requires : goal.raised-requires

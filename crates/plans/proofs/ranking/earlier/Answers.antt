@@ -2,7 +2,7 @@
 use Prim.Native.Nat.{◌-◌}
 use mathlib.Core.Path.{refl}
 use native.Mathlib.Omega.{arith}
-use Rattle.plans.specs.Clauses.KeysLaws.{earlier_apart, earlier_alike, earlier_end}
+use Rattle.plans.proofs.Clauses.KeysLaws.{earlier_apart, earlier_alike, earlier_end}
 use Rattle.plans.proofs.ranking.earlier.Goals as goal
 
 pub loop-e-init : goal.loop-e-init

@@ -1,6 +1,6 @@
 -- `plans::ranking::improves` meets its contract, test by test. Assumes nothing.
 use mathlib.Core.Path.{◌∙◌}
-use Rattle.plans.specs.Clauses.KeysLaws.{better_nothing, better_delay, better_earlier}
+use Rattle.plans.proofs.Clauses.KeysLaws.{better_nothing, better_delay, better_earlier}
 use Rattle.plans.proofs.ranking.improves.Goals as goal
 
 pub returns-then-not-tally : goal.returns-then-not-tally

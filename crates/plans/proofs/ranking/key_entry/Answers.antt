@@ -4,7 +4,7 @@ use mathlib.Core.Path.{◌∙◌, ap}
 use native.Mathlib.Omega.{arith}
 use Rattle.line.specs.RunnableLaws.{within_runnable}
 use Rattle.rules.specs.StatementLaws.PathsLaws.{routed_leg}
-use Rattle.plans.specs.Clauses.KeysLaws.{entry_none, entry-leg}
+use Rattle.plans.proofs.Clauses.KeysLaws.{entry_none, entry-leg}
 use Rattle.plans.proofs.ranking.key_entry.Goals as goal
 
 pub returns-then-n-i : goal.returns-then-n-i

@@ -1,6 +1,6 @@
 -- `plans::ranking::minute_at` meets its contract. Assumes nothing.
 use native.Mathlib.Omega.{arith}
-use Rattle.plans.specs.Clauses.KeysLaws.{minute_in, minute_out}
+use Rattle.plans.proofs.Clauses.KeysLaws.{minute_in, minute_out}
 use Rattle.plans.proofs.ranking.minute_at.Goals as goal
 
 pub returns-then-x-lt176 : goal.returns-then-x-lt176

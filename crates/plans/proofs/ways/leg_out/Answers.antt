@@ -1,5 +1,5 @@
 -- `plans::ways::leg_out` meets its contract. Assumes nothing.
-use Rattle.plans.specs.Clauses.WaysToldLaws.{leg-outbound, leg_inbound}
+use Rattle.plans.proofs.Clauses.WaysToldLaws.{leg-outbound, leg_inbound}
 use Rattle.plans.proofs.ways.leg_out.Goals as goal
 
 pub returns-then-ds-s-eq1 : goal.returns-then-ds-s-eq1

@@ -1,7 +1,7 @@
 -- `plans::ways::pair_step` meets its contract: the same train leaves and the next one comes; or else the next train leaves and the lowest one comes; or
 -- else there is no pair any more. Assumes nothing.
 use native.Mathlib.Omega.{arith}
-use Rattle.plans.specs.Clauses.WaysToldLaws.{lowest_most, pair_same, pair-next-row, pair_last}
+use Rattle.plans.proofs.Clauses.WaysToldLaws.{lowest_most, pair_same, pair-next-row, pair_last}
 use Rattle.plans.proofs.ways.pair_step.Goals as goal
 
 pub returns-then-next-lt12 : goal.returns-then-next-lt12

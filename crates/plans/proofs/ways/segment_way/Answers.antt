@@ -1,6 +1,6 @@
 -- `plans::ways::segment_way` meets its contract: the lower train first, or the higher. Assumes nothing.
 use mathlib.Core.Path.{refl}
-use Rattle.plans.specs.Clauses.WaysToldLaws.{tells_lower, tells_higher}
+use Rattle.plans.proofs.Clauses.WaysToldLaws.{tells_lower, tells_higher}
 use Rattle.plans.proofs.ways.segment_way.Goals as goal
 
 pub returns-then-w-eq0 : goal.returns-then-w-eq0

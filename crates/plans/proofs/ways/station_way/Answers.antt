@@ -1,7 +1,7 @@
 -- `plans::ways::station_way` meets its contract: a pair of trains by the way's number, where there is such a pair; the numbers up to the next pair are
 -- left out. Assumes nothing.
 use mathlib.Core.Path.{refl, sym, ◌∙◌}
-use Rattle.plans.specs.Clauses.WaysToldLaws.{tells_pair, tells_none, steps_pair}
+use Rattle.plans.proofs.Clauses.WaysToldLaws.{tells_pair, tells_none, steps_pair}
 use Rattle.plans.proofs.ways.station_way.Goals as goal
 
 pub returns-then-two_of : goal.returns-then-two_of

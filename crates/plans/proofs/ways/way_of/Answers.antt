@@ -1,5 +1,5 @@
 -- `plans::ways::way_of` meets its contract, variant by variant. Assumes nothing.
-use Rattle.plans.specs.Clauses.WaysToldLaws.{tells_nothing, tells_as, steps_one}
+use Rattle.plans.proofs.Clauses.WaysToldLaws.{tells_nothing, tells_as, steps_one}
 use Rattle.plans.proofs.ways.way_of.Goals as goal
 
 pub segment_way-requires : goal.segment_way-requires

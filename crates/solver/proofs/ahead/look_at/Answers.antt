@@ -2,7 +2,7 @@
 -- its ways are priced it has some. Assumes nothing.
 use native.Mathlib.Omega.{arith}
 use borrow.Author.Rules.{rules}
-use Rattle.plans.specs.Clauses.TryingLaws.{count_most}
+use Rattle.plans.proofs.Clauses.TryingLaws.{count_most}
 use Rattle.solver.specs.Lookahead.AheadLaws.{look_select, look-after, look_try}
 use Rattle.solver.proofs.ahead.look_at.Goals as goal
 

@@ -13,7 +13,7 @@ use Rattle.orders.specs.LeastMinutes.Carried.{Carried}
 use Rattle.orders.specs.Plan.Marks.{free}
 use Rattle.plans.specs.declared.found.Found.{Found}
 use Rattle.plans.specs.Clauses.FoundBest.{Finds}
-use Rattle.plans.specs.Clauses.FirstLaws.{first_given, first_under}
+use Rattle.plans.proofs.Clauses.FirstLaws.{first_given, first_under}
 use Rattle.solver.specs.Search.Finding.{FirstHeld}
 use Rattle.solver.specs.Search.FindingLaws.{finds_searched, finds_nothing}
 use Rattle.solver.proofs.finding.best_timetable.Goals as goal

@@ -4,7 +4,7 @@ use mathlib.Core.Bool.{not}
 use borrow.Author.Tests.{not-true, not-false}
 use lib.ListN.{length, length-replicate}
 use Prim.Native.Nat.{ℕ}
-use Rattle.plans.specs.Clauses.GivenLaws.{key_long}
+use Rattle.plans.proofs.Clauses.GivenLaws.{key_long}
 use Rattle.solver.specs.Selection.PricingLaws.{planned_after}
 use Rattle.solver.specs.Search.SearchingLaws.{cut_few}
 use Rattle.solver.specs.Lookahead.ForcingLaws.{can_settle, followed_first, followed_alive, followed_none, followed_worse, followed_dead, followed_more}

@@ -6,7 +6,7 @@ use native.Mathlib.Omega.{arith}
 use borrow.Author.Rules.{rules}
 use lib.ListN.{length-set}
 use Rattle.rules.specs.Scan.StationLaws.{directions_size}
-use Rattle.plans.specs.Clauses.TryingLaws.{count_most, range_of}
+use Rattle.plans.proofs.Clauses.TryingLaws.{count_most, range_of}
 use Rattle.solver.specs.Selection.PricingLaws.{planned_after}
 use Rattle.solver.specs.Lookahead.ForcingLaws.{forces_none, all_dead, none_left, one_left}
 use Rattle.solver.proofs.forcing.forced_way.Goals as goal

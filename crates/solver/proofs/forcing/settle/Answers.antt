@@ -1,7 +1,7 @@
 -- `solver::forcing::settle` meets its contract: the mark of the way's choice is set, and raising finds the least minutes with it, or none. Assumes nothing.
 use mathlib.Core.Path.{refl}
 use native.Mathlib.Omega.{arith}
-use Rattle.plans.specs.Clauses.NextPlansLaws.{row_few, second_there, way_added, way_chooses, way_raises}
+use Rattle.plans.proofs.Clauses.NextPlansLaws.{row_few, second_there, way_added, way_chooses, way_raises}
 use Rattle.solver.proofs.forcing.settle.Goals as goal
 
 pub offset_bounds-marks-row : goal.offset_bounds-marks-row

@@ -3,7 +3,7 @@ use native.Mathlib.Omega.{arith}
 use Prim.Native.Nat.{ℕ}
 use lib.ListN.{length-replicate}
 use Rattle.solver.specs.Selection.PricingLaws.{priced}
-use Rattle.plans.specs.Clauses.NextPlansLaws.{row_few, second_there, way_chooses}
+use Rattle.plans.proofs.Clauses.NextPlansLaws.{row_few, second_there, way_chooses}
 use Rattle.solver.proofs.pricing.way_price.Goals as goal
 
 pub offset_bounds-marks-row : goal.offset_bounds-marks-row

@@ -5,8 +5,8 @@ use native.Mathlib.Omega.{arith}
 use lib.ListN.{length, length-set, length-replicate}
 use Rattle.rules.specs.Scan.StationLaws.{directions_size}
 use Rattle.plans.specs.Conflict.Ways.{way_of}
-use Rattle.plans.specs.Clauses.WaysToldLaws.{steps_within}
-use Rattle.plans.specs.Clauses.TryingLaws.{way_there, count_most, range_of, way_of_real}
+use Rattle.plans.proofs.Clauses.WaysToldLaws.{steps_within}
+use Rattle.plans.proofs.Clauses.TryingLaws.{way_there, count_most, range_of, way_of_real}
 use Rattle.solver.specs.Selection.PricingLaws.{prices_none, prices_skip, prices_more, planned_after}
 use Rattle.solver.proofs.pricing.way_prices.Goals as goal
 use Rattle.solver.proofs.pricing.way_prices.Goals.{then-way, else-way}

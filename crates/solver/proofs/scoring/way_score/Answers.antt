@@ -4,8 +4,8 @@ use mathlib.Core.Path.{refl, ◌∙◌}
 use native.Mathlib.Omega.{arith}
 use Rattle.rules.specs.Scan.StationLaws.{directions_size}
 use Rattle.plans.specs.Conflict.Ways.{way_of}
-use Rattle.plans.specs.Clauses.WaysToldLaws.{steps_within}
-use Rattle.plans.specs.Clauses.TryingLaws.{way_there, count_most, range_of, way_of_real}
+use Rattle.plans.proofs.Clauses.WaysToldLaws.{steps_within}
+use Rattle.plans.proofs.Clauses.TryingLaws.{way_there, count_most, range_of, way_of_real}
 use Rattle.solver.specs.Selection.PricingLaws.{planned_after}
 use Rattle.solver.proofs.scoring.way_score.Goals as goal
 use Rattle.solver.proofs.scoring.way_score.Goals.{then-way, else-way}

@@ -12,7 +12,7 @@ use Rattle.orders.specs.LeastMinutes.Carried.{Carried}
 use Rattle.orders.specs.Plan.Marks.{free}
 use Rattle.walk.specs.ScanningLaws.{clear_none}
 use Rattle.plans.specs.Clauses.Choosing.{Given}
-use Rattle.plans.specs.Clauses.FirstLaws.{first_given}
+use Rattle.plans.proofs.Clauses.FirstLaws.{first_given}
 use Rattle.walk.specs.Finding.{FindsWalked}
 use Rattle.walk.specs.FindingLaws.{finds_walked, finds_nothing}
 use Rattle.walk.proofs.finding.best_of.Goals as goal

@@ -6,13 +6,13 @@ use native.Mathlib.Omega.{arith}
 use lib.ListN.{length-replicate}
 use Rattle.rules.specs.Scan.StationLaws.{directions_size}
 use Rattle.plans.specs.Conflict.Ways.{way_of}
-use Rattle.plans.specs.Clauses.WaysToldLaws.{steps_within}
+use Rattle.plans.proofs.Clauses.WaysToldLaws.{steps_within}
 use Rattle.walk.specs.WalksLaws.{walks_none}
-use Rattle.plans.specs.Clauses.TryingLaws.{way_there, count_most, conflict_range, is_way}
-use Rattle.plans.specs.Clauses.GivenLaws.{key_long, laid_out, conflict_known}
+use Rattle.plans.proofs.Clauses.TryingLaws.{way_there, count_most, conflict_range, is_way}
+use Rattle.plans.proofs.Clauses.GivenLaws.{key_long, laid_out, conflict_known}
 use Rattle.walk.specs.TakenLaws.{clear_known, given_cut, given_clear, given_split, counted_low, given_fails, given_dead, next_given}
 use Rattle.walk.specs.TakenLaws.{given_alive, given_after, tries_more, tries_skip}
-use Rattle.plans.specs.Clauses.NextPlansLaws.{row_few, second_there, way_chooses, next_falls}
+use Rattle.plans.proofs.Clauses.NextPlansLaws.{row_few, second_there, way_chooses, next_falls}
 use Rattle.walk.proofs.walk.+take_up_try_way_try_ways.Goals as goal
 use Rattle.walk.proofs.walk.+take_up_try_way_try_ways.Goals.{try_ways-then-way, try_ways-else-way}
 

@@ -30,7 +30,7 @@ use Rattle.gtfs.specs.Stops.{stop_on, leaves_after, time_after, origin_time}
 use Rattle.gtfs.specs.Spell.{header, stop_time_text, stops_text, trip_text, trips_text, stop_times_text}
 use Rattle.gtfs.specs.Reading.{due_at, stops_at, trip_at, trips_at, stop_times_file}
 use Rattle.gtfs.specs.LineLaws.{bytes_so, time-spelt}
-use Rattle.gtfs.specs.StopsLaws.{due_got}
+use Rattle.gtfs.proofs.StopsLaws.{due_got}
 use Rattle.gtfs.specs.SameTextLaws.{trip_same}
 
 -- ---- the departure from the stop to which leg j leads

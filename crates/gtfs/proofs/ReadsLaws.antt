@@ -35,8 +35,8 @@ use Rattle.gtfs.specs.Stops.{station_between, stop_on, timed, leaves_after, time
 use Rattle.gtfs.specs.Spell.{header, stop_time_text, stops_text, trip_text, trips_text, stop_times_text}
 use Rattle.gtfs.specs.Reading.{due_at, stops_at, trip_at, trips_at, stop_times_file}
 use Rattle.gtfs.specs.LineLaws.{Plain, time_reads}
-use Rattle.gtfs.specs.StopsLaws.{Repeats, decides_repeats, decides_next, timed-next, due_value, stops_step, trip_begun, trips_step, file_got}
-use Rattle.gtfs.specs.SpeltLaws.{leaves_on, leaves_last, stops_stored, trip_stored, trips_stored}
+use Rattle.gtfs.proofs.StopsLaws.{Repeats, decides_repeats, decides_next, timed-next, due_value, stops_step, trip_begun, trips_step, file_got}
+use Rattle.gtfs.proofs.SpeltLaws.{leaves_on, leaves_last, stops_stored, trip_stored, trips_stored}
 
 -- ---- the line of a stop with its times
 

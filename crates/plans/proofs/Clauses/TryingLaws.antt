@@ -17,7 +17,7 @@ use Rattle.orders.specs.Plan.Marks.{Plan, row, second, also}
 use Rattle.orders.specs.Plan.MarksLaws.{of_placed, row_below}
 use Rattle.orders.specs.Plan.TidyPlans.{Related, Fitting}
 use Rattle.plans.specs.Conflict.Ways.{way_of, way_count, ways_of}
-use Rattle.plans.specs.Conflict.WaysLaws.{not_kept}
+use Rattle.plans.proofs.Conflict.WaysLaws.{not_kept}
 use Rattle.plans.specs.Conflict.RealConflicts.{Real}
 use Rattle.plans.specs.Conflict.RealConflictsLaws.{conflict_real}
 use Rattle.plans.specs.Clauses.WaysTold.{Tells, TellsWay, InRange}

@@ -23,10 +23,10 @@ use Rattle.plans.specs.Theory.Problem.{Laws}
 use Rattle.plans.specs.Theory.BestSoFar.{nothing, found}
 use Rattle.plans.specs.Theory.Search.{Searched}
 use Rattle.plans.specs.Theory.SearchLaws.{searched_whole, answer_only}
-use Rattle.plans.specs.Conflict.WaysLaws.{ways_none}
-use Rattle.plans.specs.Conflict.SplitsLaws.{lowest_splits}
+use Rattle.plans.proofs.Conflict.WaysLaws.{ways_none}
+use Rattle.plans.proofs.Conflict.SplitsLaws.{lowest_splits}
 use Rattle.plans.specs.Instance.Planning.{in_time, planning}
-use Rattle.plans.specs.Instance.PlanningLaws.{departures_up, decides_in_time, in_time_down, told_apart, better_preferred}
+use Rattle.plans.proofs.Instance.PlanningLaws.{departures_up, decides_in_time, in_time_down, told_apart, better_preferred}
 use Rattle.plans.specs.Instance.PreferredLaws.{preferred_same}
 use Rattle.plans.specs.Instance.TidyMinutes.{tidy_minutes}
 use Rattle.plans.specs.Instance.TidyMinutesLaws.{tidy_same, tidy_fit}

@@ -23,8 +23,8 @@ use Rattle.timetable.specs.StoresLaws.{minutes_only}
 use Rattle.gtfs.specs.Spell.{stop_times_text}
 use Rattle.gtfs.specs.Reading.{stop_times_file}
 use Rattle.gtfs.specs.Operations.{exporting, minutes_of, importing}
-use Rattle.gtfs.specs.SpeltLaws.{StopTimesSpelt, stop_times_spelt}
-use Rattle.gtfs.specs.ReadsLaws.{stop_times_read}
+use Rattle.gtfs.proofs.SpeltLaws.{StopTimesSpelt, stop_times_spelt}
+use Rattle.gtfs.proofs.ReadsLaws.{stop_times_read}
 
 -- x is the text of some minutes of the two days
 pub record IsExport (l : Line) (x : List ℕ) : Type 0 where

@@ -22,7 +22,7 @@ use Rattle.timetable.specs.WritingLaws.{lines_text}
 use Rattle.gtfs.specs.Spell.{stop_times_text}
 use Rattle.gtfs.specs.Reading.{stop_times_file}
 use Rattle.gtfs.specs.Operations.{spelt, stop_times_of, lines_of}
-use Rattle.gtfs.specs.SpeltLaws.{stop_times_spelt}
+use Rattle.gtfs.proofs.SpeltLaws.{stop_times_spelt}
 
 -- ---- what is read for the line of a file, whose reading the code answers with r
 

@@ -21,8 +21,8 @@ use Rattle.plans.specs.Theory.BestSoFar.{nothing}
 use Rattle.plans.specs.Theory.Search.{Under, NoneBetter}
 use Rattle.plans.specs.Theory.SearchLaws.{under_start, under_least}
 use Rattle.plans.specs.Instance.Planning.{planning}
-use Rattle.plans.specs.Instance.PlanningLaws.{decides_in_time}
-use Rattle.plans.specs.Instance.LineSearchedLaws.{planning_laws}
+use Rattle.plans.proofs.Instance.PlanningLaws.{decides_in_time}
+use Rattle.plans.proofs.Instance.LineSearchedLaws.{planning_laws}
 use Rattle.plans.specs.Clauses.Keys.{key_of}
 use Rattle.plans.specs.Clauses.Choosing.{Given}
 use Rattle.plans.specs.declared.tally.Tally.{Tally}

@@ -16,7 +16,7 @@ use Rattle.orders.specs.Plan.PlansLaws.{keeps_rest}
 use Rattle.orders.specs.Waived.WaivedLine.{waived}
 use Rattle.orders.specs.Waived.WaivedLaws.{waived_runnable, waived_arrays, waived_timely, waived_directions, waived-delay, keeps_waived, waived_keeps, fitting_waived, tidy_waived}
 use Rattle.plans.specs.Instance.Planning.{in_time}
-use Rattle.plans.specs.Instance.PlanningLaws.{decides_in_time}
+use Rattle.plans.proofs.Instance.PlanningLaws.{decides_in_time}
 use Rattle.orders.specs.LeastMinutes.Carried.{start, Carried, TellsCost}
 use Rattle.orders.specs.LeastMinutes.CarriedLaws.{start_below, tells_cost}
 use Rattle.plans.specs.Clauses.Choosing.{Chooses, NoRaise, Raises}

@@ -10,7 +10,7 @@ use Rattle.rules.specs.Scan.Scanning.{LaidOut}
 use Rattle.plans.specs.Theory.BestSoFar.{improves}
 use Rattle.plans.specs.Instance.Planning.{planning}
 use Rattle.plans.specs.Clauses.Keys.{better_by}
-use Rattle.plans.specs.Clauses.KeysLaws.{key_size, better_improves}
+use Rattle.plans.proofs.Clauses.KeysLaws.{key_size, better_improves}
 use Rattle.plans.specs.Clauses.Tallies.{best_of}
 use Rattle.plans.specs.Clauses.Choosing.{Given}
 use Rattle.plans.specs.declared.tally.Tally.{Tally}

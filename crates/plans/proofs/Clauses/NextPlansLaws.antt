@@ -25,10 +25,10 @@ use Rattle.plans.specs.Theory.BestSoFar.{nothing, found, Improves}
 use Rattle.plans.specs.Theory.Search.{Under, NoneBetter}
 use Rattle.plans.specs.Theory.SearchLaws.{under_also}
 use Rattle.plans.specs.Instance.Planning.{in_time, planning}
-use Rattle.plans.specs.Instance.LineSearchedLaws.{planning_laws}
+use Rattle.plans.proofs.Instance.LineSearchedLaws.{planning_laws}
 use Rattle.plans.specs.Clauses.Tallies.{best_of, cut_of, Tallied}
 use Rattle.plans.specs.Clauses.Choosing.{Tabled, Planned, Chooses, NoRaise, RaisesChoice, Raises, IsWay}
-use Rattle.plans.specs.Clauses.TryingLaws.{row_low, second_low, marks_added}
+use Rattle.plans.proofs.Clauses.TryingLaws.{row_low, second_low, marks_added}
 use Rattle.plans.specs.declared.tally.Tally.{Tally}
 use Rattle.plans.specs.declared.ways.Way.{Way}
 

@@ -14,8 +14,8 @@ use Rattle.timetable.specs.PlaceLaws.{text_refusal}
 use Rattle.timetable.specs.FitsLaws.{lines_fit}
 use Rattle.gtfs.specs.Reading.{stop_times_file}
 use Rattle.gtfs.specs.Operations.{spelt, stop_times_of, lines_of, exporting, importing}
-use Rattle.gtfs.specs.SpeltLaws.{stop_times_spelt}
-use Rattle.gtfs.specs.PlaceLaws.{import_refusal}
+use Rattle.gtfs.proofs.SpeltLaws.{stop_times_spelt}
+use Rattle.gtfs.proofs.PlaceLaws.{import_refusal}
 use Rattle.gtfs.specs.FitsLaws.{stop_times_fit}
 
 pub record RefusalBounded (n p : ℕ) : Type 0 where

@@ -14,7 +14,7 @@ use Rattle.plans.specs.Theory.Problem.{Splits}
 use Rattle.plans.specs.Conflict.Ways.{ways_of, ways}
 use Rattle.plans.specs.Conflict.RealConflicts.{Real}
 use Rattle.plans.specs.Conflict.RealConflictsLaws.{conflict_real}
-use Rattle.plans.specs.Conflict.WaysLaws.{not_kept, goes_of}
+use Rattle.plans.proofs.Conflict.WaysLaws.{not_kept, goes_of}
 use Rattle.plans.specs.Instance.Planning.{planning}
 
 module _ (l : Line) (w : Within l) (a : Arrays l) (p : Plan) (m : List ℕ) where

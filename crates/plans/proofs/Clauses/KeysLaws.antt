@@ -21,7 +21,7 @@ use Rattle.plans.specs.Theory.Ranking.{ahead_from}
 use Rattle.plans.specs.Theory.RankingLaws.{from_apart, from-alike, ahead-first}
 use Rattle.plans.specs.Theory.BestSoFar.{nothing, found, improves}
 use Rattle.plans.specs.Instance.Planning.{departures, planning}
-use Rattle.plans.specs.Instance.PlanningLaws.{decides_leg}
+use Rattle.plans.proofs.Instance.PlanningLaws.{decides_leg}
 use Rattle.plans.specs.Clauses.Keys.{key_entry, key_of, minute_at, keyed, better_by}
 use Rattle.plans.specs.Clauses.Tallies.{best_of, Tallied}
 
