@@ -59,7 +59,9 @@ fn main(rt: HostRuntime) {
     let mut file = [0u8; 65536];
     let input = read_input(&mut rt.stdin(), &mut file);
     let Input::Whole(n) = input else {
-        let _ = eprintln!(rt; "plan: standard input could not be read to its end; nothing is planned");
+        let _ = eprintln!(rt;
+            "plan: standard input could not be read to its end; nothing is planned"
+        );
         return;
     };
     if !plan(&mut rt.stdout(), &file[..n]) {
