@@ -1,6 +1,6 @@
-/* Gaugeviolet for C and C++: the functions of the proved static library that `rt staticlib screen` writes to
+/* Gaugeviolet for C and C++: the functions of the proved static library that `tools/staticlib screen` writes to
  * target/staticlib/libscreen.a. Reading, rewriting and checking are also in target/staticlib/libservice.a, which
- * `rt staticlib service` writes: the checking service without the search. A program links one of the two.
+ * `tools/staticlib service` writes: the checking service without the search. A program links one of the two.
  *
  * Lent bytes are passed as a pointer and a length; so are lent entries of a greater type, of which the length counts
  * the entries. No function asks for anything of their content: whatever stands in them, each call keeps within them and

@@ -1,4 +1,4 @@
-//! Links the static library of the proved crate `screen`, made by `rt staticlib screen`.
+//! Links the static library of the proved crate `screen`, made by `tools/staticlib screen`.
 
 use std::path::Path;
 use std::process::exit;
@@ -12,7 +12,7 @@ fn main() {
     println!("cargo:rerun-if-changed={}", library.display());
     if !library.is_file() {
         eprintln!(
-            "The proved library target/staticlib/libscreen.a is missing: run `rt staticlib screen` \
+            "The proved library target/staticlib/libscreen.a is missing: run `tools/staticlib screen` \
              at the top of the repository first."
         );
         exit(1);

@@ -6,6 +6,7 @@ ghost use Rattle.std.specs.Prelude.{length};
 ghost use Rattle.plan.specs.Reading.{Fits};
 
 use solver::solving::solve;
+use std::io::{Read, Write};
 use text::Written;
 
 // The bytes of standard input to its end, or as many as there is room for; or a reading failed.
@@ -15,17 +16,15 @@ pub enum Input {
     Broken,
 }
 
-fn read_input(file: &mut [u8]) -> Input
+fn read_input(from: &mut impl Read, file: &mut [u8]) -> Input
     ensures { Fits (length file.old) result }
 {
     let size = file.len();
     let mut n: usize = 0;
     while n < size {
-        let got = libc::read(0, &mut file[n..]);
-        if got < 0 {
+        let Ok(more) = from.read(&mut file[n..]) else {
             return Input::Broken;
-        }
-        let more = io::count(got, &file[n..]);
+        };
         if more == 0 {
             return Input::Whole(n);
         }
@@ -35,50 +34,37 @@ fn read_input(file: &mut [u8]) -> Input
 }
 
 // Whether all of it was written.
-fn print_refusal(number: u8, place: usize) -> bool {
-    if !io::write_all(1, &[b'r', b'e', b'f', b'u', b's', b'e', b'd', b' ']) {
-        return false;
-    }
-    if !io::print_decimal(1, number as u64) {
-        return false;
-    }
-    if !io::write_all(1, &[b' ']) {
-        return false;
-    }
-    if !io::print_decimal(1, place as u64) {
-        return false;
-    }
-    io::write_all(1, &[b'\n'])
+fn print_refusal(to: &mut impl Write, number: u8, place: usize) -> bool {
+    writeln!(to, "refused {number} {place}").is_ok()
 }
 
-fn print_text(out: &[u8], length: usize) -> bool {
+fn print_text(to: &mut impl Write, out: &[u8], length: usize) -> bool {
     if length > out.len() {
         return false;
     }
-    io::write_all(1, &out[..length])
+    to.write_all(&out[..length]).is_ok()
 }
 
 // Plans the file in these bytes. A file longer than the buffer is refused for its length, as one that fills it is.
-fn plan(file: &[u8]) -> bool {
-    let mut out = io::buffer();
+fn plan(to: &mut impl Write, file: &[u8]) -> bool {
+    let mut out = [0u8; 4096];
     let written = solve(file, &mut out);
     match written {
-        Written::Length(length) => print_text(&out, length),
-        Written::Refused(number, place) => print_refusal(number, place),
+        Written::Length(length) => print_text(to, &out, length),
+        Written::Refused(number, place) => print_refusal(to, number, place),
     }
 }
 
-fn main() {
-    let mut file = io::large_buffer();
-    let input = read_input(&mut file);
+fn main(rt: HostRuntime) {
+    let mut file = [0u8; 65536];
+    let input = read_input(&mut rt.stdin(), &mut file);
     let Input::Whole(n) = input else {
-        io::write_all(
-            2,
-            b"plan: standard input could not be read to its end; nothing is planned\n",
+        let _ = eprintln!(rt;
+            "plan: standard input could not be read to its end; nothing is planned"
         );
         return;
     };
-    if !plan(&file[..n]) {
-        io::write_all(2, b"plan: the answer could not be written\n");
+    if !plan(&mut rt.stdout(), &file[..n]) {
+        let _ = eprintln!(rt; "plan: the answer could not be written");
     }
 }

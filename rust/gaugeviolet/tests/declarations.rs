@@ -1,5 +1,5 @@
 //! The exported functions are declared three times: in the Rattle source, in `src/screen.rs` and in the C
-//! header; those of the checking service in its own Rattle source too. Nothing but this test holds these
+//! header; those of the checking service in its own Rattle sources too. Nothing but this test holds these
 //! to each other.
 
 use std::path::Path;
@@ -37,8 +37,10 @@ fn all_three_declare_the_same_functions() {
 #[test]
 fn the_checking_service_declares_the_first_three() {
     let screen = declared_in_rattle(&source("crates/screen/src/lib.rt"));
-    let service = declared_in_rattle(&source("crates/service/src/lib.rt"));
-    assert_eq!(service, screen[..3]);
+    for file in ["crates/service/src/lib.rt", "crates/service_c/src/lib.rt"] {
+        let service = declared_in_rattle(&source(file));
+        assert_eq!(service, screen[..3], "{file}");
+    }
 }
 
 #[test]

@@ -1,11 +1,9 @@
 -- `plan::read_input` meets its contract: what was read so far fits, and each reading adds no more bytes than there is room for.
-use Prim.Native.Nat.{◌≤◌, ◌-◌}
-use mathlib.Core.Path.{◌≡◌}
-use lib.ListN.{length}
+use Rattle.std.proofs.Common.{◌-◌, length, ◌≡◌, ◌≤◌}
 use Rattle.plan.proofs.read_input.Given as goal
 
 abbrev pub invariant-loop-n : goal.invariant-loop-n
-invariant-loop-n l = (l.n ≤ l.size) × (l.size ≡ length l.file) × (length l.file ≡ length l.initial.file)
+invariant-loop-n g l = (l.n ≤ l.size) × (l.size ≡ length l.file) × (length l.file ≡ length l.initial.file)
 
 abbrev pub decreases-loop-n : goal.decreases-loop-n
-decreases-loop-n l = l.size - l.n
+decreases-loop-n g l = l.size - l.n
