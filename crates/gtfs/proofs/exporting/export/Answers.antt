@@ -6,7 +6,7 @@ use Rattle.timetable.specs.CheckLoopLaws.{file_within}
 use Rattle.line.specs.declared.Line.{Line}
 use Rattle.timetable.specs.Reading.{timetable_file}
 use Rattle.gtfs.specs.Operations.{spelt, stop_times_of, exporting}
-use Rattle.gtfs.specs.OperationsLaws.{after_refused, after_accepted}
+use Rattle.gtfs.proofs.OperationsLaws.{after_refused, after_accepted}
 use Rattle.gtfs.proofs.exporting.export.Goals as goal
 
 pub export_for-requires : goal.export_for-requires

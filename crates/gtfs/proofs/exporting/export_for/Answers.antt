@@ -2,7 +2,7 @@
 -- refused leaves the lent bytes as they were. Assumes nothing.
 use mathlib.Core.Path.{refl}
 use Rattle.text.specs.Writing.LendLaws.{lent_refused, lent_as}
-use Rattle.gtfs.specs.OperationsLaws.{spelt_refused, spelt_read, read_days}
+use Rattle.gtfs.proofs.OperationsLaws.{spelt_refused, spelt_read, read_days}
 use Rattle.gtfs.proofs.exporting.export_for.Goals as goal
 
 pub write_stop_times-requires : goal.write_stop_times-requires

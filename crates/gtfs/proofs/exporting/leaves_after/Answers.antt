@@ -1,7 +1,7 @@
 -- `gtfs::exporting::leaves_after` meets its contract: the next leg's departure, or where there is none the arrival. Assumes nothing.
 use mathlib.Core.Path.{◌∙◌, sym}
 use native.Mathlib.Omega.{arith}
-use Rattle.gtfs.specs.SpeltLaws.{leaves_on, leaves_last}
+use Rattle.gtfs.proofs.SpeltLaws.{leaves_on, leaves_last}
 use Rattle.gtfs.proofs.exporting.leaves_after.Goals as goal
 
 pub returns-then-next-legs_between : goal.returns-then-next-legs_between

@@ -10,8 +10,8 @@ use Rattle.line.specs.FileLaws.{ended_told}
 use Rattle.line.specs.PlaceLaws.{part_counted}
 use Rattle.line.specs.RunnableLaws.{within_runnable}
 use Rattle.rules.specs.StatementLaws.PathsLaws.{routed}
-use Rattle.gtfs.specs.StopsLaws.{trips_done, trips_refused, trips_step}
-use Rattle.gtfs.specs.PlaceLaws.{any_stop_times_number, stands_trip}
+use Rattle.gtfs.proofs.StopsLaws.{trips_done, trips_refused, trips_step}
+use Rattle.gtfs.proofs.PlaceLaws.{any_stop_times_number, stands_trip}
 use borrow.Author.Rules.{rules}
 use Rattle.gtfs.proofs.importing.all_lines.Goals as goal
 

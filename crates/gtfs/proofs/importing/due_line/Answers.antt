@@ -2,7 +2,7 @@
 -- Assumes nothing.
 use mathlib.Core.Path.{◌∙◌, sym}
 use Rattle.line.specs.FileLaws.{ended_told}
-use Rattle.gtfs.specs.StopsLaws.{due_malformed, due_unequal, due_other, due_value}
+use Rattle.gtfs.proofs.StopsLaws.{due_malformed, due_unequal, due_other, due_value}
 use Rattle.gtfs.proofs.importing.due_line.Goals as goal
 
 pub returns-in_default : goal.returns-in_default

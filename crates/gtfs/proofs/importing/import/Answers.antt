@@ -4,7 +4,7 @@ use Rattle.line.specs.declared.Line.{Line}
 use Rattle.timetable.specs.CheckLoopLaws.{file_within}
 use Rattle.gtfs.specs.Reading.{stop_times_file}
 use Rattle.gtfs.specs.Operations.{minutes_of, imported}
-use Rattle.gtfs.specs.OperationsLaws.{after_refused, after_accepted}
+use Rattle.gtfs.proofs.OperationsLaws.{after_refused, after_accepted}
 use Rattle.gtfs.proofs.importing.import.Goals as goal
 
 pub import_for-requires : goal.import_for-requires

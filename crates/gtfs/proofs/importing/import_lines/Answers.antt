@@ -5,7 +5,7 @@ use Rattle.line.specs.declared.Line.{Line}
 use Rattle.timetable.specs.CheckLoopLaws.{file_within}
 use Rattle.gtfs.specs.Reading.{stop_times_file}
 use Rattle.gtfs.specs.Operations.{spelt, lines_of, importing}
-use Rattle.gtfs.specs.OperationsLaws.{after_refused, after_accepted}
+use Rattle.gtfs.proofs.OperationsLaws.{after_refused, after_accepted}
 use Rattle.gtfs.proofs.importing.import_lines.Goals as goal
 
 pub import_lines_for-requires : goal.import_lines_for-requires

@@ -7,7 +7,7 @@ use Rattle.line.specs.FileLaws.{ended_told}
 use Rattle.line.specs.RunnableLaws.{within_runnable}
 use Rattle.rules.specs.StatementLaws.PathsLaws.{routed}
 use Rattle.gtfs.specs.Operations.{spelt, lines_of}
-use Rattle.gtfs.specs.OperationsLaws.{lines_written}
+use Rattle.gtfs.proofs.OperationsLaws.{lines_written}
 use borrow.Author.Rules.{rules}
 use Rattle.gtfs.proofs.importing.import_lines_for.Goals as goal
 

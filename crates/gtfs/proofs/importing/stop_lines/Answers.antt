@@ -6,8 +6,8 @@ use native.Mathlib.Nat.{sub-zero}
 use Rattle.text.specs.Places.Lines.{Counted, AnyNumber}
 use Rattle.text.proofs.Places.LinesLaws.{keeps_counted, stands_got}
 use Rattle.line.specs.FileLaws.{ended_told}
-use Rattle.gtfs.specs.StopsLaws.{due_told, stops_done, stops_refused, stops_step}
-use Rattle.gtfs.specs.PlaceLaws.{any_stop_times_number, stands-due}
+use Rattle.gtfs.proofs.StopsLaws.{due_told, stops_done, stops_refused, stops_step}
+use Rattle.gtfs.proofs.PlaceLaws.{any_stop_times_number, stands-due}
 use Rattle.gtfs.proofs.importing.stop_lines.Goals as goal
 
 pub stops-init : goal.stops-init

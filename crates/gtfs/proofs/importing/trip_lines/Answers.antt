@@ -4,8 +4,8 @@ use native.Mathlib.Omega.{arith}
 use Rattle.text.specs.Places.Lines.{Counted, AnyNumber}
 use Rattle.text.proofs.Places.LinesLaws.{keeps_counted, stands_got}
 use Rattle.line.specs.FileLaws.{ended_told}
-use Rattle.gtfs.specs.StopsLaws.{due_told, trip_refused, trip_begun}
-use Rattle.gtfs.specs.PlaceLaws.{any_stop_times_number, stands-due}
+use Rattle.gtfs.proofs.StopsLaws.{due_told, trip_refused, trip_begun}
+use Rattle.gtfs.proofs.PlaceLaws.{any_stop_times_number, stands-due}
 use Rattle.gtfs.proofs.importing.trip_lines.Goals as goal
 
 pub stop_on-requires : goal.stop_on-requires

@@ -1,5 +1,5 @@
 -- `gtfs::stops::stop_on` meets its contract: the path begins at its stop 0, and ends at that after its last leg. Assumes nothing.
-use Rattle.gtfs.specs.StopsLaws.{stop_is, end-first, end_later}
+use Rattle.gtfs.proofs.StopsLaws.{stop_is, end-first, end_later}
 use Rattle.gtfs.proofs.stops.stop_on.Goals as goal
 use Rattle.gtfs.proofs.stops.stop_on.Goals.{then-k-eq0, else-k-eq0}
 
