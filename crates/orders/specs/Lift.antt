@@ -1,11 +1,6 @@
--- Lifting a leg and all that follows: the contracts (`Lifting`), along a path (`RaisedPaths`), then to other trains (`SpreadingLaws`, `ServingLaws`), and for a
--- choice, one arc at a time (`ChosenArcsLaws`) and with two arcs (`TwoArcsLaws`).
+-- Lifting a leg and all that follows: the contracts (`Lifting`), along a path (`RaisedPaths`), then to other trains (`SpreadingLaws`). Further
+-- laws are in proofs/Lift.
 pub mod Lifting
 pub mod RaisedPaths
 pub mod LiftingLaws
-pub mod NextLegLaws
-pub mod RaisedPathsLaws
 pub mod SpreadingLaws
-pub mod ServingLaws
-pub mod ChosenArcsLaws
-pub mod TwoArcsLaws

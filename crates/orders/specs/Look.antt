@@ -1,3 +1,2 @@
--- A first look at a choice, before anything is raised.
+-- A first look at a choice, before anything is raised; its laws are in proofs/Look.
 pub mod Prospects
-pub mod ProspectsLaws

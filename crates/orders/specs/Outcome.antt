@@ -1,5 +1,4 @@
--- What raising says of the line: arrivals within their limits are rule 13 (`LimitsLaws`), cost is weighted delay (`DelayLaws`), and lifting for a choice gives
--- the least minutes of the plan with it, or there are none (`ChoiceLaws`).
+-- What raising says of the line: arrivals within their limits are rule 13 (`LimitsLaws`), cost is weighted delay (`DelayLaws`). What lifting for
+-- a choice gives is in proofs/Outcome.
 pub mod LimitsLaws
 pub mod DelayLaws
-pub mod ChoiceLaws

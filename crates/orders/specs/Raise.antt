@@ -5,4 +5,3 @@ pub mod LegTimes
 pub mod LegTimesLaws
 pub mod CostLaws
 pub mod StoreLaws
-pub mod RowLaws

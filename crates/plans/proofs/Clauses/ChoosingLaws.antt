@@ -25,7 +25,7 @@ use Rattle.orders.specs.LineTables.Tables.{tables_of}
 use Rattle.orders.specs.Graph.LegGraph.{leaving}
 use Rattle.orders.specs.Lift.Lifting.{Alive, Choosing, Follows, Comes, Chose, NoneChosen}
 use Rattle.orders.specs.Graph.LegsLaws.{out_over}
-use Rattle.orders.specs.Outcome.ChoiceLaws.{segment_mark, station_mark, choosing, chosen_least, chosen_low, chosen_none}
+use Rattle.orders.proofs.Outcome.ChoiceLaws.{segment_mark, station_mark, choosing, chosen_least, chosen_low, chosen_none}
 use Rattle.plans.proofs.Instance.PlanningLaws.{decides_in_time}
 use Rattle.plans.specs.Clauses.WaysTold.{leg_out}
 use Rattle.plans.specs.Clauses.Choosing.{Chooses, NoRaise, Raises}

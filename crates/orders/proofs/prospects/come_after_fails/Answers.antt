@@ -3,9 +3,9 @@
 use mathlib.Core.Path.{refl}
 use native.Mathlib.Omega.{arith}
 use Rattle.orders.specs.Lift.LiftingLaws.{ready_leg}
-use Rattle.orders.specs.Raise.RowLaws.{comes_leg}
-use Rattle.orders.specs.Lift.ServingLaws.{serves_comes}
-use Rattle.orders.specs.Look.ProspectsLaws.{none_chosen, before_none}
+use Rattle.orders.proofs.Raise.RowLaws.{comes_leg}
+use Rattle.orders.proofs.Lift.ServingLaws.{serves_comes}
+use Rattle.orders.proofs.Look.ProspectsLaws.{none_chosen, before_none}
 use Rattle.orders.proofs.prospects.come_after_fails.Goals as goal
 
 pub goes_before-requires : goal.goes_before-requires

@@ -5,7 +5,7 @@ use mathlib.Core.Bool.{false≢true}
 use native.Mathlib.Omega.{arith}
 use borrow.Author.Tests.{ltb-true}
 use Rattle.orders.specs.Raise.CostLaws.{cost-most}
-use Rattle.orders.specs.Look.ProspectsLaws.{none_late, none_dear}
+use Rattle.orders.proofs.Look.ProspectsLaws.{none_late, none_dear}
 use Rattle.orders.proofs.prospects.end_fails.Goals as goal
 
 pub returns-then-arrival-limit_at : goal.returns-then-arrival-limit_at

@@ -2,8 +2,8 @@
 use mathlib.Core.Path.{refl}
 use native.Mathlib.Omega.{arith}
 use Rattle.orders.specs.Lift.LiftingLaws.{ready_leg}
-use Rattle.orders.specs.Lift.ServingLaws.{serves_behind}
-use Rattle.orders.specs.Look.ProspectsLaws.{none_chosen}
+use Rattle.orders.proofs.Lift.ServingLaws.{serves_behind}
+use Rattle.orders.proofs.Look.ProspectsLaws.{none_chosen}
 use Rattle.orders.proofs.prospects.follow_fails.Goals as goal
 
 pub train_fails-requires : goal.train_fails-requires

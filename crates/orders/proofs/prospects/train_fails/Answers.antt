@@ -4,7 +4,7 @@ use mathlib.Core.Path.{subst⁻¹}
 use native.Mathlib.Omega.{arith}
 use Rattle.orders.specs.Graph.LegGraph.{UsedLeg}
 use Rattle.orders.specs.Lift.LiftingLaws.{ready_leg}
-use Rattle.orders.specs.Look.ProspectsLaws.{arrives_small, none_by}
+use Rattle.orders.proofs.Look.ProspectsLaws.{arrives_small, none_by}
 use Rattle.orders.proofs.prospects.train_fails.Goals as goal
 
 pub arrival_for-arrival-requires : goal.arrival_for-arrival-requires

@@ -7,8 +7,8 @@ use lib.ListN.{get_or}
 use Rattle.orders.specs.Lift.Lifting.{GoingFor}
 use Rattle.orders.specs.Lift.RaisedPaths.{AsideOf}
 use Rattle.orders.specs.Lift.LiftingLaws.{lifted_dead, going_start, going_ready, going_slack, stepped_ready, stepped_last}
-use Rattle.orders.specs.Lift.ServingLaws.{serves_behind, serves_comes}
-use Rattle.orders.specs.Raise.RowLaws.{after-row, gone_row, row-start, row_none, row_next, row-end, comes_leg, row_still, row_raised, row_dead}
+use Rattle.orders.proofs.Lift.ServingLaws.{serves_behind, serves_comes}
+use Rattle.orders.proofs.Raise.RowLaws.{after-row, gone_row, row-start, row_none, row_next, row-end, comes_leg, row_still, row_raised, row_dead}
 use Rattle.orders.specs.Lift.SpreadingLaws.{RestAside, spread_after, spread_after_dead, spread_gone, spread_gone_dead, spread_end}
 use Rattle.orders.proofs.raising.+comers_followers_lift.Goals as goal
 use Rattle.orders.proofs.raising.+comers_followers_lift.Goals.{comers-then-m-f+else-c, comers-else-m-f, followers-then-rises+else-c, followers-else-rises}

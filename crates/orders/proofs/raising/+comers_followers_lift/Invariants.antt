@@ -12,7 +12,7 @@ use Rattle.orders.specs.Plan.Bits.{in_mask}
 use Rattle.orders.specs.Graph.LegGraph.{LegArc, leaving, UsedLeg}
 use Rattle.orders.specs.Lift.Lifting.{After, Gone, GoingFor}
 use Rattle.orders.specs.Lift.RaisedPaths.{AsideOf}
-use Rattle.orders.specs.Raise.RowLaws.{FromTrain}
+use Rattle.orders.proofs.Raise.RowLaws.{FromTrain}
 use Rattle.orders.proofs.raising.+comers_followers_lift.Given as goal
 
 abbrev pub decreases-comers : goal.decreases-comers

@@ -3,8 +3,8 @@
 use mathlib.Core.Logic.{inr}
 use mathlib.Core.Path.{refl}
 use native.Mathlib.Omega.{arith}
-use Rattle.orders.specs.Lift.ChosenArcsLaws.{comes_still, comes_lifted}
-use Rattle.orders.specs.Raise.RowLaws.{comes_leg}
+use Rattle.orders.proofs.Lift.ChosenArcsLaws.{comes_still, comes_lifted}
+use Rattle.orders.proofs.Raise.RowLaws.{comes_leg}
 use Rattle.orders.specs.Lift.LiftingLaws.{ready_leg}
 use Rattle.orders.proofs.raising.come_after.Goals as goal
 

@@ -3,7 +3,7 @@
 use mathlib.Core.Path.{refl}
 use mathlib.Core.Logic.{inl, inr}
 use native.Mathlib.Omega.{arith}
-use Rattle.orders.specs.Lift.TwoArcsLaws.{Halfway, halfway_as, departure_still, departure_dead, departure_lifted, arrival_still, arrival_lifted}
+use Rattle.orders.proofs.Lift.TwoArcsLaws.{Halfway, halfway_as, departure_still, departure_dead, departure_lifted, arrival_still, arrival_lifted}
 use Rattle.orders.specs.Lift.LiftingLaws.{ready_leg}
 use Rattle.orders.proofs.raising.follow.Goals as goal
 use Rattle.orders.proofs.raising.follow.Goals.{then-m-f+else-c, else-m-f}

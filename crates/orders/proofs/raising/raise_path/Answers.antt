@@ -5,7 +5,7 @@ use mathlib.Core.Logic.{inl}
 use native.Mathlib.Omega.{arith}
 use lib.ListN.{get_or}
 use Rattle.orders.specs.Lift.Lifting.{Ready}
-use Rattle.orders.specs.Lift.RaisedPathsLaws.{AlongPath, path_start, path_dead, path_ready, path_few, path_ends, path_still, path_next, left_falls}
+use Rattle.orders.proofs.Lift.RaisedPathsLaws.{AlongPath, path_start, path_dead, path_ready, path_few, path_ends, path_still, path_next, left_falls}
 use Rattle.orders.proofs.raising.raise_path.Goals as goal
 
 pub loop-c-init : goal.loop-c-init

@@ -4,7 +4,7 @@
 use Prim.Native.Nat.{ℕ}
 use mathlib.Core.List.{List}
 use Rattle.orders.specs.Lift.RaisedPaths.{LegRaised}
-use Rattle.orders.specs.Lift.RaisedPathsLaws.{AlongPath, left}
+use Rattle.orders.proofs.Lift.RaisedPathsLaws.{AlongPath, left}
 use Rattle.orders.proofs.raising.raise_path.Given as goal
 
 abbrev pub invariant-loop-c : goal.invariant-loop-c

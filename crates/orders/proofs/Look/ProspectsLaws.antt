@@ -17,7 +17,7 @@ use Rattle.orders.specs.Graph.LegGraph.{LegArc, runs, next, depart, after, gone,
 use Rattle.orders.specs.Raise.LegTimes.{Arrives, more_cost}
 use Rattle.orders.specs.Lift.Lifting.{Ready, NoneChosen}
 use Rattle.orders.specs.Look.Prospects.{NoneFrom, GoesBefore}
-use Rattle.orders.specs.Lift.ServingLaws.{CalledBy, Serves}
+use Rattle.orders.proofs.Lift.ServingLaws.{CalledBy, Serves}
 
 -- the arrival by the leg that has to wait is no great minute
 pub arrives_small : (w v run a : ℕ) → Arrives 0 w v run a → v ≤ 20000 → w ≤ 20000 → run ≤ 240 → a ≤ 20240

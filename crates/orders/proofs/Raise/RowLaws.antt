@@ -9,7 +9,7 @@ use Rattle.orders.specs.Raise.RaisingLaws.{le_or_lt}
 use Rattle.orders.specs.Graph.LegGraph.{LegArc, runs, slow, next, depart, arrive, after, gone, station_of, leaving, comes_on, UsedLeg, UsedArc, leg_graph}
 use Rattle.orders.specs.Lift.Lifting.{Alive, Ready, Lifted, Followed, After, Gone, GoingFor, Follows, Comes}
 use Rattle.orders.specs.Lift.LiftingLaws.{going_start, going_as, going_skip, going_clear, followed, followed_dead}
-use Rattle.orders.specs.Lift.ServingLaws.{Serves, serves_dead, serves_raised, serves_still}
+use Rattle.orders.proofs.Lift.ServingLaws.{Serves, serves_dead, serves_raised, serves_still}
 
 abbrev train_of : LegArc → ℕ
 train_of (runs x) = 0

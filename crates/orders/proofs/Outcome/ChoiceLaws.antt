@@ -27,7 +27,7 @@ use Rattle.orders.specs.Graph.LegsLaws.{LegOf, over_leg}
 use Rattle.orders.specs.Graph.LegChoices.{segment_choice, ByChoice, ArcOf, first_leg}
 use Rattle.orders.specs.Graph.LegChoicesLaws.{by_choice, leaving_is, leaves_leg, leaves_by}
 use Rattle.orders.specs.Graph.ShapedLaws.{shaped}
-use Rattle.orders.specs.Graph.GraphLaws.{run_kept, arc_kept, arc_marked, keeps_graph, graph_keeps}
+use Rattle.orders.proofs.Graph.GraphLaws.{run_kept, arc_kept, arc_marked, keeps_graph, graph_keeps}
 use Rattle.orders.specs.Outcome.DelayLaws.{cost_is}
 use Rattle.orders.specs.Outcome.LimitsLaws.{limits_late, late_limits}
 

@@ -12,7 +12,7 @@ use Rattle.orders.specs.Graph.LegGraph.{LegArc, UsedLeg, UsedArc, leg_graph, Sha
 use Rattle.orders.specs.Lift.Lifting.{Alive, Ready, Asks, ToNext, NoWay, Stepped}
 use Rattle.orders.specs.Lift.LiftingLaws.{going_ready, stepped_skip, stepped_onto, stepped_none}
 use Rattle.orders.specs.Lift.RaisedPaths.{Aside, Outward, LegRaised, AsideOf, PathRaised}
-use Rattle.orders.specs.Lift.NextLegLaws.{onward_leg, onward_none, onward_still, onward_asks, onward_stepped}
+use Rattle.orders.proofs.Lift.NextLegLaws.{onward_leg, onward_none, onward_still, onward_asks, onward_stepped}
 
 -- ---- the legs of a path
 

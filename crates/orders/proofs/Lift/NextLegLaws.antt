@@ -6,7 +6,7 @@ use Rattle.orders.specs.LineTables.Tables.{stop_in, next_in}
 use Rattle.orders.specs.Raise.Raising.{Kept, Solves, Clear}
 use Rattle.orders.specs.Graph.LegGraph.{LegArc, runs, slow, next, depart, arrive, after, gone, UsedLeg, UsedArc, leg_graph, Shaped}
 use Rattle.orders.specs.Lift.Lifting.{Asks, ToNext, Stepped}
-use Rattle.orders.specs.Lift.ServingLaws.{Serves, serves_next, serves_asks, serves_there, serves_stepped}
+use Rattle.orders.proofs.Lift.ServingLaws.{Serves, serves_next, serves_asks, serves_there, serves_stepped}
 
 module _ (marks t ds : List ℕ) (e f : ℕ) (leg : UsedLeg ds e) (next_is : f ≡ next_in t e) where
   pub onward_leg : Shaped marks t ds → UsedLeg ds f

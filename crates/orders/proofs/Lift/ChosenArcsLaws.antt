@@ -10,7 +10,7 @@ use Rattle.orders.specs.Raise.Raising.{Graph, Kept, KeepsAll, Nothing, Solves, R
 use Rattle.orders.specs.Raise.RaisingLaws.{le_or_lt, done, first_below}
 use Rattle.orders.specs.Graph.LegGraph.{LegArc, runs, slow, next, depart, arrive, after, gone, station_of, leaving, comes_on, UsedArc, leg_graph}
 use Rattle.orders.specs.Lift.Lifting.{Alive, Asks, Lifted, Choosing, Comes, NoneChosen, Forces, Chose}
-use Rattle.orders.specs.Lift.ServingLaws.{Serves, serves_asks, serves_there, serves_lifted, serves_arrival}
+use Rattle.orders.proofs.Lift.ServingLaws.{Serves, serves_asks, serves_there, serves_lifted, serves_arrival}
 
 module _ (marks t ds : List ℕ) where
   abbrev G : Graph

@@ -8,8 +8,8 @@ use Rattle.orders.specs.Raise.Raising.{Graph, Kept}
 use Rattle.orders.specs.Graph.LegGraph.{LegArc, runs, slow, next, depart, arrive, after, gone, beside, doubled, gap_in, UsedLeg, UsedArc, leg_graph}
 use Rattle.orders.specs.Raise.LegTimes.{GoesBehind, source_of}
 use Rattle.orders.specs.Lift.Lifting.{Alive, Lifted, Choosing, Follows, Chose}
-use Rattle.orders.specs.Lift.ServingLaws.{Calls, Serves, serves_departure, serves_arrival, at_pair}
-use Rattle.orders.specs.Lift.ChosenArcsLaws.{Forced, chose_all, chose_then, chose_dead, arc_still, arc_dead, arc_forces, arc_forced, arc_next, one_lifted}
+use Rattle.orders.proofs.Lift.ServingLaws.{Calls, Serves, serves_departure, serves_arrival, at_pair}
+use Rattle.orders.proofs.Lift.ChosenArcsLaws.{Forced, chose_all, chose_then, chose_dead, arc_still, arc_dead, arc_forces, arc_forced, arc_next, one_lifted}
 
 module _ (marks t ds : List ℕ) where
   abbrev G : Graph

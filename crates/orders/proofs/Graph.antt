@@ -1,0 +1,2 @@
+-- The graph says what it is to keep the plan (`GraphLaws`).
+pub mod GraphLaws

@@ -1,0 +1,2 @@
+-- What the first look at a choice tells (`ProspectsLaws`).
+pub mod ProspectsLaws

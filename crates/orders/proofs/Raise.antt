@@ -1,0 +1,2 @@
+-- The arcs of one row of marks (`RowLaws`).
+pub mod RowLaws
