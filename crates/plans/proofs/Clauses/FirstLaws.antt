@@ -1,5 +1,5 @@
 -- The plan without choices as a search begins with it: its least minutes, and that they lie below every lawful timetable.
-use Rattle.std.specs.Prelude.{ℕ, ◌≤◌, ◌≡◌, true, false, List, replicate}
+use Rattle.std.specs.Prelude.{ℕ, ◌≤◌, ◌≡◌, false, List, replicate}
 use Rattle.std.proofs.Common.{sym, ◌∙◌, true≢false}
 use Rattle.std.proofs.lemmas.List.{length-replicate}
 use Rattle.finite.specs.DecideLaws.{is_true}

@@ -6,10 +6,7 @@ use Rattle.finite.specs.Below.{EachBelow, count}
 use Rattle.finite.specs.BelowLaws.{count_same}
 use Rattle.line.specs.declared.Line.{Line}
 use Rattle.line.specs.Within.{Within, Arrays}
-use Rattle.rules.specs.declared.conflicts.Conflict.{Conflict}
-use Rattle.rules.specs.declared.conflicts.SegmentConflict.{SegmentConflict}
-use Rattle.rules.specs.declared.conflicts.StationConflict.{StationConflict}
-use Rattle.rules.specs.Statement.Paths.{train, segment_count, segment, tracks_at, Uses}
+use Rattle.rules.specs.Statement.Paths.{segment_count, segment, tracks_at}
 use Rattle.rules.specs.Conflict.Directions.{directions_of}
 use Rattle.rules.specs.Conflict.Conflicts.{clash, stands_at, standing_at, earliest_crowd, in_crowd, crowd_mask, crowd_at, conflict_of}
 use Rattle.rules.specs.Check.RulesLaws.{decides_stands}

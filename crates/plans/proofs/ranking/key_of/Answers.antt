@@ -1,10 +1,9 @@
 -- The answers; the idea of the proof is at the head of the invariants.
-use Prim.Native.Nat.{ℕ, ◌-◌}
+use Prim.Native.Nat.{ℕ}
 use native.Mathlib.Omega.{arith}
-use lib.ListN.{length, length-set, length-replicate}
+use lib.ListN.{length-set, length-replicate}
 use Rattle.rules.specs.Lists.OrdersLaws.{entries_more}
-use Rattle.plans.specs.Clauses.Keys.{key_entry}
-use Rattle.plans.proofs.Clauses.KeysLaws.{key_all}
+use Rattle.plans.specs.Clauses.KeysLaws.{key_all}
 use Rattle.plans.proofs.ranking.key_of.Goals as goal
 
 pub loop-e-init : goal.loop-e-init
