@@ -76,7 +76,7 @@ module _ (l : Line) (w : Runnable l) (r : Arrays l) where
   unfolding KeepsAll
   keeps_graph q d m k a u =
       arc_kept m k.trains q a u
-      (by_choice ds _ _ (λ c h. let f = d.fitting c h.0 h.1 in (f, k.choices c f.0 f.1 h.1)) a (arc_marked q a u))
+      (by_choice ds (λ c. Placed c × (marked q c ≡ true)) (λ c. Fitting l c × KeepsChoice l m c) (λ c h. let f = d.fitting c h.0 h.1 in (f, k.choices c f.0 f.1 h.1)) a (arc_marked q a u))
 
   -- ---- from the arcs to the rules
 

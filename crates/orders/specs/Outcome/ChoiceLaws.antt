@@ -13,8 +13,8 @@ use Rattle.rules.specs.Conflict.Directions.{directions_of}
 use Rattle.orders.specs.LeastMinutes.NoLater.{◌⊑◌}
 use Rattle.orders.specs.LeastMinutes.Least.{Fit, IsLeast}
 use Rattle.orders.specs.Plan.Bits.{in_mask}
-use Rattle.orders.specs.Plan.Choices.{Choice, on_segment, at_station, Of, Shared}
-use Rattle.orders.specs.Plan.Marks.{Plan, also}
+use Rattle.orders.specs.Plan.Choices.{Choice, on_segment, at_station, Of, Shared, KeepsChoice}
+use Rattle.orders.specs.Plan.Marks.{Plan, Placed, also, marked}
 use Rattle.orders.specs.Plan.MarksLaws.{of_placed, also_here, also_placed, marked_row}
 use Rattle.orders.specs.Plan.Plans.{Keeps}
 use Rattle.orders.specs.Plan.TidyPlans.{Fitting, Tidy}
@@ -71,8 +71,8 @@ module _ (l : Line) (w : Runnable l) (r : Arrays l) where
     pub others : (a : LegArc) → UsedArc (also c q) t ds a → Kept (leg_graph (also c q) t ds) m a ⊎ ArcOf l c a
     others a u =
         ⊎_elim inr (λ h. inl (arc_kept l w r m k.trains (also c q) a u h))
-        (arc_or c _ (also c q) a u
-        (by_choice ds _ _ (λ x h.
+        (arc_or c (λ x. Fitting l x × KeepsChoice l m x) (also c q) a u
+        (by_choice ds (λ x. Placed x × (marked (also c q) x ≡ true)) (λ x. (x ≡ c) ⊎ (Fitting l x × KeepsChoice l m x)) (λ x h.
         ⊎_elim inl (λ old. inr (let g = d.fitting x h.0 old in (g, k.choices x g.0 g.1 old)))
         (also_placed c x q (of_placed l w c f.0) h.0 h.1)) a (arc_marked l w r (also c q) a u)))
 
