@@ -2,12 +2,7 @@
 use Prim.Native.Nat.{◌*◌, ◌-◌}
 use native.Mathlib.Omega.{arith}
 use native.Mathlib.Nat.{mul-le-mul, div-le_self}
-use borrow.Author.Rules.{rules}
 use Rattle.solver.proofs.scoring.score.Goals as goal
-
--- UNMATCHED nonzero-div-share
--- div-share : tie.Need-nonzero-div-share
--- div-share c = search rules
 
 pub overflow_mul-product : goal.overflow_mul-product
 overflow_mul-product c = omega (arith, mul-le-mul {n₂ = 60000} {m₂ = 60000} c.rise-a.ensures.1 c.rise-b.ensures.1)
