@@ -1,2 +1,3 @@
--- What the program reads.
+-- What the program reads and prints.
 pub mod Reading
+pub mod Telling

@@ -2,8 +2,11 @@
 // end nothing is planned, as a part of a file can be a right one. That, and an answer that cannot be written, is told on standard error.
 #![tactic(auto)]
 
-ghost use Rattle.std.specs.Prelude.{length};
-ghost use Rattle.plan.specs.Reading.{Fits};
+ghost use Rattle.std.specs.Prelude.{◌++◌, ◌∷◌, [], length, take};
+ghost use Rattle.std.specs.Bool.{OnTrue};
+ghost use Rattle.std.specs.Io.KnownBytes.{Appends};
+ghost use Rattle.plan.specs.Reading.{Fits, FrontRead};
+ghost use Rattle.plan.specs.Telling.{refusal_text, Told};
 
 use solver::solving::solve;
 use std::io::{Read, Write};
@@ -16,8 +19,9 @@ pub enum Input {
     Broken,
 }
 
-fn read_input(from: &mut impl Read, file: &mut [u8]) -> Input
-    ensures { Fits (length file.old) result }
+fn read_input<R: Read>(from: &mut R, file: &mut [u8]) -> Input
+    ensures fits { Fits (length file.old) result }
+    ensures bytes { FrontRead (R.remaining from.old) (R.remaining from.new) file.new result }
 {
     let size = file.len();
     let mut n: usize = 0;
@@ -34,11 +38,15 @@ fn read_input(from: &mut impl Read, file: &mut [u8]) -> Input
 }
 
 // Whether all of it was written.
-fn print_refusal(to: &mut impl Write, number: u8, place: usize) -> bool {
+fn print_refusal<W: Write>(to: &mut W, number: u8, place: usize) -> bool
+    ensures { OnTrue result (Appends (W.contents to.old) (W.contents to.new) (refusal_text number place)) }
+{
     writeln!(to, "refused {number} {place}").is_ok()
 }
 
-fn print_text(to: &mut impl Write, out: &[u8], length: usize) -> bool {
+fn print_text<W: Write>(to: &mut W, out: &[u8], length: usize) -> bool
+    ensures { OnTrue result (Appends (W.contents to.old) (W.contents to.new) (take length out.now)) }
+{
     if length > out.len() {
         return false;
     }
@@ -46,7 +54,9 @@ fn print_text(to: &mut impl Write, out: &[u8], length: usize) -> bool {
 }
 
 // Plans the file in these bytes. A file longer than the buffer is refused for its length, as one that fills it is.
-fn plan(to: &mut impl Write, file: &[u8]) -> bool {
+fn plan<W: Write>(to: &mut W, file: &[u8]) -> bool
+    ensures { OnTrue result (Told file.now (W.contents to.old) (W.contents to.new)) }
+{
     let mut out = [0u8; 4096];
     let written = solve(file, &mut out);
     match written {
