@@ -3,7 +3,7 @@ use Prim.Native.Nat.{ℕ}
 use native.Mathlib.Omega.{arith}
 use lib.ListN.{length-set, length-replicate}
 use Rattle.rules.specs.Lists.OrdersLaws.{entries_more}
-use Rattle.plans.specs.Clauses.KeysLaws.{key_all}
+use Rattle.plans.proofs.Clauses.KeysLaws.{key_all}
 use Rattle.plans.proofs.ranking.key_of.Goals as goal
 
 pub loop-e-init : goal.loop-e-init

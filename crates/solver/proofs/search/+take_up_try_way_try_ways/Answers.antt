@@ -7,9 +7,9 @@ use borrow.Author.Rules.{rules}
 use lib.ListN.{length-set, length-replicate}
 use Rattle.rules.specs.Scan.StationLaws.{directions_size}
 use Rattle.plans.specs.Conflict.Ways.{way_of}
-use Rattle.plans.specs.Clauses.TryingLaws.{way_there, way_absent, count_most, range_of, way_of_real}
-use Rattle.plans.specs.Clauses.NextPlansLaws.{cut_low, row_few, second_there, way_chooses, next_falls}
-use Rattle.plans.specs.Clauses.GivenLaws.{key_long}
+use Rattle.plans.proofs.Clauses.TryingLaws.{way_there, way_absent, count_most, range_of, way_of_real}
+use Rattle.plans.proofs.Clauses.NextPlansLaws.{cut_low, row_few, second_there, way_chooses, next_falls}
+use Rattle.plans.proofs.Clauses.GivenLaws.{key_long}
 use Rattle.solver.specs.Selection.PricingLaws.{untried_falls}
 use Rattle.solver.specs.Search.SearchingLaws.{counted_tallied, held_after, held_by, sought_spent, sought_cut, sought_clear, sought_dead, next_held}
 use Rattle.solver.specs.Search.SearchingLaws.{sought_alive, sought_marks, sought_by, ways_priced, ways_done, ways_skip, ways-more}
