@@ -8,6 +8,6 @@ returns c =
     let a = c.args in
     stop_is a.train a.i a.k c.station_between.ensures
     (elim c.if-k-eq0.branch [
-      then-k-eq0 w ↦ end-first a.train w.if-k-eq0.true w.end-is
+      | then-k-eq0 w ↦ end-first a.train w.if-k-eq0.true w.end-is
       | else-k-eq0 w ↦ end_later a.train w.if-k-eq0.false c.legs_between-legs.ensures w.end-is
     ])

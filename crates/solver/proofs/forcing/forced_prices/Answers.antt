@@ -52,18 +52,18 @@ loop-w-preserved c =
     let way = c.way_of-way.ensures in (
       steps_within _ _ _ _ count low way.1,
       elim c.if-way.branch [
-        then-way w ↦
-          rw w.prices-is (λ l h real.
-          dead_more _ _ c.args.conflict i.w i.prices (i.invariant.1 l h real) _ way.0 way.1 w.if-way.true _
-          (omega (arith, i.invariant.2, count_most c.args.conflict))
-          (λ d one tells.
-          w.forced_price.ensures l d h
-          (way_of_real l h.given.tabled.within h.given.tabled.raisable.arrays _ c.args.conflict real _ _ _ i.w count low d one tells)))
-      | else-way w ↦ rw w.prices-is (λ l h real. dead_skip _ _ c.args.conflict i.w i.prices (i.invariant.1 l h real) _ way.0 way.1 w.if-way.false)
+        | then-way w ↦
+            rw w.prices-is (λ l h real.
+            dead_more _ _ c.args.conflict i.w i.prices (i.invariant.1 l h real) _ way.0 way.1 w.if-way.true _
+            (omega (arith, i.invariant.2, count_most c.args.conflict))
+            (λ d one tells.
+            w.forced_price.ensures l d h
+            (way_of_real l h.given.tabled.within h.given.tabled.raisable.arrays _ c.args.conflict real _ _ _ i.w count low d one tells)))
+        | else-way w ↦ rw w.prices-is (λ l h real. dead_skip _ _ c.args.conflict i.w i.prices (i.invariant.1 l h real) _ way.0 way.1 w.if-way.false)
       ],
       elim c.if-way.branch [
-        then-way w ↦ rw w.prices-is (simp length-set i.invariant.2)
-      | else-way w ↦ rw w.prices-is i.invariant.2
+        | then-way w ↦ rw w.prices-is (simp length-set i.invariant.2)
+        | else-way w ↦ rw w.prices-is i.invariant.2
       ],
     )
 

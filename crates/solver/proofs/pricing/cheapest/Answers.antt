@@ -16,12 +16,12 @@ loop-k-preserved c =
     let x = c.price-x.ensures in
     let prices = c.args.prices.now in
     elim c.if-y-least.branch [
-      then-y-least w ↦ (
+      | then-y-least w ↦ (
         omega arith,
         omega arith,
         picked_more prices _ c.loop-k.k _ _ c.loop-k-test.true x.0 x.1 y.1 (omega arith) _ _ w.r-is,
       )
-    | else-y-least w ↦ (
+      | else-y-least w ↦ (
         omega arith,
         omega arith,
         picked_keep prices _ _ _ c.loop-k.k c.loop-k.invariant.2 _ _ x.0 x.1 y.0 (omega arith) _ _ w.least-is w.r-is,

@@ -52,14 +52,14 @@ loop-w-preserved c =
     let way = c.way_of-way.ensures in (
       steps_within _ _ _ _ count low way.1,
       elim c.if-way.branch [
-        then-way w ↦
-          rw (w.marks-is, w.prices-is) (prices_more _ _ _ _ _ _ _ _ count _ low _ _ i.invariant.1 _ way.0 way.1 w.if-way.true _ _ w.way_price.ensures
-          (omega (arith, i.invariant.2, count_most c.args.conflict)))
-      | else-way w ↦ rw (w.marks-is, w.prices-is) (prices_skip _ _ _ _ _ _ _ _ count _ low _ _ i.invariant.1 _ way.0 way.1 w.if-way.false)
+        | then-way w ↦
+            rw (w.marks-is, w.prices-is) (prices_more _ _ _ _ _ _ _ _ count _ low _ _ i.invariant.1 _ way.0 way.1 w.if-way.true _ _ w.way_price.ensures
+            (omega (arith, i.invariant.2, count_most c.args.conflict)))
+        | else-way w ↦ rw (w.marks-is, w.prices-is) (prices_skip _ _ _ _ _ _ _ _ count _ low _ _ i.invariant.1 _ way.0 way.1 w.if-way.false)
       ],
       elim c.if-way.branch [
-        then-way w ↦ rw w.prices-is (simp length-set i.invariant.2)
-      | else-way w ↦ rw w.prices-is i.invariant.2
+        | then-way w ↦ rw w.prices-is (simp length-set i.invariant.2)
+        | else-way w ↦ rw w.prices-is i.invariant.2
       ],
     )
 

@@ -50,8 +50,8 @@ loop-w-preserved c =
     let way = c.way_of-way.ensures in (
       steps_within _ _ _ _ count low way.1,
       elim c.if-way.branch [
-        then-way w ↦ rw w.marks-is (w.way_price-x.ensures.marks_same ∙ i.invariant.1)
-      | else-way w ↦ rw w.marks-is i.invariant.1
+        | then-way w ↦ rw w.marks-is (w.way_price-x.ensures.marks_same ∙ i.invariant.1)
+        | else-way w ↦ rw w.marks-is i.invariant.1
       ],
     )
 

@@ -159,12 +159,11 @@ try_ways-cheapest-w-requires t c =
     (search rules, omega (arith, c.requires.count_is, count_most c.args.conflict))
 
 pub try_ways-loop-w-init : goal.try_ways-loop-w-init
-try_ways-loop-w-init t c =
-    (
-      (λ l h real. ways_priced l _ _ _ _ _ _ _ _ _ _ h _ real _ _ _ c.chosen_prices-prices.ensures),
-      c.cheapest-w.ensures,
-      search rules,
-    )
+try_ways-loop-w-init t c = (
+  (λ l h real. ways_priced l _ _ _ _ _ _ _ _ _ _ h _ real _ _ _ c.chosen_prices-prices.ensures),
+  c.cheapest-w.ensures,
+  search rules,
+)
 
 pub try_ways-way_of-way-requires : goal.try_ways-way_of-way-requires
 try_ways-way_of-way-requires t c =
@@ -212,14 +211,14 @@ try_ways-loop-w-preserved t c =
       (λ l h real.
           let done = i.invariant.0 l h real in
           elim c.if-way.branch [
-            try_ways-then-way w ↦
-              let there = way_there _ _ (way_of c.args.conflict i.w) way.0 w.if-way.true in
-              let is_way = way_of_real l h.given.tabled.within h.given.tabled.raisable.arrays _ c.args.conflict real _ _ _ i.w c.requires.count_is
-              c.loop-w-test.true there.0 there.1 there.2 in
-              let held = held_after l _ _ _ _ _ _ _ _ 0 _ h _ _ _ done.marks_same done.tallied in
-              rw (w.marks-is, w.best-is, w.b-is) (ways-more l _ _ _ _ _ _ _ _ _ _ done i.w there.0 there.1 _ _ _ (w.try_way-b.ensures l there.0 held is_way))
-          | try_ways-else-way w ↦
-              rw (w.marks-is, w.best-is, w.b-is) (ways_skip l _ _ _ _ _ _ _ _ _ _ done i.w (way_absent _ _ (way_of c.args.conflict i.w) way.0 w.if-way.false))
+            | try_ways-then-way w ↦
+                let there = way_there _ _ (way_of c.args.conflict i.w) way.0 w.if-way.true in
+                let is_way = way_of_real l h.given.tabled.within h.given.tabled.raisable.arrays _ c.args.conflict real _ _ _ i.w c.requires.count_is
+                c.loop-w-test.true there.0 there.1 there.2 in
+                let held = held_after l _ _ _ _ _ _ _ _ 0 _ h _ _ _ done.marks_same done.tallied in
+                rw (w.marks-is, w.best-is, w.b-is) (ways-more l _ _ _ _ _ _ _ _ _ _ done i.w there.0 there.1 _ _ _ (w.try_way-b.ensures l there.0 held is_way))
+            | try_ways-else-way w ↦
+                rw (w.marks-is, w.best-is, w.b-is) (ways_skip l _ _ _ _ _ _ _ _ _ _ done i.w (way_absent _ _ (way_of c.args.conflict i.w) way.0 w.if-way.false))
           ]),
       c.cheapest-w-in-loop-w.ensures,
       simp length-set i.invariant.2,

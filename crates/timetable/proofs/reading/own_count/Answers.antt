@@ -20,7 +20,7 @@ past-requires c =
 pub returns-in_default-past : goal.returns-in_default-past
 returns-in_default-past c =
     let ends : c.if-count-eq0.b ≡ cond (eqb c.in-Value.count 0) 10 32 = elim c.if-count-eq0.branch [
-      then-count-eq0 w ↦ byte_none _ _ w.if-count-eq0.true w.b-is
+      | then-count-eq0 w ↦ byte_none _ _ w.if-count-eq0.true w.b-is
       | else-count-eq0 w ↦ byte_some _ _ w.if-count-eq0.false w.b-is
     ] in
     let number = sym c.number.ensures
@@ -30,7 +30,7 @@ returns-in_default-past c =
 pub returns-in_default-value : goal.returns-in_default-value
 returns-in_default-value c =
     let ends : c.if-count-eq0.b ≡ cond (eqb c.in-Value.count 0) 10 32 = elim c.if-count-eq0.branch [
-      then-count-eq0 w ↦ byte_none _ _ w.if-count-eq0.true w.b-is
+      | then-count-eq0 w ↦ byte_none _ _ w.if-count-eq0.true w.b-is
       | else-count-eq0 w ↦ byte_some _ _ w.if-count-eq0.false w.b-is
     ] in
     let number = sym c.number.ensures
@@ -41,7 +41,7 @@ returns-in_default-value c =
 pub returns : goal.returns
 returns c =
     let ends : c.if-count-eq0.b ≡ cond (eqb c.in-Value.count 0) 10 32 = elim c.if-count-eq0.branch [
-      then-count-eq0 w ↦ byte_none _ _ w.if-count-eq0.true w.b-is
+      | then-count-eq0 w ↦ byte_none _ _ w.if-count-eq0.true w.b-is
       | else-count-eq0 w ↦ byte_some _ _ w.if-count-eq0.false w.b-is
     ] in
     let number = sym c.number.ensures

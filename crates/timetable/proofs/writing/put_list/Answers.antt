@@ -17,7 +17,7 @@ use Rattle.timetable.proofs.writing.put_list.Goals.{then-count-eq0, else-count-e
 pub put_field-at-requires : goal.put_field-at-requires
 put_field-at-requires c =
     let ends : c.if-count-eq0.b ≡ cond (eqb c.size_of-count.result 0) 10 32 = elim c.if-count-eq0.branch [
-      then-count-eq0 w ↦ byte_none _ _ w.if-count-eq0.true w.b-is
+      | then-count-eq0 w ↦ byte_none _ _ w.if-count-eq0.true w.b-is
       | else-count-eq0 w ↦ byte_some _ _ w.if-count-eq0.false w.b-is
     ] in
     let count = c.size_of-count in
@@ -34,7 +34,7 @@ overflow_add-number c =
 pub put_field-at-requires-in-loop-k : goal.put_field-at-requires-in-loop-k
 put_field-at-requires-in-loop-k c =
     let ends : c.if-count-eq0.b ≡ cond (eqb c.size_of-count.result 0) 10 32 = elim c.if-count-eq0.branch [
-      then-count-eq0 w ↦ byte_none _ _ w.if-count-eq0.true w.b-is
+      | then-count-eq0 w ↦ byte_none _ _ w.if-count-eq0.true w.b-is
       | else-count-eq0 w ↦ byte_some _ _ w.if-count-eq0.false w.b-is
     ] in
     let here = c.loop-k-test.true in
@@ -58,7 +58,7 @@ loop-k-preserved c =
 pub returns : goal.returns
 returns c =
     let ends : c.if-count-eq0.b ≡ cond (eqb c.size_of-count.result 0) 10 32 = elim c.if-count-eq0.branch [
-      then-count-eq0 w ↦ byte_none _ _ w.if-count-eq0.true w.b-is
+      | then-count-eq0 w ↦ byte_none _ _ w.if-count-eq0.true w.b-is
       | else-count-eq0 w ↦ byte_some _ _ w.if-count-eq0.false w.b-is
     ] in
     let w = c.loop-k in

@@ -19,8 +19,8 @@ loop-i-preserved c =
       omega arith,
       changed_more _ _ _ _ _ _ _ w.invariant.1
           (elim c.if-not-same_times.branch [
-            then-not-same_times+else-in_conflict d ↦ inr (d.in_conflict.ensures d.if-in_conflict.false)
-          | else-not-same_times d ↦ inl (c.same_times.ensures d.if-not-same_times.false)
+            | then-not-same_times+else-in_conflict d ↦ inr (d.in_conflict.ensures d.if-in_conflict.false)
+            | else-not-same_times d ↦ inl (c.same_times.ensures d.if-not-same_times.false)
           ]),
     )
 

@@ -10,15 +10,14 @@ loop-p-init c =
     (segment-start _ _ _ _, omega arith, omega (arith, clear_within c.args.layout _ _ _ c.requires.known))
 
 pub still_clear-requires : goal.still_clear-requires
-still_clear-requires c =
-    (
-      c.requires.scans.directions,
-      c.requires.scans.size,
-      c.requires.former_size,
-      omega arith,
-      c.requires.scans.laid_out.2,
-      clear_at c.args.layout _ _ _ c.requires.known _ c.loop-p-test.true,
-    )
+still_clear-requires c = (
+  c.requires.scans.directions,
+  c.requires.scans.size,
+  c.requires.former_size,
+  omega arith,
+  c.requires.scans.laid_out.2,
+  clear_at c.args.layout _ _ _ c.requires.known _ c.loop-p-test.true,
+)
 
 pub returns-then-not-still_clear : goal.returns-then-not-still_clear
 returns-then-not-still_clear c =

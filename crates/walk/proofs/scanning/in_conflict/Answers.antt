@@ -26,9 +26,9 @@ loop-j-preserved c =
       omega arith,
       below_more (ApartFrom a.g ds m a.p a.i) _ c.loop-j.invariant.1
           (elim c.if-y-ne0.branch [
-            then-y-ne0+then-j-i+else-neither d ↦ apart_tested _ ds m a.p _ _ _ _ _ x y d.neither.ensures d.if-neither.false
-          | then-y-ne0+else-j-i d ↦ λ o. absurd (o d.if-j-i.false)
-          | else-y-ne0 d ↦ apart_other_off _ ds m a.p _ _ _ y d.if-y-ne0.false
+            | then-y-ne0+then-j-i+else-neither d ↦ apart_tested _ ds m a.p _ _ _ _ _ x y d.neither.ensures d.if-neither.false
+            | then-y-ne0+else-j-i d ↦ λ o. absurd (o d.if-j-i.false)
+            | else-y-ne0 d ↦ apart_other_off _ ds m a.p _ _ _ y d.if-y-ne0.false
           ]),
     )
 

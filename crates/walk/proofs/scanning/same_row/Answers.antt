@@ -18,8 +18,8 @@ loop-i-preserved c =
     let a = c.args in (
       omega arith,
       elim c.if-m-b.branch [
-        then-m-b u ↦ λ e. absurd (false≢true (sym u.same-is ∙ e))
-      | else-m-b u ↦ λ e. below_more (λ j. get_or a.m.now (a.b + j) 0 ≡ get_or a.former.now (a.b + j) 0) w.i (w.invariant.1 (sym u.same-is ∙ e)) u.if-m-b.false
+        | then-m-b u ↦ λ e. absurd (false≢true (sym u.same-is ∙ e))
+        | else-m-b u ↦ λ e. below_more (λ j. get_or a.m.now (a.b + j) 0 ≡ get_or a.former.now (a.b + j) 0) w.i (w.invariant.1 (sym u.same-is ∙ e)) u.if-m-b.false
       ],
     )
 

@@ -8,8 +8,7 @@ pub returns-then-departs_on : goal.returns-then-departs_on
 returns-then-departs_on c e = absurd (false≢true e)
 
 pub returns : goal.returns
-returns c e =
-    (
-      sym c.departs_on.ensures ∙ c.if-departs_on.false ∙ c.departs_on-2.ensures,
-      sym c.arrives_on.ensures ∙ eqb-true _ _ e ∙ c.arrives_on-2.ensures,
-    )
+returns c e = (
+  sym c.departs_on.ensures ∙ c.if-departs_on.false ∙ c.departs_on-2.ensures,
+  sym c.arrives_on.ensures ∙ eqb-true _ _ e ∙ c.arrives_on-2.ensures,
+)

@@ -169,12 +169,11 @@ try_ways-loop-w-init t c =
     ((λ l g e. walks_none l g.tabled.within g.tabled.raisable.arrays _ _ _ _ _ g.planned g.tallied _), omega arith)
 
 pub try_ways-way_of-way-requires : goal.try_ways-way_of-way-requires
-try_ways-way_of-way-requires t c =
-    (
-      conflict_range c.requires.line c.requires.given.tabled.within c.requires.given.tabled.raisable.arrays _ _ c.requires.conflict_is,
-      directions_size _ _ c.requires.given.tabled.raisable.directions,
-      omega (arith, c.requires.count_is, count_most c.args.conflict, c.loop-w-test.true),
-    )
+try_ways-way_of-way-requires t c = (
+  conflict_range c.requires.line c.requires.given.tabled.within c.requires.given.tabled.raisable.arrays _ _ c.requires.conflict_is,
+  directions_size _ _ c.requires.given.tabled.raisable.directions,
+  omega (arith, c.requires.count_is, count_most c.args.conflict, c.loop-w-test.true),
+)
 
 pub try_ways-try_way-b-requires : goal.try_ways-try_way-b-requires
 try_ways-try_way-b-requires t c =
@@ -205,10 +204,10 @@ try_ways-loop-w-preserved t c =
     let low = c.loop-w-test.true in
     let way = c.way_of-way.ensures in (
       elim c.if-way.branch [
-        try_ways-then-way w ↦
-          tries_more _ _ _ _ _ _ _ _ _ _ _ count i.w low _ _ _ i.invariant.0 _ way.0 way.1 _ _ _ w.if-way.true _ _ _ w.try_way-b.ensures
-          w.marks-is w.best-is w.b-is
-      | try_ways-else-way w ↦ tries_skip _ _ _ _ _ _ _ _ _ _ _ count i.w low _ _ _ i.invariant.0 _ way.0 way.1 _ _ _ w.if-way.false w.marks-is w.best-is w.b-is
+        | try_ways-then-way w ↦
+            tries_more _ _ _ _ _ _ _ _ _ _ _ count i.w low _ _ _ i.invariant.0 _ way.0 way.1 _ _ _ w.if-way.true _ _ _ w.try_way-b.ensures
+            w.marks-is w.best-is w.b-is
+        | try_ways-else-way w ↦ tries_skip _ _ _ _ _ _ _ _ _ _ _ count i.w low _ _ _ i.invariant.0 _ way.0 way.1 _ _ _ w.if-way.false w.marks-is w.best-is w.b-is
       ],
       steps_within _ _ _ _ count low way.1,
     )
