@@ -1,7 +1,6 @@
 -- `gtfs::exporting::put_clock` meets its contract: the hours, a colon, the minutes, and then the seconds and the comma are put one after the other.
 -- Assumes nothing.
 use Rattle.text.specs.Writing.SpliceLaws.{put_then}
-use borrow.Author.Rules.{rules}
 use Rattle.gtfs.proofs.exporting.put_clock.Goals as goal
 
 pub returns : goal.returns

@@ -3,7 +3,6 @@
 use native.Mathlib.Omega.{arith}
 use Rattle.text.specs.Writing.SpliceLaws.{put_then}
 use Rattle.gtfs.specs.WritingLaws.{time-parts, time_size}
-use borrow.Author.Rules.{rules}
 use Rattle.gtfs.proofs.exporting.put_stop_time.Goals as goal
 
 pub put_text-after_letter-requires : goal.put_text-after_letter-requires

@@ -1,7 +1,6 @@
 -- `gtfs::exporting::put_stop_times` meets its contract: the header and the trips are put one after the other, and each fits where both do.
 -- Assumes nothing.
 use native.Mathlib.Omega.{arith}
-use borrow.Author.Rules.{rules}
 use Rattle.text.specs.Writing.SpliceLaws.{put_then}
 use Rattle.gtfs.specs.WritingLaws.{stop_times_parts, stop_times_size}
 use Rattle.gtfs.proofs.exporting.put_stop_times.Goals as goal

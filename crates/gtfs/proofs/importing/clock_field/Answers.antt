@@ -8,7 +8,6 @@ use Rattle.text.proofs.Reading.FixedLaws.{paired_spelt}
 use Rattle.text.specs.Reading.Told.{told_field}
 use Rattle.line.specs.FileLaws.{ended_told}
 use Rattle.gtfs.specs.LineLaws.{clock_no_hour, clock_no_minute, clock_no_seconds, clock_got}
-use borrow.Author.Rules.{rules}
 use Rattle.gtfs.proofs.importing.clock_field.Goals as goal
 
 pub returns-in_default : goal.returns-in_default

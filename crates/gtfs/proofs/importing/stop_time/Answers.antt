@@ -7,7 +7,6 @@ use Rattle.text.proofs.Places.LinesLaws.{keeps_counted, stands_got, stands_text,
 use Rattle.text.specs.Reading.Told.{told_field, ending_of}
 use Rattle.line.specs.FileLaws.{ended_told}
 use Rattle.gtfs.specs.LineLaws.{time_no_letter, time_no_trip, time_no_arrival, time_no_departure, time_no_station, time_no_sequence, time_got, stands_clock}
-use borrow.Author.Rules.{rules}
 use Rattle.gtfs.proofs.importing.stop_time.Goals as goal
 
 pub returns-in_default : goal.returns-in_default

@@ -11,10 +11,10 @@ pub returns-then-count-gt-MOST_MINUTES : goal.returns-then-count-gt-MOST_MINUTES
 returns-then-count-gt-MOST_MINUTES c = tells_no (λ a. omega (arith, a.few, c.if-count-gt-MOST_MINUTES.true))
 
 pub returns-then-not-rises : goal.returns-then-not-rises
-returns-then-not-rises c = tells_no (λ a. c.rises.ensures.nay (c.if-not-rises.true) a.rising)
+returns-then-not-rises c = tells_no (λ a. c.rises.ensures.nay c.if-not-rises.true a.rising)
 
 pub returns-then-not-all_times : goal.returns-then-not-all_times
-returns-then-not-all_times c = tells_no (λ a. c.all_times.ensures.nay (c.if-not-all_times.true) a.days)
+returns-then-not-all_times c = tells_no (λ a. c.all_times.ensures.nay c.if-not-all_times.true a.days)
 
 pub returns-then-entries-count : goal.returns-then-entries-count
 returns-then-entries-count c = tells_no (λ a. omega (arith, a.room, c.if-entries-count.true))
@@ -28,8 +28,8 @@ returns c =
     record {
       some = omega (arith, c.if-count-eq0.false);
       few = omega (arith, c.if-count-gt-MOST_MINUTES.false);
-      rising = c.rises.ensures.yea (c.if-not-rises.false);
-      days = c.all_times.ensures.yea (c.if-not-all_times.false);
+      rising = c.rises.ensures.yea c.if-not-rises.false;
+      days = c.all_times.ensures.yea c.if-not-all_times.false;
       room = omega (arith, c.if-entries-count.false);
       there = built_in 1 _ _ c.value.ensures c.in-Within.is;
     }

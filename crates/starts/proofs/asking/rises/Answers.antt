@@ -1,5 +1,4 @@
 -- The answers; the idea of the proof is at the head of the invariants.
-use Prim.Native.Nat.{◌-◌}
 use native.Mathlib.Omega.{arith}
 use Rattle.starts.specs.AskingLaws.{tells_yes, tells_no, rising_more, rising_not}
 use Rattle.starts.proofs.asking.rises.Goals as goal

@@ -12,7 +12,7 @@ use Rattle.line.specs.FileLaws.{ended_told}
 use Rattle.timetable.specs.Reading.{name_at}
 use Rattle.timetable.specs.Spell.{numbers}
 use Rattle.timetable.specs.ListLaws.{own_within, number_more, name_least, list_no_count, list_counted}
-use Rattle.timetable.specs.RestLaws.{after, after_none, after_done, after_step, after_stop}
+use Rattle.timetable.specs.RestLaws.{after_none, after_done, after_step, after_stop}
 use Rattle.timetable.specs.PlaceLaws.{own_counted}
 use Rattle.timetable.proofs.reading.list_line.Goals as goal
 

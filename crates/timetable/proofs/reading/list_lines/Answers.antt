@@ -6,7 +6,7 @@ use native.Mathlib.Omega.{arith}
 use native.Mathlib.Nat.{sub-zero}
 use lib.ListN.{length, take, length-set}
 use Rattle.text.specs.Elements.PaddedLaws.{stored_more}
-use Rattle.text.specs.Reading.Parsed.{Parsed, lines}
+use Rattle.text.specs.Reading.Parsed.{Parsed}
 use Rattle.text.specs.Places.Lines.{Counted, AnyNumber}
 use Rattle.text.proofs.Places.LinesLaws.{keeps_counted}
 use Rattle.line.specs.PlaceLaws.{part_counted}
@@ -14,7 +14,7 @@ use Rattle.line.specs.FileLaws.{ended_told}
 use Rattle.timetable.specs.Reading.{list_at}
 use Rattle.timetable.specs.Told.{named}
 use Rattle.timetable.specs.PlaceLaws.{any_timetable_number, stands-list}
-use Rattle.timetable.specs.RestLaws.{after, after_none, after_done, after_step, after_stop}
+use Rattle.timetable.specs.RestLaws.{after_none, after_done, after_step, after_stop}
 use Rattle.timetable.proofs.reading.list_lines.Goals as goal
 
 pub lines-init : goal.lines-init

@@ -1,6 +1,6 @@
 -- `timetable::reading::list_lines` meets its contract. The invariant: the lists so far and then those yet to read are what the whole gives.
 use Prim.Native.Nat.{◌≤◌, ◌-◌}
-use mathlib.Core.Path.{◌≡◌, ap}
+use mathlib.Core.Path.{◌≡◌}
 use mathlib.Core.List.{map}
 use lib.ListN.{length, take}
 use Rattle.text.specs.Reading.Parsed.{lines}

@@ -23,8 +23,7 @@ returns-in_default-past c =
       | then-count-eq0 w ↦ byte_none _ _ w.if-count-eq0.true w.b-is
       | else-count-eq0 w ↦ byte_some _ _ w.if-count-eq0.false w.b-is
     ] in
-    let number = sym c.number.ensures
-    ∙ c.in-Value.is in
+    let number = sym c.number.ensures ∙ c.in-Value.is in
     sym (own_unended _ _ _ number ends (sym c.past.ensures ∙ c.in_default-past.is))
 
 pub returns-in_default-value : goal.returns-in_default-value
@@ -33,8 +32,7 @@ returns-in_default-value c =
       | then-count-eq0 w ↦ byte_none _ _ w.if-count-eq0.true w.b-is
       | else-count-eq0 w ↦ byte_some _ _ w.if-count-eq0.false w.b-is
     ] in
-    let number = sym c.number.ensures
-    ∙ c.in-Value.is in
+    let number = sym c.number.ensures ∙ c.in-Value.is in
     let past = sym c.past.ensures ∙ c.in-Next.is in
     sym (own_over _ _ _ number ends past (sym (bounded_by (record { min = 0; max = _ }) _ c.value.ensures c.up_to-limits.ensures) ∙ c.in_default-value.is))
 
@@ -44,7 +42,6 @@ returns c =
       | then-count-eq0 w ↦ byte_none _ _ w.if-count-eq0.true w.b-is
       | else-count-eq0 w ↦ byte_some _ _ w.if-count-eq0.false w.b-is
     ] in
-    let number = sym c.number.ensures
-    ∙ c.in-Value.is in
+    let number = sym c.number.ensures ∙ c.in-Value.is in
     let past = sym c.past.ensures ∙ c.in-Next.is in
     sym (own_value _ _ _ number ends past (sym (bounded_by (record { min = 0; max = _ }) _ c.value.ensures c.up_to-limits.ensures) ∙ c.in-Within.is))

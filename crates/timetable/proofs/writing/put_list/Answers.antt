@@ -1,5 +1,4 @@
 -- The answers; the idea of the proof is at the head of the invariants.
-use Prim.Native.Nat.{◌-◌}
 use mathlib.Core.Path.{◌≡◌}
 use mathlib.Core.Bool.{cond}
 use native.Mathlib.Omega.{arith}
@@ -21,7 +20,7 @@ put_field-at-requires c =
       | else-count-eq0 w ↦ byte_some _ _ w.if-count-eq0.false w.b-is
     ] in
     let count = c.size_of-count in
-    (omega (arith, list_size c.args.list count.result count.ensures.0 (ends), c.requires), omega (arith, count.ensures.1))
+    (omega (arith, list_size c.args.list count.result count.ensures.0 ends, c.requires), omega (arith, count.ensures.1))
 
 pub loop-k-init : goal.loop-k-init
 loop-k-init c = (putting_start, omega arith)
@@ -41,7 +40,7 @@ put_field-at-requires-in-loop-k c =
     let w = c.loop-k in
     let put = c.put_field-at in
     let count = c.size_of-count in
-    let size = list_size c.args.list count.result count.ensures.0 (ends) in
+    let size = list_size c.args.list count.result count.ensures.0 ends in
     let short : Fits w16 (get_or c.args.list.trains w.k 0) = search rules in
     let room = name_room c.args.list count.result count.ensures.0 w.k w.invariant.0 here in
     (rw c.after_field.ensures (room (omega (arith, size, c.requires, put.ensures.next, put.auto.out))), omega (arith, short.fits))
@@ -64,6 +63,5 @@ returns c =
     let w = c.loop-k in
     let put = c.put_field-at in
     let count = c.size_of-count in
-    let byte = ends in
     let trains = putting_end w.invariant.0 (no_name c.args.list count.result count.ensures.0 w.k (omega (arith, c.loop-k-test.false, w.invariant.1))) in
-    rw (list-parts c.args.list count.result count.ensures.0 byte) (put_then put.ensures trains)
+    rw (list-parts c.args.list count.result count.ensures.0 ends) (put_then put.ensures trains)
