@@ -5,7 +5,7 @@ use Rattle.text.specs.Places.Lines.{Counted, AnyNumber}
 use Rattle.text.proofs.Places.LinesLaws.{keeps_counted, stands_got, stands_text}
 use Rattle.line.specs.FileLaws.{ended_told}
 use Rattle.gtfs.specs.Spell.{header}
-use Rattle.gtfs.specs.StopsLaws.{file_no_header, file_no_trips, file_more, file_got}
+use Rattle.gtfs.proofs.StopsLaws.{file_no_header, file_no_trips, file_more, file_got}
 use Rattle.gtfs.proofs.importing.read_stop_times.Goals as goal
 
 pub past_text-header-requires : goal.past_text-header-requires
