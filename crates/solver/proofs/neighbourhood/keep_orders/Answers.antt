@@ -1,5 +1,4 @@
 -- The answers; the idea of the proof is at the head of the invariants.
-use Prim.Native.Nat.{◌-◌}
 use mathlib.Core.Path.{refl}
 use native.Mathlib.Omega.{arith}
 use Rattle.solver.specs.Search.NeighbourhoodLaws.{leads_nowhere, leads_then, leads_among, keep_after, keep_among, segment_among, layout_segments, layout_few}

@@ -1,5 +1,4 @@
 -- The answers; the idea of the proof is at the head of the invariants.
-use Prim.Native.Nat.{◌-◌}
 use native.Mathlib.Omega.{arith}
 use Rattle.solver.specs.Search.NeighbourhoodLaws.{leads_nowhere, leads_then, keep_after}
 use Rattle.solver.proofs.neighbourhood.keep_train.Goals as goal

@@ -2,7 +2,6 @@
 use Prim.Native.Nat.{◌*◌, ◌-◌}
 use native.Mathlib.Omega.{arith}
 use native.Mathlib.Nat.{mul-le-mul, div-le_self}
-use borrow.Author.Rules.{rules}
 use Rattle.solver.proofs.scoring.score.Goals as goal
 
 -- UNMATCHED nonzero-div-share

@@ -4,14 +4,12 @@ use mathlib.Core.Path.{ap}
 use mathlib.Core.Bool.{not}
 use native.Mathlib.Omega.{arith}
 use borrow.Author.Rules.{rules}
-use lib.ListN.{length, length-set, length-replicate}
-use Rattle.finite.specs.Below.{count}
+use lib.ListN.{length-set, length-replicate}
 use Rattle.rules.specs.Scan.StationLaws.{directions_size}
 use Rattle.plans.specs.Conflict.Ways.{way_of}
 use Rattle.plans.specs.Clauses.TryingLaws.{way_there, way_absent, count_most, range_of, way_of_real}
 use Rattle.plans.specs.Clauses.NextPlansLaws.{cut_low, row_few, second_there, way_chooses, next_falls}
 use Rattle.plans.specs.Clauses.GivenLaws.{key_long}
-use Rattle.solver.specs.Selection.Pricing.{untried}
 use Rattle.solver.specs.Selection.PricingLaws.{untried_falls}
 use Rattle.solver.specs.Search.SearchingLaws.{counted_tallied, held_after, held_by, sought_spent, sought_cut, sought_clear, sought_dead, next_held}
 use Rattle.solver.specs.Search.SearchingLaws.{sought_alive, sought_marks, sought_by, ways_priced, ways_done, ways_skip, ways-more}

@@ -1,5 +1,4 @@
 -- The answers; the idea of the proof is at the head of the invariants.
-use Prim.Native.Nat.{◌-◌}
 use Rattle.solver.proofs.selecting.places_to_look.Goals as goal
 
 pub loop-p-init : goal.loop-p-init

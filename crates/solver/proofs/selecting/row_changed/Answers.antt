@@ -1,5 +1,4 @@
 -- The answers; the idea of the proof is at the head of the invariants.
-use Prim.Native.Nat.{◌-◌}
 use Rattle.solver.proofs.selecting.row_changed.Goals as goal
 
 pub loop-i-init : goal.loop-i-init

@@ -1,5 +1,4 @@
 -- The answers; the idea of the proof is at the head of the invariants.
-use Prim.Native.Nat.{◌-◌}
 use Rattle.solver.specs.Selection.SelectingLaws.{scores_on_none, scores_on_then, can_score_on-after}
 use Rattle.solver.proofs.selecting.with_segment.Goals as goal
 

@@ -1,5 +1,4 @@
 -- The answers; the idea of the proof is at the head of the invariants.
-use Prim.Native.Nat.{◌-◌}
 use native.Mathlib.Omega.{arith}
 use Rattle.solver.specs.Selection.SelectingLaws.{on_low, scores_on_none, scores_on_then, can_score_on-after}
 use Rattle.solver.proofs.selecting.with_train.Goals as goal
