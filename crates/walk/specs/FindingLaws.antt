@@ -16,7 +16,7 @@ use Rattle.orders.specs.LeastMinutes.Carried.{start}
 use Rattle.orders.specs.Plan.Marks.{free}
 use Rattle.orders.specs.Plan.Plans.{Keeps}
 use Rattle.plans.specs.declared.tally.Tally.{Tally}
-use Rattle.plans.specs.Theory.BestSoFar.{BestSoFar, nothing, found}
+use Rattle.plans.specs.Theory.BestSoFar.{BestSoFar, nothing}
 use Rattle.walk.specs.Walk.{Walked, walk, plenty, take_up}
 use Rattle.walk.specs.ProblemLaws.{least_found}
 use Rattle.plans.specs.Instance.Planning.{in_time, planning}

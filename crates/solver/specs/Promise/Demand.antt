@@ -9,7 +9,7 @@ use Rattle.std.proofs.Math.Seq.{take-append_seam}
 use Rattle.text.specs.declared.Cursor.{Cursor}
 use Rattle.text.specs.declared.Written.{Written}
 use Rattle.text.specs.Reading.Parsed.{Parsed}
-use Rattle.text.specs.Writing.Lend.{Spelling, written_of, bytes_after, Lent}
+use Rattle.text.specs.Writing.Lend.{Spelling, Lent}
 use Rattle.text.specs.Writing.LendLaws.{lent_there, lent_only, text_written, text_refused}
 use Rattle.line.specs.declared.Line.{Line}
 use Rattle.line.specs.File.{line_file, answered}

@@ -1,7 +1,7 @@
 -- The answers; the idea of the proof is at the head of the invariants.
 use mathlib.Core.Path.{refl, sym, ◌∙◌, subst}
 use borrow.Author.Rules.{rules}
-use lib.ListN.{length, length-set}
+use lib.ListN.{length-set}
 use Rattle.solver.specs.Selection.Selecting.{KnownReal}
 use Rattle.solver.specs.Selection.SelectingLaws.{finds_then}
 use Rattle.solver.specs.Lookahead.AheadLaws.{look_select, look-after, finds_from}

@@ -1,5 +1,4 @@
 -- The answers; the idea of the proof is at the head of the invariants.
-use Prim.Native.Nat.{◌-◌}
 use mathlib.Core.Path.{◌∙◌}
 use Rattle.solver.specs.Selection.SelectingLaws.{can_select_after}
 use Rattle.solver.proofs.ahead.place_scores.Goals as goal

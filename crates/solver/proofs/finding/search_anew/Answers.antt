@@ -1,5 +1,4 @@
 -- The answers; the idea of the proof is at the head of the invariants.
-use Prim.Native.Nat.{◌-◌}
 use native.Mathlib.Omega.{arith}
 use Rattle.solver.specs.Search.FindingLaws.{improves-same, searches_improves, improves_then, find_after}
 use Rattle.solver.proofs.finding.search_anew.Goals as goal

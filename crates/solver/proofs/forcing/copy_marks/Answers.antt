@@ -1,8 +1,7 @@
 -- The answers; the idea of the proof is at the head of the invariants.
-use Prim.Native.Nat.{◌-◌}
 use mathlib.Core.Path.{refl, sym, ◌∙◌}
 use native.Mathlib.Omega.{arith}
-use lib.ListN.{length, get_or, length-set}
+use lib.ListN.{length-set}
 use lib.Seq.{ext_get_or}
 use Rattle.rules.specs.Lists.OrdersLaws.{entries_more}
 use Rattle.solver.proofs.forcing.copy_marks.Goals as goal

@@ -30,27 +30,31 @@ loop-left-init c = ((λ l p f. f), ap length c.copy_minutes-2.ensures ∙ c.requ
 pub returns-then-c : goal.returns-then-c
 returns-then-c c l x h i _ =
     followed_none l _ _ _ _ _ _ _ _ _ _ c.if-c.true (c.loop-left.invariant.0 l _
-    (followed_first l _ _ _ _ _ _ _ _ _ h _ c.cut_of-cut.ensures x _ i _ _ c.copy_minutes.ensures c.copy_marks.ensures _ _ _ c.settle-c.ensures))
+    (followed_first l _ _ _ _ _ _ _ _ _ h _ c.cut_of-cut.ensures x _ i _ _
+    c.copy_minutes.ensures c.copy_marks.ensures _ _ _ c.settle-c.ensures))
 
 pub improves-requires : goal.improves-requires
 improves-requires c =
     let p = c.requires in
     let (held, in-it) = followed_alive p.line _ _ _ _ _ _ _ _ _ _ c.if-c.false
-    (c.loop-left.invariant.0 p.line _ (followed_first p.line _ _ _ _ _ _ _ _ _ p.held _ c.cut_of-cut.ensures p.choice _ p.is_way _ _ c.copy_minutes.ensures c.copy_marks.ensures _ _ _ c.settle-c.ensures)) in
+    (c.loop-left.invariant.0 p.line _ (followed_first p.line _ _ _ _ _ _ _ _ _ p.held _ c.cut_of-cut.ensures p.choice _ p.is_way _ _
+    c.copy_minutes.ensures c.copy_marks.ensures _ _ _ c.settle-c.ensures)) in
     let g = held.given in
     (g.planned.carried.least.fit.size, g.tallied.size, key_long c.requires.line _ _ _ _ _ _ _ _ _ g)
 
 pub returns-then-not-improves : goal.returns-then-not-improves
 returns-then-not-improves c l x h i _ =
     let (g, in-it) = followed_alive l _ _ _ _ _ _ _ _ _ _ c.if-c.false
-    (c.loop-left.invariant.0 l _ (followed_first l _ _ _ _ _ _ _ _ _ h _ c.cut_of-cut.ensures x _ i _ _ c.copy_minutes.ensures c.copy_marks.ensures _ _ _ c.settle-c.ensures)) in
+    (c.loop-left.invariant.0 l _ (followed_first l _ _ _ _ _ _ _ _ _ h _ c.cut_of-cut.ensures x _ i _ _
+    c.copy_minutes.ensures c.copy_marks.ensures _ _ _ c.settle-c.ensures)) in
     followed_worse l _ _ _ _ _ _ _ _ _ _ g in-it _ c.improves.ensures (ap not c.if-not-improves.true)
 
 pub forced_way-forced-requires : goal.forced_way-forced-requires
 forced_way-forced-requires c =
     let p = c.requires in
     let (held, in-it) = followed_alive p.line _ _ _ _ _ _ _ _ _ _ c.if-c.false
-    (c.loop-left.invariant.0 p.line _ (followed_first p.line _ _ _ _ _ _ _ _ _ p.held _ c.cut_of-cut.ensures p.choice _ p.is_way _ _ c.copy_minutes.ensures c.copy_marks.ensures _ _ _ c.settle-c.ensures)) in
+    (c.loop-left.invariant.0 p.line _ (followed_first p.line _ _ _ _ _ _ _ _ _ p.held _ c.cut_of-cut.ensures p.choice _ p.is_way _ _
+    c.copy_minutes.ensures c.copy_marks.ensures _ _ _ c.settle-c.ensures)) in
     let g = held.given in (
       record {
         line = c.requires.line;
@@ -69,7 +73,8 @@ pub returns-then-not-next : goal.returns-then-not-next
 returns-then-not-next c l x h i _ =
     let f = c.forced_way-forced.ensures in
     let (g, in-it) = followed_alive l _ _ _ _ _ _ _ _ _ _ c.if-c.false
-    (c.loop-left.invariant.0 l _ (followed_first l _ _ _ _ _ _ _ _ _ h _ c.cut_of-cut.ensures x _ i _ _ c.copy_minutes.ensures c.copy_marks.ensures _ _ _ c.settle-c.ensures)) in
+    (c.loop-left.invariant.0 l _ (followed_first l _ _ _ _ _ _ _ _ _ h _ c.cut_of-cut.ensures x _ i _ _
+    c.copy_minutes.ensures c.copy_marks.ensures _ _ _ c.settle-c.ensures)) in
     followed_dead l _ _ _ _ _ _ _ _ _ _ g in-it _ c.cut_of-cut.ensures
     (f.none c.if-forced.false (not-true _ c.if-not-next.true) l g.given.tabled g.given.planned g.given.layout_is)
 
@@ -77,14 +82,16 @@ pub copy_minutes-requires-in-loop-left : goal.copy_minutes-requires-in-loop-left
 copy_minutes-requires-in-loop-left c =
     let p = c.requires in
     let (held, in-it) = followed_alive p.line _ _ _ _ _ _ _ _ _ _ c.if-c.false
-    (c.loop-left.invariant.0 p.line _ (followed_first p.line _ _ _ _ _ _ _ _ _ p.held _ c.cut_of-cut.ensures p.choice _ p.is_way _ _ c.copy_minutes.ensures c.copy_marks.ensures _ _ _ c.settle-c.ensures)) in
+    (c.loop-left.invariant.0 p.line _ (followed_first p.line _ _ _ _ _ _ _ _ _ p.held _ c.cut_of-cut.ensures p.choice _ p.is_way _ _
+    c.copy_minutes.ensures c.copy_marks.ensures _ _ _ c.settle-c.ensures)) in
     (held.given.planned.carried.least.fit.size, c.loop-left.invariant.1)
 
 pub settle-c-requires-in-loop-left : goal.settle-c-requires-in-loop-left
 settle-c-requires-in-loop-left c =
     let p = c.requires in
     let (held, in-it) = followed_alive p.line _ _ _ _ _ _ _ _ _ _ c.if-c.false
-    (c.loop-left.invariant.0 p.line _ (followed_first p.line _ _ _ _ _ _ _ _ _ p.held _ c.cut_of-cut.ensures p.choice _ p.is_way _ _ c.copy_minutes.ensures c.copy_marks.ensures _ _ _ c.settle-c.ensures)) in
+    (c.loop-left.invariant.0 p.line _ (followed_first p.line _ _ _ _ _ _ _ _ _ p.held _ c.cut_of-cut.ensures p.choice _ p.is_way _ _
+    c.copy_minutes.ensures c.copy_marks.ensures _ _ _ c.settle-c.ensures)) in
     let f = c.forced_way-forced.ensures in
     let g = held.given in
     let one = f.one c.if-forced.false (not-false _ c.if-not-next.false) c.requires.line g.tabled g.planned g.layout_is in
@@ -101,7 +108,8 @@ pub loop-left-preserved : goal.loop-left-preserved
 loop-left-preserved c =
     let p = c.requires in
     let (held, in-it) = followed_alive p.line _ _ _ _ _ _ _ _ _ _ c.if-c.false
-    (c.loop-left.invariant.0 p.line _ (followed_first p.line _ _ _ _ _ _ _ _ _ p.held _ c.cut_of-cut.ensures p.choice _ p.is_way _ _ c.copy_minutes.ensures c.copy_marks.ensures _ _ _ c.settle-c.ensures)) in
+    (c.loop-left.invariant.0 p.line _ (followed_first p.line _ _ _ _ _ _ _ _ _ p.held _ c.cut_of-cut.ensures p.choice _ p.is_way _ _
+    c.copy_minutes.ensures c.copy_marks.ensures _ _ _ c.settle-c.ensures)) in
     let f = c.forced_way-forced.ensures in (
       (λ l p h.
           let (g, in-it) = followed_alive l _ _ _ _ _ _ _ _ _ _ c.if-c.false (c.loop-left.invariant.0 l p h) in
@@ -113,4 +121,5 @@ loop-left-preserved c =
 pub returns : goal.returns
 returns c l x h i dead =
     followed_none l _ _ _ _ _ _ _ _ _ _ dead (c.loop-left.invariant.0 l _
-    (followed_first l _ _ _ _ _ _ _ _ _ h _ c.cut_of-cut.ensures x _ i _ _ c.copy_minutes.ensures c.copy_marks.ensures _ _ _ c.settle-c.ensures))
+    (followed_first l _ _ _ _ _ _ _ _ _ h _ c.cut_of-cut.ensures x _ i _ _
+    c.copy_minutes.ensures c.copy_marks.ensures _ _ _ c.settle-c.ensures))

@@ -1,8 +1,8 @@
 -- The answers; the idea of the proof is at the head of the invariants.
-use Prim.Native.Nat.{ℕ, ◌-◌}
+use Prim.Native.Nat.{ℕ}
 use mathlib.Core.Path.{◌≡◌}
 use native.Mathlib.Omega.{arith}
-use lib.ListN.{length, length-set, length-replicate}
+use lib.ListN.{length-set, length-replicate}
 use Rattle.rules.specs.Scan.StationLaws.{directions_size}
 use Rattle.plans.specs.Conflict.Ways.{way_of}
 use Rattle.plans.proofs.Clauses.WaysToldLaws.{steps_within}

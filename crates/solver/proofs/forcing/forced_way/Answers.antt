@@ -1,7 +1,7 @@
 -- `solver::forcing::forced_way` meets its contract: the ways that are priced as dead are, so one that alone is not is forced, and where all are nothing is
 -- left. Assumes nothing.
 use mathlib.Core.Path.{sym, ◌∙◌}
-use mathlib.Core.Bool.{true, false, true≢false}
+use mathlib.Core.Bool.{true≢false}
 use native.Mathlib.Omega.{arith}
 use borrow.Author.Rules.{rules}
 use lib.ListN.{length-set}

@@ -5,13 +5,8 @@ use native.Mathlib.Omega.{arith}
 use borrow.Author.Tests.{not-true, not-false}
 use lib.ListN.{replicate}
 use Rattle.line.specs.RunnableLaws.{within_runnable}
-use Rattle.rules.specs.Statement.Paths.{EachTrain}
-use Rattle.rules.specs.Statement.Rules.{NotLate}
-use Rattle.orders.specs.LeastMinutes.NoLater.{WithinDays}
-use Rattle.orders.specs.LeastMinutes.Carried.{Carried}
 use Rattle.orders.specs.Plan.Marks.{free}
 use Rattle.walk.specs.ScanningLaws.{clear_none}
-use Rattle.plans.specs.Clauses.Choosing.{Given}
 use Rattle.plans.proofs.Clauses.FirstLaws.{first_given}
 use Rattle.walk.specs.Finding.{FindsWalked}
 use Rattle.walk.specs.FindingLaws.{finds_walked, finds_nothing}
@@ -32,19 +27,19 @@ tables_of-t-requires c = within_runnable c.args.line c.requires.0
 pub take_up-tally-requires : goal.take_up-tally-requires
 unfolding free
 take_up-tally-requires c =
-    let timely : let l = c.args.line in let m = c.first_minutes-first.result.minutes in WithinDays m × EachTrain l (NotLate l m) = c.first_minutes-first.ensures.timely (not-false _ c.if-not-first.false) in
-    let carried : Carried c.args.line free c.first_minutes-first.result.minutes c.first_minutes-first.result.cost = c.first_minutes-first.ensures.carried timely.0 in
-    let given : Given c.args.line c.first_minutes-first.result.minutes (replicate 368 0) (replicate 352 0) c.tables_of-t.result c.directions_of-ds.result c.key_of-key.result c.layout_of-layout.result c.first_minutes-first.result.cost (record { found = false; delay = 0; steps = 1 }) = first_given c.args.line c.requires.0 c.requires.1 _ _ carried timely.1 _ _ _ _ c.tables_of-t.ensures
-    c.directions_of-ds.ensures c.key_of-key.ensures c.layout_of-layout.ensures _ refl (omega arith) in
+    let timely = c.first_minutes-first.ensures.timely (not-false _ c.if-not-first.false) in
+    let carried = c.first_minutes-first.ensures.carried timely.0 in
+    let given = first_given c.args.line c.requires.0 c.requires.1 _ _ carried timely.1 _ _ _ _ c.tables_of-t.ensures c.directions_of-ds.ensures
+    c.key_of-key.ensures c.layout_of-layout.ensures (record { found = false; delay = 0; steps = 1 }) refl (omega arith) in
     record { line = c.args.line; given = given; former_size = given.planned.carried.least.fit.size; known = clear_none _ _ _ }
 
 pub returns : goal.returns
 unfolding free
 returns c =
-    let timely : let l = c.args.line in let m = c.first_minutes-first.result.minutes in WithinDays m × EachTrain l (NotLate l m) = c.first_minutes-first.ensures.timely (not-false _ c.if-not-first.false) in
-    let carried : Carried c.args.line free c.first_minutes-first.result.minutes c.first_minutes-first.result.cost = c.first_minutes-first.ensures.carried timely.0 in
-    let given : Given c.args.line c.first_minutes-first.result.minutes (replicate 368 0) (replicate 352 0) c.tables_of-t.result c.directions_of-ds.result c.key_of-key.result c.layout_of-layout.result c.first_minutes-first.result.cost (record { found = false; delay = 0; steps = 1 }) = first_given c.args.line c.requires.0 c.requires.1 _ _ carried timely.1 _ _ _ _ c.tables_of-t.ensures
-    c.directions_of-ds.ensures c.key_of-key.ensures c.layout_of-layout.ensures _ refl (omega arith) in
+    let timely = c.first_minutes-first.ensures.timely (not-false _ c.if-not-first.false) in
+    let carried = c.first_minutes-first.ensures.carried timely.0 in
+    let given = first_given c.args.line c.requires.0 c.requires.1 _ _ carried timely.1 _ _ _ _ c.tables_of-t.ensures c.directions_of-ds.ensures
+    c.key_of-key.ensures c.layout_of-layout.ensures (record { found = false; delay = 0; steps = 1 }) refl (omega arith) in
     subst (FindsWalked c.args.line) (sym c.found_of-2.ensures)
     (finds_walked c.args.line c.requires.0 c.requires.1 c.first_minutes-first.result.minutes carried.least (replicate 352 0) refl refl
     (c.take_up-tally.ensures c.args.line given))

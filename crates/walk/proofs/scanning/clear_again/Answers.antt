@@ -1,5 +1,4 @@
 -- The answers; the idea of the proof is at the head of the invariants.
-use Prim.Native.Nat.{◌-◌}
 use native.Mathlib.Omega.{arith}
 use Rattle.rules.specs.Conflict.ConflictsLaws.{segment-start, segment-on}
 use Rattle.walk.specs.ScanningLaws.{clear_within, clear_at, clear_first}

@@ -1,5 +1,4 @@
 -- The answers; the idea of the proof is at the head of the invariants.
-use Prim.Native.Nat.{◌-◌}
 use mathlib.Core.Path.{◌≡◌, refl, sym, ◌∙◌}
 use native.Mathlib.Omega.{arith}
 use Rattle.rules.specs.Conflict.ConflictsLaws.{segment-on, segment_found, segment_none}

@@ -1,5 +1,5 @@
 -- The answers; the idea of the proof is at the head of the invariants.
-use Prim.Native.Nat.{ℕ, ◌-◌}
+use Prim.Native.Nat.{ℕ}
 use mathlib.Core.Path.{◌≡◌, refl, ap}
 use mathlib.Core.Bool.{not}
 use native.Mathlib.Omega.{arith}
@@ -89,7 +89,9 @@ try_way-fails-requires t c =
       line = c.requires.line;
       choice = c.requires.choice;
       plan = c.args.marks.now;
-      chooses = way_chooses c.requires.line _ _ _ _ _ c.requires.given.tabled c.requires.given.planned c.requires.choice _ c.requires.is_way _ c.with_bit.ensures _ refl;
+      chooses =
+          way_chooses c.requires.line _ _ _ _ _ c.requires.given.tabled c.requires.given.planned c.requires.choice _ c.requires.is_way _ c.with_bit.ensures _
+          refl;
       cut_low = counted_low c.requires.line _ _ _ _ _ _ _ _ _ c.requires.given c.requires.choice _ c.requires.is_way _ c.counted-b.ensures _ c.cut_of.ensures;
     }
 
