@@ -2,7 +2,7 @@
 // end nothing is planned, as a part of a file can be a right one. That, and an answer that cannot be written, is told on standard error.
 #![tactic(auto)]
 
-ghost use Rattle.std.specs.Prelude.{◌++◌, ◌∷◌, [], length, take};
+ghost use Rattle.std.specs.Prelude.{length, take};
 ghost use Rattle.std.specs.Bool.{OnTrue};
 ghost use Rattle.std.specs.Io.KnownBytes.{Appends};
 ghost use Rattle.plan.specs.Reading.{Fits, FrontRead};
