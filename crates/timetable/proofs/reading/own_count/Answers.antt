@@ -1,14 +1,12 @@
 -- `timetable::reading::own_count` meets its contract: each `return` follows from the answers that led there, by the law of that case; the byte after
 -- the count is the one that belongs there in both arms that choose it. Assumes nothing.
-use mathlib.Core.Path.{◌≡◌, ◌∙◌, sym}
-use mathlib.Core.Bool.{cond}
-use lib.Dec.{eqb}
+use native.Mathlib.Omega.{arith}
+use mathlib.Core.Path.{◌∙◌, sym}
 use Rattle.text.specs.Places.Lines.{Counted}
 use Rattle.text.proofs.Reading.ParsedLaws.{bounded_by}
 use Rattle.text.proofs.Places.LinesLaws.{keeps_counted, number_keeps}
 use Rattle.timetable.specs.ListLaws.{byte_none, byte_some, own_malformed, own_unended, own_over, own_value}
 use Rattle.timetable.proofs.reading.own_count.Goals as goal
-use Rattle.timetable.proofs.reading.own_count.Goals.{then-count-eq0, else-count-eq0}
 
 pub returns-in_default : goal.returns-in_default
 returns-in_default c = sym (own_malformed _ _ _ (sym c.number.ensures ∙ c.in_default.is))
@@ -19,29 +17,17 @@ past-requires c =
 
 pub returns-in_default-past : goal.returns-in_default-past
 returns-in_default-past c =
-    let ends : c.if-count-eq0.b ≡ cond (eqb c.in-Value.count 0) 10 32 = elim c.if-count-eq0.branch [
-      | then-count-eq0 w ↦ byte_none _ _ w.if-count-eq0.true w.b-is
-      | else-count-eq0 w ↦ byte_some _ _ w.if-count-eq0.false w.b-is
-    ] in
     let number = sym c.number.ensures ∙ c.in-Value.is in
-    sym (own_unended _ _ _ number ends (sym c.past.ensures ∙ c.in_default-past.is))
+    sym (own_unended _ _ _ number (grind (arith, byte_none, byte_some)) (sym c.past.ensures ∙ c.in_default-past.is))
 
 pub returns-in_default-value : goal.returns-in_default-value
 returns-in_default-value c =
-    let ends : c.if-count-eq0.b ≡ cond (eqb c.in-Value.count 0) 10 32 = elim c.if-count-eq0.branch [
-      | then-count-eq0 w ↦ byte_none _ _ w.if-count-eq0.true w.b-is
-      | else-count-eq0 w ↦ byte_some _ _ w.if-count-eq0.false w.b-is
-    ] in
     let number = sym c.number.ensures ∙ c.in-Value.is in
     let past = sym c.past.ensures ∙ c.in-Next.is in
-    sym (own_over _ _ _ number ends past (sym (bounded_by (record { min = 0; max = _ }) _ c.value.ensures c.up_to-limits.ensures) ∙ c.in_default-value.is))
+    sym (own_over _ _ _ number (grind (arith, byte_none, byte_some)) past (sym (bounded_by (record { min = 0; max = _ }) _ c.value.ensures c.up_to-limits.ensures) ∙ c.in_default-value.is))
 
 pub returns : goal.returns
 returns c =
-    let ends : c.if-count-eq0.b ≡ cond (eqb c.in-Value.count 0) 10 32 = elim c.if-count-eq0.branch [
-      | then-count-eq0 w ↦ byte_none _ _ w.if-count-eq0.true w.b-is
-      | else-count-eq0 w ↦ byte_some _ _ w.if-count-eq0.false w.b-is
-    ] in
     let number = sym c.number.ensures ∙ c.in-Value.is in
     let past = sym c.past.ensures ∙ c.in-Next.is in
-    sym (own_value _ _ _ number ends past (sym (bounded_by (record { min = 0; max = _ }) _ c.value.ensures c.up_to-limits.ensures) ∙ c.in-Within.is))
+    sym (own_value _ _ _ number (grind (arith, byte_none, byte_some)) past (sym (bounded_by (record { min = 0; max = _ }) _ c.value.ensures c.up_to-limits.ensures) ∙ c.in-Within.is))
