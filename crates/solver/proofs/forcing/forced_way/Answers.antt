@@ -75,8 +75,8 @@ returns c =
       marks_same = c.way_prices-prices.ensures.marks_same ∙ c.select_conflict-selected.ensures.marks_same;
       none = λ _ some l tabled planned is.
           none_left _ _ _ _ _ _ _ _ _ c.select_conflict-selected.ensures _ c.way_count-n.ensures c.if-n-eq0.false _ _ c.way_prices-prices.ensures l tabled planned is
-          _ (omega (arith, low)) _ c.cheapest.ensures (omega (arith, c.if-cheapest-n.false)) _ c.way_of.ensures.0 some;
+          _ (omega (arith, low)) _ c.cheapest.ensures (omega arith) _ c.way_of.ensures.0 some;
       one = λ _ some l tabled planned is.
           one_left _ _ _ _ _ _ _ _ _ c.select_conflict-selected.ensures _ c.way_count-n.ensures c.if-n-eq0.false _ _ c.way_prices-prices.ensures l tabled planned is
-          _ (omega (arith, low)) _ c.cheapest.ensures (omega (arith, c.if-cheapest-n.false)) _ c.way_of.ensures.0 some;
+          _ (omega (arith, low)) _ c.cheapest.ensures (omega arith) _ c.way_of.ensures.0 some;
     }
