@@ -1,4 +1,4 @@
-// The tables of a line that raising reads, in one array; see specs/Tables.antt for its layout.
+// The tables of a line that raising reads, in one array; see specs/LineTables/Tables.antt for its layout.
 ghost use Rattle.std.specs.Prelude.{◌≡◌, ◌<◌, eqb, length};
 ghost use Rattle.line.specs.Record.{legs_of};
 ghost use Rattle.line.specs.Runnable.{Runnable};
@@ -14,7 +14,7 @@ use rules::delay::dues_of;
 use rules::directions::directions_of;
 use rules::rules::segment_between;
 
-// The size of the list, which specs/Tables.antt calls `tableSize`.
+// The size of the list, which specs/LineTables/Tables.antt calls `table_size`.
 pub const TABLE_SIZE: usize = 1456;
 
 pub type Tables = [u16; TABLE_SIZE];

@@ -1,4 +1,5 @@
 -- The answers; the idea of the proof is at the head of the invariants.
+use borrow.Author.Rules.{rules}
 use Prim.Native.Nat.{ℕ}
 use mathlib.Core.Path.{◌≡◌, refl, ap}
 use mathlib.Core.Bool.{not}
@@ -15,6 +16,11 @@ use Rattle.walk.specs.TakenLaws.{given_alive, given_after, tries_more, tries_ski
 use Rattle.plans.proofs.Clauses.NextPlansLaws.{row_few, second_there, way_chooses, next_falls}
 use Rattle.walk.proofs.walk.+take_up_try_way_try_ways.Goals as goal
 use Rattle.walk.proofs.walk.+take_up_try_way_try_ways.Goals.{try_ways-then-way, try_ways-else-way}
+
+pub try_way-returns-then-fails : goal.try_way-returns-then-fails
+try_way-returns-then-fails t c l x g i =
+    given_fails l _ _ _ _ _ _ _ _ _ g x _ i _ c.with_bit.ensures _ (search rules) _ c.cut_of.ensures
+    (c.fails.ensures c.if-fails.true)
 
 pub take_up-improves-requires : goal.take_up-improves-requires
 take_up-improves-requires t c =
@@ -103,11 +109,6 @@ pub try_way-bounds-marks-row-then-fails : goal.try_way-bounds-marks-row-then-fai
 try_way-bounds-marks-row-then-fails t c =
     row_few c.requires.line c.requires.given.tabled.within _ _ c.requires.choice _ c.requires.is_way
 
-pub try_way-returns-then-fails : goal.try_way-returns-then-fails
-try_way-returns-then-fails t c l x g i =
-    given_fails l _ _ _ _ _ _ _ _ _ g x _ i _ c.with_bit.ensures _ c.counted-b.ensures _ c.cut_of.ensures
-    (c.fails.ensures c.if-fails.true)
-
 pub try_way-copy_minutes-requires : goal.try_way-copy_minutes-requires
 try_way-copy_minutes-requires t c =
     (c.requires.given.planned.carried.least.fit.size, length-replicate {A = ℕ} 352 0)
@@ -134,7 +135,7 @@ try_way-bounds-marks-row-then-c t c =
 
 pub try_way-returns-then-c : goal.try_way-returns-then-c
 try_way-returns-then-c t c l x g i =
-    given_dead l _ _ _ _ _ _ _ _ _ g x _ i _ c.with_bit.ensures _ c.counted-b.ensures _ c.copy_minutes.ensures _
+    given_dead l _ _ _ _ _ _ _ _ _ g x _ i _ c.with_bit.ensures _ (search rules) _ c.copy_minutes.ensures _
     c.cut_of-2.ensures _ _ c.raised-c.ensures c.if-c.true
 
 pub try_way-take_up-r-requires : goal.try_way-take_up-r-requires
@@ -158,9 +159,9 @@ try_way-bounds-marks-row-3 t c =
 pub try_way-returns : goal.try_way-returns
 try_way-returns t c l x g i =
     let alive = c.if-c.false in
-    let given = next_given l _ _ _ _ _ _ _ _ _ g x _ i _ c.with_bit.ensures _ c.counted-b.ensures _
+    let given = next_given l _ _ _ _ _ _ _ _ _ g x _ i _ c.with_bit.ensures _ (search rules) _
     c.copy_minutes.ensures _ c.cut_of-2.ensures _ _ c.raised-c.ensures alive in
-    given_alive l _ _ _ _ _ _ _ _ _ g x _ i _ c.with_bit.ensures _ c.counted-b.ensures _ c.copy_minutes.ensures _
+    given_alive l _ _ _ _ _ _ _ _ _ g x _ i _ c.with_bit.ensures _ (search rules) _ c.copy_minutes.ensures _
     c.cut_of-2.ensures _ _ c.raised-c.ensures alive _ _ _ (c.take_up-r.ensures l given)
 
 pub try_ways-clear_segments-clear-requires : goal.try_ways-clear_segments-clear-requires
