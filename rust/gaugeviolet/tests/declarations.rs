@@ -45,6 +45,30 @@ fn the_checking_service_declares_the_first_three() {
 
 #[test]
 fn differences_are_seen() {
+    let rattle = "pub extern \"C\" fn f(a: &[u8], b: &mut [u8]) -> u64\n";
+    let declared = declared_in_rattle(rattle);
+    let in_c = |text: &str| declared_in_c(text) == declared;
+    assert!(in_c(
+        "uint64_t f(const uint8_t *a, size_t a_len, uint8_t *b, size_t b_len);\n"
+    ));
+    assert!(!in_c(
+        "uint64_t f(const uint8_t *a, size_t a_len, const uint8_t *b, size_t b_len);\n"
+    ));
+    assert!(!in_c(
+        "uint64_t f(uint8_t *b, size_t b_len, const uint8_t *a, size_t a_len);\n"
+    ));
+    assert!(!in_c("uint64_t f(const uint8_t *a, size_t a_len);\n"));
+    let in_rust = |text: &str| declared_in_rust(text) == declared;
+    assert!(in_rust(
+        "extern \"C\" {\n fn f(a: *const u8, a_len: usize, b: *mut u8, b_len: usize) -> u64;\n}"
+    ));
+    assert!(!in_rust(
+        "extern \"C\" {\n fn f(a: *mut u8, a_len: usize, b: *mut u8, b_len: usize) -> u64;\n}"
+    ));
+}
+
+#[test]
+fn differences_of_numbers_are_seen() {
     let rattle = "pub extern \"C\" fn f(a: &[u16], n: u32, b: &mut [u8]) -> u64\n";
     let declared = declared_in_rattle(rattle);
     assert_eq!(
