@@ -3,6 +3,5 @@ pub mod Directions
 pub mod DirectionsLaws
 pub mod Conflicts
 pub mod ConflictsLaws
-pub mod KeptLaws
 pub mod FoundLaws
 pub mod LowestLaws

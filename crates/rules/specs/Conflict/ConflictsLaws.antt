@@ -48,6 +48,12 @@ conflict_stays tag z Conflict.Nothing (inr h) c = absurd (omega arith)
 conflict_stays tag z (Conflict.OnSegment s) h c = refl
 conflict_stays tag z (Conflict.AtStation s) h c = refl
 
+-- the same, told by which conflict it is not
+pub conflict_kept : (x : Conflict) → (x ≡ Conflict.Nothing → ⊥) → (c : Conflict) → or_conflict x c ≡ x
+conflict_kept Conflict.Nothing some c = absurd (some refl)
+conflict_kept (Conflict.OnSegment s) some c = refl
+conflict_kept (Conflict.AtStation s) some c = refl
+
 -- ---- the gap of rule 14
 
 -- the test of two ways, asked the other way around

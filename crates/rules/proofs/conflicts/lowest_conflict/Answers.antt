@@ -1,6 +1,6 @@
 -- `rules::conflicts::lowest_conflict` meets its contract: a segment's conflict is the lowest, and without one the station's. Assumes nothing.
-use Rattle.rules.specs.Conflict.KeptLaws.{conflict_kept}
 use Rattle.rules.specs.Scan.StationLaws.{lowest_segment, lowest_station}
+use Rattle.rules.specs.Conflict.ConflictsLaws.{conflict_kept}
 use Rattle.rules.proofs.conflicts.lowest_conflict.Goals as goal
 
 pub returns-in_default : goal.returns-in_default

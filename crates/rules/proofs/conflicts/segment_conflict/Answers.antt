@@ -1,7 +1,6 @@
 -- The answers; the idea of the proof is at the head of the invariants.
 use Rattle.std.proofs.Common.{sym, ◌∙◌, arith}
-use Rattle.rules.specs.Conflict.ConflictsLaws.{segment-start, segment-on, segment_found, segment_none}
-use Rattle.rules.specs.Conflict.KeptLaws.{conflict_kept}
+use Rattle.rules.specs.Conflict.ConflictsLaws.{conflict_kept, segment-start, segment-on, segment_found, segment_none}
 use Rattle.rules.proofs.conflicts.segment_conflict.Goals as goal
 
 pub loop-p-init : goal.loop-p-init

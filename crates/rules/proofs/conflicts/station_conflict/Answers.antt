@@ -1,7 +1,7 @@
 -- The answers; the idea of the proof is at the head of the invariants.
 use Rattle.std.proofs.Common.{arith}
-use Rattle.rules.specs.Conflict.KeptLaws.{conflict_kept}
 use Rattle.rules.specs.Scan.StationLaws.{station-start, station-on, station_found, station_none}
+use Rattle.rules.specs.Conflict.ConflictsLaws.{conflict_kept}
 use Rattle.rules.proofs.conflicts.station_conflict.Goals as goal
 
 pub loop-s-init : goal.loop-s-init

@@ -1,8 +1,17 @@
 -- The answers; the idea of the proof is at the head of the invariants.
-use Rattle.std.proofs.Common.{◌≡◌, ◌+◌, ◌<◌, ◌≤◌, max, get_or, sym, ap, ◌∙◌, arith, rules}
-use Rattle.rules.specs.Check.Floors.{floor_in, arrived_by}
+use Rattle.std.proofs.Common.{ℕ, List, ◌≡◌, ◌+◌, ◌<◌, ◌≤◌, max, get_or, sym, ap, ◌∙◌, arith, rules}
+use Rattle.line.specs.declared.Train.{Train}
+use Rattle.rules.specs.Check.Floors.{floor_in, arrived_by, RunsAlone}
 use Rattle.rules.specs.Check.FloorsLaws.{arrived_start, arrived_next, alone_train, alone_leg, arrived_most}
 use Rattle.rules.proofs.delay.arrived_after.Goals as goal
+
+-- the next leg is one of the path, and the train has arrived at its end within the two days and some
+next_few : (x : Train) (t : List ℕ) (i k : ℕ) → RunsAlone x t i k → (j : ℕ) → j < k → (j + 1 < 11) × (arrived_by x t i (j + 1) ≤ 12000)
+next_few x t i k h j b = (omega (arith, b, alone_leg x t i k h), arrived_most x t i k h (j + 1) (omega (arith, b)))
+
+-- the arrival of the next turn, from this one, its stop, floor and run
+step : (x : Train) (t : List ℕ) (i j : ℕ) → arrived_by x t i (j + 1) ≡ max (arrived_by x t i j + get_or x.stops j 0) (floor_in t i (j + 1)) + get_or x.runs (j + 1) 0
+step x t i j = arrived_next x.runs x.stops t (x.earliest + get_or x.runs 0 0) i j
 
 pub overflow_add-arrival : goal.overflow_add-arrival
 overflow_add-arrival c =
@@ -20,62 +29,35 @@ loop-j-init c =
 
 pub offset_bounds-stops-j : goal.offset_bounds-stops-j
 offset_bounds-stops-j c =
-    let next-few : let a = c.args in let j = c.loop-j.j in (j + 1 < 11) × (arrived_by a.train a.floors.now a.i (j + 1) ≤ 12000) = let a = c.args in
-    let leg = alone_leg a.train a.floors.now a.i a.k c.requires in
-    (omega (arith, c.loop-j-test.true, leg), arrived_most a.train a.floors.now a.i a.k c.requires (c.loop-j.j + 1) (omega (arith, c.loop-j-test.true))) in
-    let few = (next-few).0 in search rules
+    let few = (next_few c.args.train c.args.floors.now c.args.i c.args.k c.requires c.loop-j.j c.loop-j-test.true).0 in search rules
 
 pub bounds-stops-j : goal.bounds-stops-j
 bounds-stops-j c =
-    let next-few : let a = c.args in let j = c.loop-j.j in (j + 1 < 11) × (arrived_by a.train a.floors.now a.i (j + 1) ≤ 12000) = let a = c.args in
-    let leg = alone_leg a.train a.floors.now a.i a.k c.requires in
-    (omega (arith, c.loop-j-test.true, leg), arrived_most a.train a.floors.now a.i a.k c.requires (c.loop-j.j + 1) (omega (arith, c.loop-j-test.true))) in
-    omega (arith, (next-few).0)
+    omega (arith, (next_few c.args.train c.args.floors.now c.args.i c.args.k c.requires c.loop-j.j c.loop-j-test.true).0)
 
 pub overflow_add-ready : goal.overflow_add-ready
 overflow_add-ready c =
-    let next-few : let a = c.args in let j = c.loop-j.j in (j + 1 < 11) × (arrived_by a.train a.floors.now a.i (j + 1) ≤ 12000) = let a = c.args in
-    let leg = alone_leg a.train a.floors.now a.i a.k c.requires in
-    (omega (arith, c.loop-j-test.true, leg), arrived_most a.train a.floors.now a.i a.k c.requires (c.loop-j.j + 1) (omega (arith, c.loop-j-test.true))) in
-    let step : let a = c.args in let j = c.loop-j.j in arrived_by a.train a.floors.now a.i (j + 1) ≡ max (arrived_by a.train a.floors.now a.i j + get_or a.train.stops j 0) (floor_in a.floors.now a.i (j + 1)) + get_or a.train.runs (j + 1) 0 = let a = c.args in
-    arrived_next a.train.runs a.train.stops a.floors.now _ a.i c.loop-j.j in
-    omega (arith, c.loop-j.invariant.1, step, (next-few).1)
+    omega (arith, c.loop-j.invariant.1, step c.args.train c.args.floors.now c.args.i c.loop-j.j, (next_few c.args.train c.args.floors.now c.args.i c.args.k c.requires c.loop-j.j c.loop-j-test.true).1)
 
 pub floor_at-requires : goal.floor_at-requires
 floor_at-requires c =
-    let next-few : let a = c.args in let j = c.loop-j.j in (j + 1 < 11) × (arrived_by a.train a.floors.now a.i (j + 1) ≤ 12000) = let a = c.args in
-    let leg = alone_leg a.train a.floors.now a.i a.k c.requires in
-    (omega (arith, c.loop-j-test.true, leg), arrived_most a.train a.floors.now a.i a.k c.requires (c.loop-j.j + 1) (omega (arith, c.loop-j-test.true))) in
-    (c.requires.floors.size, alone_train c.args.train c.args.floors.now c.args.i c.args.k c.requires, omega (arith, (next-few).0))
+    (c.requires.floors.size, alone_train c.args.train c.args.floors.now c.args.i c.args.k c.requires, omega (arith, (next_few c.args.train c.args.floors.now c.args.i c.args.k c.requires c.loop-j.j c.loop-j-test.true).0))
 
 pub offset_bounds-runs-j : goal.offset_bounds-runs-j
 offset_bounds-runs-j c =
-    let next-few : let a = c.args in let j = c.loop-j.j in (j + 1 < 11) × (arrived_by a.train a.floors.now a.i (j + 1) ≤ 12000) = let a = c.args in
-    let leg = alone_leg a.train a.floors.now a.i a.k c.requires in
-    (omega (arith, c.loop-j-test.true, leg), arrived_most a.train a.floors.now a.i a.k c.requires (c.loop-j.j + 1) (omega (arith, c.loop-j-test.true))) in
-    let few = (next-few).0 in search rules
+    let few = (next_few c.args.train c.args.floors.now c.args.i c.args.k c.requires c.loop-j.j c.loop-j-test.true).0 in search rules
 
 pub bounds-runs-j : goal.bounds-runs-j
 bounds-runs-j c =
-    let next-few : let a = c.args in let j = c.loop-j.j in (j + 1 < 11) × (arrived_by a.train a.floors.now a.i (j + 1) ≤ 12000) = let a = c.args in
-    let leg = alone_leg a.train a.floors.now a.i a.k c.requires in
-    (omega (arith, c.loop-j-test.true, leg), arrived_most a.train a.floors.now a.i a.k c.requires (c.loop-j.j + 1) (omega (arith, c.loop-j-test.true))) in
-    omega (arith, (next-few).0)
+    omega (arith, (next_few c.args.train c.args.floors.now c.args.i c.args.k c.requires c.loop-j.j c.loop-j-test.true).0)
 
 pub overflow_add-arrival-in-loop-j-2 : goal.overflow_add-arrival-in-loop-j-2
 overflow_add-arrival-in-loop-j-2 c =
-    let next-few : let a = c.args in let j = c.loop-j.j in (j + 1 < 11) × (arrived_by a.train a.floors.now a.i (j + 1) ≤ 12000) = let a = c.args in
-    let leg = alone_leg a.train a.floors.now a.i a.k c.requires in
-    (omega (arith, c.loop-j-test.true, leg), arrived_most a.train a.floors.now a.i a.k c.requires (c.loop-j.j + 1) (omega (arith, c.loop-j-test.true))) in
-    let step : let a = c.args in let j = c.loop-j.j in arrived_by a.train a.floors.now a.i (j + 1) ≡ max (arrived_by a.train a.floors.now a.i j + get_or a.train.stops j 0) (floor_in a.floors.now a.i (j + 1)) + get_or a.train.runs (j + 1) 0 = let a = c.args in
-    arrived_next a.train.runs a.train.stops a.floors.now _ a.i c.loop-j.j in
-    omega (arith, c.later-departure.ensures, c.floor_at.ensures, c.loop-j.invariant.1, step, (next-few).1)
+    omega (arith, c.later-departure.ensures, c.floor_at.ensures, c.loop-j.invariant.1, step c.args.train c.args.floors.now c.args.i c.loop-j.j, (next_few c.args.train c.args.floors.now c.args.i c.args.k c.requires c.loop-j.j c.loop-j-test.true).1)
 
 pub loop-j-preserved : goal.loop-j-preserved
 loop-j-preserved c =
-    let step : let a = c.args in let j = c.loop-j.j in arrived_by a.train a.floors.now a.i (j + 1) ≡ max (arrived_by a.train a.floors.now a.i j + get_or a.train.stops j 0) (floor_in a.floors.now a.i (j + 1)) + get_or a.train.runs (j + 1) 0 = let a = c.args in
-    arrived_next a.train.runs a.train.stops a.floors.now _ a.i c.loop-j.j in
-    (omega (arith, c.loop-j-test.true), omega (arith, c.later-departure.ensures, c.floor_at.ensures, c.loop-j.invariant.1, step))
+    (omega (arith, c.loop-j-test.true), omega (arith, c.later-departure.ensures, c.floor_at.ensures, c.loop-j.invariant.1, step c.args.train c.args.floors.now c.args.i c.loop-j.j))
 
 pub returns : goal.returns
 returns c =

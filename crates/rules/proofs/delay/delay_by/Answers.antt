@@ -1,7 +1,5 @@
 -- The answers; the idea of the proof is at the head of the invariants.
-use Rattle.std.proofs.Common.{◌≡◌, ◌-◌, ◌*◌, ◌≤◌, length, ◌∙◌, mul-le-mul, arith}
-use Rattle.line.specs.Runnable.{TrainRunnable}
-use Rattle.rules.specs.Statement.Paths.{train, Routed}
+use Rattle.std.proofs.Common.{ℕ, ◌≡◌, ◌-◌, ◌*◌, ◌≤◌, length, ◌∙◌, mul-le-mul, arith}
 use Rattle.rules.specs.StatementLaws.PathsLaws.{train_runnable, routed_runnable, legs_few}
 use Rattle.rules.specs.Check.Dues.{cost_by}
 use Rattle.rules.specs.Check.RulesLaws.{sum-next}
@@ -9,26 +7,30 @@ use Rattle.rules.proofs.Check.DuesLaws.{cost-start, cost_late, cost_none, cost-e
 use Rattle.rules.proofs.delay.delay_by.Goals as goal
 use Rattle.rules.proofs.delay.delay_by.Goals.{then-due-arrival, else-due-arrival}
 
+-- what one train costs: a weight of at most 99, and minutes that fit 16 bits
+most_cost : (w a d : ℕ) → w ≤ 99 → a ≤ 65535 → w * (a - d) ≤ 99 * 65535
+most_cost w a d x y = mul-le-mul {n₂ = 99} {m₂ = 65535} x (omega (arith, y))
+
 pub loop-i-init : goal.loop-i-init
 loop-i-init c =
     (omega arith, cost-start c.args.line.traffic.trains c.args.dues.now c.args.m.now, omega arith)
 
 pub overflow_sub-last : goal.overflow_sub-last
 overflow_sub-last c =
-    let runnable : let a = c.args in TrainRunnable a.line.track.station_count (train a.line c.loop-i.i) = let size : length c.args.line.traffic.trains ≡ 12 = omega arith in
-    train_runnable c.args.line c.loop-i.i c.requires.0 size c.loop-i-test.true in
-    let path : Routed (train c.args.line c.loop-i.i) = routed_runnable _ _ (runnable) c.requires.0.stations.1 in
-    omega (arith, c.legs_between-last.ensures, legs_few _ (path))
+    let size : length c.args.line.traffic.trains ≡ 12 = omega arith in
+    let runnable = train_runnable c.args.line c.loop-i.i c.requires.0 size c.loop-i-test.true in
+    let path = routed_runnable _ _ runnable c.requires.0.stations.1 in
+    omega (arith, c.legs_between-last.ensures, legs_few _ path)
 
 pub arrival_of-requires : goal.arrival_of-requires
 arrival_of-requires c =
-    let runnable : let a = c.args in TrainRunnable a.line.track.station_count (train a.line c.loop-i.i) = let size : length c.args.line.traffic.trains ≡ 12 = omega arith in
-    train_runnable c.args.line c.loop-i.i c.requires.0 size c.loop-i-test.true in
-    let path : Routed (train c.args.line c.loop-i.i) = routed_runnable _ _ (runnable) c.requires.0.stations.1 in (
+    let size : length c.args.line.traffic.trains ≡ 12 = omega arith in
+    let runnable = train_runnable c.args.line c.loop-i.i c.requires.0 size c.loop-i-test.true in
+    let path = routed_runnable _ _ runnable c.requires.0.stations.1 in (
       path,
       c.requires.2,
       omega (arith, c.loop-i-test.true, c.requires.0.trains),
-      omega (arith, c.legs_between-last.ensures, legs_few _ (path)),
+      omega (arith, c.legs_between-last.ensures, legs_few _ path),
     )
 
 pub bounds-dues-i : goal.bounds-dues-i
@@ -37,18 +39,16 @@ bounds-dues-i c =
 
 pub overflow_mul-total : goal.overflow_mul-total
 overflow_mul-total c =
-    let runnable : let a = c.args in TrainRunnable a.line.track.station_count (train a.line c.loop-i.i) = let size : length c.args.line.traffic.trains ≡ 12 = omega arith in
-    train_runnable c.args.line c.loop-i.i c.requires.0 size c.loop-i-test.true in
-    let most : c.wide.result * (c.wide-arrival.result - c.wide-due.result) ≤ 99 * 65535 = mul-le-mul {n₂ = 99} {m₂ = 65535} (omega (arith, c.wide.ensures.0, (runnable).weight))
-    (omega (arith, c.wide-arrival.ensures.1)) in
+    let size : length c.args.line.traffic.trains ≡ 12 = omega arith in
+    let runnable = train_runnable c.args.line c.loop-i.i c.requires.0 size c.loop-i-test.true in
+    let most = most_cost c.wide.result c.wide-arrival.result c.wide-due.result (omega (arith, c.wide.ensures.0, runnable.weight)) (omega (arith, c.wide-arrival.ensures.1)) in
     omega (arith, most)
 
 pub overflow_add-total : goal.overflow_add-total
 overflow_add-total c =
-    let runnable : let a = c.args in TrainRunnable a.line.track.station_count (train a.line c.loop-i.i) = let size : length c.args.line.traffic.trains ≡ 12 = omega arith in
-    train_runnable c.args.line c.loop-i.i c.requires.0 size c.loop-i-test.true in
-    let most : c.wide.result * (c.wide-arrival.result - c.wide-due.result) ≤ 99 * 65535 = mul-le-mul {n₂ = 99} {m₂ = 65535} (omega (arith, c.wide.ensures.0, (runnable).weight))
-    (omega (arith, c.wide-arrival.ensures.1)) in
+    let size : length c.args.line.traffic.trains ≡ 12 = omega arith in
+    let runnable = train_runnable c.args.line c.loop-i.i c.requires.0 size c.loop-i-test.true in
+    let most = most_cost c.wide.result c.wide-arrival.result c.wide-due.result (omega (arith, c.wide.ensures.0, runnable.weight)) (omega (arith, c.wide-arrival.ensures.1)) in
     omega (arith, most, c.loop-i.invariant.2, c.loop-i-test.true, c.requires.0.trains)
 
 pub loop-i-preserved : goal.loop-i-preserved
@@ -63,7 +63,7 @@ loop-i-preserved c =
     elim c.if-due-arrival.branch [
       | then-due-arrival w ↦
           (let late = cost_late trains c.args.dues.now c.args.m.now i.i legs last due w.wide.ensures.0 in
-          let most : w.wide.result * (c.wide-arrival.result - c.wide-due.result) ≤ 99 * 65535 = mul-le-mul {n₂ = 99} {m₂ = 65535}
+          let most = most_cost w.wide.result c.wide-arrival.result c.wide-due.result
           (omega (arith, w.wide.ensures.0, (train_runnable c.args.line i.i c.requires.0 size here).weight)) (omega (arith, c.wide-arrival.ensures.1)) in (
             omega (arith, here),
             w.total-is ∙ sum-next (cost_by trains c.args.dues.now c.args.m.now) i.i i.invariant.1 late,

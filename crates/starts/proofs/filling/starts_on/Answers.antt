@@ -11,18 +11,14 @@ pub returns-then-not-may_ask : goal.returns-then-not-may_ask
 returns-then-not-may_ask c = line_refused _ _ _ _ (c.may_ask.ensures.nay c.if-not-may_ask.true)
 
 pub overflow_sub-train : goal.overflow_sub-train
-overflow_sub-train c =
-    let asked : let a = c.args in Asked a.line.traffic.train_count a.train a.minutes.now (length a.totals.now) = c.may_ask.ensures.yea c.if-not-may_ask.false in
-    asked.there.0
+overflow_sub-train c = (c.may_ask.ensures.yea c.if-not-may_ask.false).there.0
 
 pub fill-requires : goal.fill-requires
 fill-requires c =
-    let asked : let a = c.args in Asked a.line.traffic.train_count a.train a.minutes.now (length a.totals.now) = c.may_ask.ensures.yea c.if-not-may_ask.false in
-    let a = asked in
-    let number : c.args.train ≡ c.args.train - 1 + 1 = omega (arith, a.there.0) in
-    (c.requires, subst (λ (t : ℕ). Asked c.args.line.traffic.train_count t c.args.minutes.now (length c.args.totals.now)) number a)
+    let asked = c.may_ask.ensures.yea c.if-not-may_ask.false in
+    let number : c.args.train ≡ c.args.train - 1 + 1 = omega (arith, asked.there.0) in
+    (c.requires, subst (λ (t : ℕ). Asked c.args.line.traffic.train_count t c.args.minutes.now (length c.args.totals.now)) number asked)
 
 pub returns : goal.returns
 returns c =
-    let asked : let a = c.args in Asked a.line.traffic.train_count a.train a.minutes.now (length a.totals.now) = c.may_ask.ensures.yea c.if-not-may_ask.false in
-    line_filled _ c.args.train _ _ asked c.fill.ensures
+    line_filled _ c.args.train _ _ (c.may_ask.ensures.yea c.if-not-may_ask.false) c.fill.ensures

@@ -11,14 +11,10 @@ use Rattle.text.specs.Writing.SpliceLaws.{putting_start, putting_step, putting_e
 use Rattle.timetable.specs.ListLaws.{byte_none, byte_some}
 use Rattle.timetable.specs.WritingLaws.{next_name, no_name, name_room, list-parts, list_size}
 use Rattle.timetable.proofs.writing.put_list.Goals as goal
-use Rattle.timetable.proofs.writing.put_list.Goals.{then-count-eq0, else-count-eq0}
 
 pub put_field-at-requires : goal.put_field-at-requires
 put_field-at-requires c =
-    let ends : c.if-count-eq0.b ≡ cond (eqb c.size_of-count.result 0) 10 32 = elim c.if-count-eq0.branch [
-      | then-count-eq0 w ↦ byte_none _ _ w.if-count-eq0.true w.b-is
-      | else-count-eq0 w ↦ byte_some _ _ w.if-count-eq0.false w.b-is
-    ] in
+    let ends : c.if-count-eq0.b ≡ cond (eqb c.size_of-count.result 0) 10 32 = grind (arith, byte_none, byte_some) in
     let count = c.size_of-count in
     (omega (arith, list_size c.args.list count.result count.ensures.0 ends, c.requires), omega (arith, count.ensures.1))
 
@@ -32,10 +28,7 @@ overflow_add-number c =
 
 pub put_field-at-requires-in-loop-k : goal.put_field-at-requires-in-loop-k
 put_field-at-requires-in-loop-k c =
-    let ends : c.if-count-eq0.b ≡ cond (eqb c.size_of-count.result 0) 10 32 = elim c.if-count-eq0.branch [
-      | then-count-eq0 w ↦ byte_none _ _ w.if-count-eq0.true w.b-is
-      | else-count-eq0 w ↦ byte_some _ _ w.if-count-eq0.false w.b-is
-    ] in
+    let ends : c.if-count-eq0.b ≡ cond (eqb c.size_of-count.result 0) 10 32 = grind (arith, byte_none, byte_some) in
     let here = c.loop-k-test.true in
     let w = c.loop-k in
     let put = c.put_field-at in
@@ -56,10 +49,7 @@ loop-k-preserved c =
 
 pub returns : goal.returns
 returns c =
-    let ends : c.if-count-eq0.b ≡ cond (eqb c.size_of-count.result 0) 10 32 = elim c.if-count-eq0.branch [
-      | then-count-eq0 w ↦ byte_none _ _ w.if-count-eq0.true w.b-is
-      | else-count-eq0 w ↦ byte_some _ _ w.if-count-eq0.false w.b-is
-    ] in
+    let ends : c.if-count-eq0.b ≡ cond (eqb c.size_of-count.result 0) 10 32 = grind (arith, byte_none, byte_some) in
     let w = c.loop-k in
     let put = c.put_field-at in
     let count = c.size_of-count in

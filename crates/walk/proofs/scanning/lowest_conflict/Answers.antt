@@ -1,20 +1,12 @@
 -- `walk::scanning::lowest_conflict` meets its contract: a segment's conflict is the lowest, and without one the station's. Assumes nothing.
-use mathlib.Core.Path.{◌≡◌, refl}
 use Rattle.rules.specs.Scan.StationLaws.{lowest_segment, lowest_station}
-use Rattle.rules.specs.declared.conflicts.Conflict.{Conflict}
-use Rattle.rules.specs.Conflict.Conflicts.{or_conflict}
+use Rattle.rules.specs.Conflict.ConflictsLaws.{conflict_kept}
 use Rattle.walk.proofs.scanning.lowest_conflict.Goals as goal
-
--- a conflict that is there goes before any other
-stays : (x : Conflict) → (x ≡ Conflict.Nothing → ⊥) → (c : Conflict) → or_conflict x c ≡ x
-stays Conflict.Nothing some c = absurd (some refl)
-stays (Conflict.OnSegment s) some c = refl
-stays (Conflict.AtStation s) some c = refl
 
 pub returns-in_default : goal.returns-in_default
 returns-in_default c =
     let a = c.args in
-    lowest_segment a.layout a.ds.now a.m.now _ c.segment_conflict-found.ensures (stays _ c.in_default.not-Nothing)
+    lowest_segment a.layout a.ds.now a.m.now _ c.segment_conflict-found.ensures (conflict_kept _ c.in_default.not-Nothing)
 
 pub returns : goal.returns
 returns c =
