@@ -1,28 +1,12 @@
 -- `orders::raising::follow` meets its contract: the choice is seen to arc by arc. The first lift leaves at most the arc between arrivals, and every solution
 -- has its minutes (`Halfway`); the second gives the least minutes or none. Each has as its source the event that its arc starts from.
-use Rattle.std.specs.Prelude.{ℕ, ◌≤◌, ◌<◌, ◌≡◌, true, List, get_or}
 use mathlib.Core.Path.{refl}
 use mathlib.Core.Logic.{inl, inr}
 use native.Mathlib.Omega.{arith}
 use Rattle.orders.proofs.Lift.TwoArcsLaws.{Halfway, halfway_as, departure_still, departure_dead, departure_lifted, arrival_still, arrival_lifted}
-use Rattle.orders.specs.Plan.Bits.{in_mask}
-use Rattle.orders.specs.Graph.LegGraph.{beside}
-use Rattle.orders.specs.Raise.LegTimes.{GoesBehind, source_of}
-use Rattle.orders.specs.Lift.Lifting.{Alive, Lifted, Choosing, Follows}
 use Rattle.orders.specs.Lift.LiftingLaws.{ready_leg}
 use Rattle.orders.proofs.raising.follow.Goals as goal
 use Rattle.orders.proofs.raising.follow.Goals.{then-m-f+else-c, else-m-f}
-
--- the departure was late, and is lifted
-lifted : {marks t ds m n o : List ℕ} {e j v w src cost cut r c : ℕ} → Choosing (Follows e j) m marks t ds e cost cut → j < 12 →
-    in_mask (get_or marks e 0) j ≡ true → GoesBehind m t ds e j v w → src ≡ source_of t ds e j → Lifted marks t ds src cut (beside e j) v 0 m n r →
-    Alive r → o ≡ n → c ≡ r → Halfway marks t ds e j cut m o c
-lifted p a b g q l z = halfway_as _ _ _ _ _ _ _ _ _ (departure_lifted _ _ _ _ _ _ _ _ _ p.ready.leg a b refl g _ _ _ q p _ _ l z) _ _
-
--- or it was late enough
-still : {marks t ds m o : List ℕ} {e j v w cost cut c : ℕ} → Choosing (Follows e j) m marks t ds e cost cut → j < 12 → in_mask (get_or marks e 0) j ≡ true →
-    GoesBehind m t ds e j v w → v ≤ get_or m (beside e j) 0 → o ≡ m → c ≡ cost → Halfway marks t ds e j cut m o c
-still p a b g l = halfway_as _ _ _ _ _ _ _ _ _ (departure_still _ _ _ _ _ _ _ _ _ p.ready.leg a b refl g _ _ _ refl p l) _ _
 
 pub lift-c-requires : goal.lift-c-requires
 lift-c-requires c =
@@ -41,11 +25,14 @@ returns-then-c c =
 pub lift-requires : goal.lift-requires
 lift-requires c =
     let half : let a = c.args in Halfway a.marks.now a.t.now a.ds.now a.e a.j a.cut a.m.now c.if-m-f.m c.if-m-f.c = elim c.if-m-f.branch [
-      | then-m-f+else-c w ↦ lifted c.requires.0 c.requires.1 c.requires.2 c.times_behind-b.ensures.0
-          w.source_of-src.ensures w.lift-c.ensures w.if-c.false w.m-is w.c-is
-      | else-m-f w ↦ still c.requires.0 c.requires.1 c.requires.2 c.times_behind-b.ensures.0 w.if-m-f.false w.m-is w.c-is
+      | then-m-f+else-c w ↦ halfway_as _ _ _ _ _ _ _ _ _
+          (departure_lifted _ _ _ _ _ _ _ _ _ c.requires.0.ready.leg c.requires.1 c.requires.2 refl c.times_behind-b.ensures.0 _ _ _
+          w.source_of-src.ensures c.requires.0 _ _ w.lift-c.ensures w.if-c.false) _ _ w.m-is w.c-is
+      | else-m-f w ↦ halfway_as _ _ _ _ _ _ _ _ _
+          (departure_still _ _ _ _ _ _ _ _ _ c.requires.0.ready.leg c.requires.1 c.requires.2 refl c.times_behind-b.ensures.0 _ _ _
+          refl c.requires.0 w.if-m-f.false) _ _ w.m-is w.c-is
     ] in
-    let r = half.choosing.ready in (
+    let r = (half).choosing.ready in (
       ready_leg _ _ _ _ _ _ _ _ r (r.shaped.beside_used c.args.e c.args.j r.leg c.requires.1 c.requires.2),
       inr c.if-m-f-2.true,
       omega arith,
@@ -54,19 +41,25 @@ lift-requires c =
 
 pub returns-then-m-f-2 : goal.returns-then-m-f-2
 returns-then-m-f-2 c =
-    arrival_lifted _ _ _ _ _ _ _ _ _ c.requires.0.ready.leg c.requires.1 c.requires.2 refl c.times_behind-b.ensures.0
-    c.if-m-f.m c.if-m-f.c c.args.cut (elim c.if-m-f.branch [
-      | then-m-f+else-c w ↦ lifted c.requires.0 c.requires.1 c.requires.2 c.times_behind-b.ensures.0
-          w.source_of-src.ensures w.lift-c.ensures w.if-c.false w.m-is w.c-is
-      | else-m-f w ↦ still c.requires.0 c.requires.1 c.requires.2 c.times_behind-b.ensures.0 w.if-m-f.false w.m-is w.c-is
-    ])
+    let half : let a = c.args in Halfway a.marks.now a.t.now a.ds.now a.e a.j a.cut a.m.now c.if-m-f.m c.if-m-f.c = elim c.if-m-f.branch [
+      | then-m-f+else-c w ↦ halfway_as _ _ _ _ _ _ _ _ _
+          (departure_lifted _ _ _ _ _ _ _ _ _ c.requires.0.ready.leg c.requires.1 c.requires.2 refl c.times_behind-b.ensures.0 _ _ _
+          w.source_of-src.ensures c.requires.0 _ _ w.lift-c.ensures w.if-c.false) _ _ w.m-is w.c-is
+      | else-m-f w ↦ halfway_as _ _ _ _ _ _ _ _ _
+          (departure_still _ _ _ _ _ _ _ _ _ c.requires.0.ready.leg c.requires.1 c.requires.2 refl c.times_behind-b.ensures.0 _ _ _
+          refl c.requires.0 w.if-m-f.false) _ _ w.m-is w.c-is
+    ] in
+    arrival_lifted _ _ _ _ _ _ _ _ _ c.requires.0.ready.leg c.requires.1 c.requires.2 refl c.times_behind-b.ensures.0 _ _ _ (half)
     c.if-m-f-2.true _ _ c.lift.ensures
 
 pub returns : goal.returns
 returns c =
-    arrival_still _ _ _ _ _ _ _ _ _ c.requires.0.ready.leg c.requires.1 c.requires.2 refl c.times_behind-b.ensures.0
-    c.if-m-f.m c.if-m-f.c c.args.cut (elim c.if-m-f.branch [
-      | then-m-f+else-c w ↦ lifted c.requires.0 c.requires.1 c.requires.2 c.times_behind-b.ensures.0
-          w.source_of-src.ensures w.lift-c.ensures w.if-c.false w.m-is w.c-is
-      | else-m-f w ↦ still c.requires.0 c.requires.1 c.requires.2 c.times_behind-b.ensures.0 w.if-m-f.false w.m-is w.c-is
-    ]) c.if-m-f-2.false
+    let half : let a = c.args in Halfway a.marks.now a.t.now a.ds.now a.e a.j a.cut a.m.now c.if-m-f.m c.if-m-f.c = elim c.if-m-f.branch [
+      | then-m-f+else-c w ↦ halfway_as _ _ _ _ _ _ _ _ _
+          (departure_lifted _ _ _ _ _ _ _ _ _ c.requires.0.ready.leg c.requires.1 c.requires.2 refl c.times_behind-b.ensures.0 _ _ _
+          w.source_of-src.ensures c.requires.0 _ _ w.lift-c.ensures w.if-c.false) _ _ w.m-is w.c-is
+      | else-m-f w ↦ halfway_as _ _ _ _ _ _ _ _ _
+          (departure_still _ _ _ _ _ _ _ _ _ c.requires.0.ready.leg c.requires.1 c.requires.2 refl c.times_behind-b.ensures.0 _ _ _
+          refl c.requires.0 w.if-m-f.false) _ _ w.m-is w.c-is
+    ] in
+    arrival_still _ _ _ _ _ _ _ _ _ c.requires.0.ready.leg c.requires.1 c.requires.2 refl c.times_behind-b.ensures.0 _ _ _ (half) c.if-m-f-2.false
