@@ -7,17 +7,10 @@ use native.Mathlib.Omega.{arith}
 use lib.ListN.{get_or}
 use Rattle.orders.specs.LineTables.Tables.{next_in}
 use Rattle.orders.specs.Lift.Lifting.{Alive, Ready}
-use Rattle.orders.specs.Lift.RaisedPaths.{LegRaised}
 use Rattle.orders.proofs.Lift.RaisedPathsLaws.{AlongPath, path_start, path_dead, path_ready, path_few, path_ends, path_still, path_next, left_falls}
 use Rattle.orders.proofs.raising.raise_path.Goals as goal
 
--- the path under way, from the minutes that its first leg was raised from
-along : {marks t ds : List ℕ} {src cut e v w : ℕ} {m o n : List ℕ} {d c f legs : ℕ} →
-    ((k : List ℕ) → LegRaised marks t ds src cut e v w k o d → AlongPath marks t ds src cut e v w k n c f legs) →
-    LegRaised marks t ds src cut e v w m o d → AlongPath marks t ds src cut e v w m n c f legs
-along i r = i _ r
-
--- and what its next leg is raised from
+-- what the next leg of the path is raised from
 next_ready : {marks t ds : List ℕ} {src cut e v w : ℕ} {m n : List ℕ} {c f legs g cost : ℕ} → AlongPath marks t ds src cut e v w m n c f legs → Alive c →
     g ≡ next_in t f → Ready m marks t ds e cost cut → Ready n marks t ds g c cut
 next_ready p a q r = path_ready _ _ _ _ _ _ _ _ _ _ _ _ _ p a _ q _ r
@@ -27,49 +20,49 @@ loop-c-init c = λ k l. path_start _ _ _ _ _ _ _ _ k _ _ c.requires.0.leg l
 
 pub next_at-next-requires : goal.next_at-next-requires
 next_at-next-requires c =
-    (c.requires.0.shaped.tables_size, (along c.loop-c.invariant c.raise_leg-c.ensures).leg.0)
+    (c.requires.0.shaped.tables_size, (c.loop-c.invariant _ c.raise_leg-c.ensures).leg.0)
 
 pub returns-then-next-f : goal.returns-then-next-f
 returns-then-next-f c =
-    path_ends _ _ _ _ _ _ _ _ _ _ _ _ _ (along c.loop-c.invariant c.raise_leg-c.ensures) c.loop-c-test.true _ c.next_at-next.ensures c.if-next-f.true
+    path_ends _ _ _ _ _ _ _ _ _ _ _ _ _ (c.loop-c.invariant _ c.raise_leg-c.ensures) c.loop-c-test.true _ c.next_at-next.ensures c.if-next-f.true
 
 pub overflow_add-ready : goal.overflow_add-ready
 overflow_add-ready c =
-    omega (arith, (along c.loop-c.invariant c.raise_leg-c.ensures).leg.0)
+    omega (arith, (c.loop-c.invariant _ c.raise_leg-c.ensures).leg.0)
 
 pub offset_bounds-m-f : goal.offset_bounds-m-f
 offset_bounds-m-f c =
-    omega (arith, (along c.loop-c.invariant c.raise_leg-c.ensures).leg.0)
+    omega (arith, (c.loop-c.invariant _ c.raise_leg-c.ensures).leg.0)
 
 pub stop_at-requires : goal.stop_at-requires
 stop_at-requires c =
-    (c.requires.0.shaped.tables_size, (along c.loop-c.invariant c.raise_leg-c.ensures).leg.0)
+    (c.requires.0.shaped.tables_size, (c.loop-c.invariant _ c.raise_leg-c.ensures).leg.0)
 
 pub overflow_add-ready-in-loop-c : goal.overflow_add-ready-in-loop-c
 overflow_add-ready-in-loop-c c =
-    let r = next_ready (along c.loop-c.invariant c.raise_leg-c.ensures) c.loop-c-test.true c.next_at-next.ensures c.requires.0 in
+    let r = next_ready (c.loop-c.invariant _ c.raise_leg-c.ensures) c.loop-c-test.true c.next_at-next.ensures c.requires.0 in
     let l = c.loop-c in
-    omega (arith, r.within (176 + l.f), c.stop_at.ensures, r.shaped.stop-most l.f (along c.loop-c.invariant c.raise_leg-c.ensures).leg.0)
+    omega (arith, r.within (176 + l.f), c.stop_at.ensures, r.shaped.stop-most l.f (c.loop-c.invariant _ c.raise_leg-c.ensures).leg.0)
 
 pub returns-then-m-next : goal.returns-then-m-next
 returns-then-m-next c =
-    path_still _ _ _ _ _ _ _ _ _ _ _ _ _ (along c.loop-c.invariant c.raise_leg-c.ensures) c.loop-c-test.true _
+    path_still _ _ _ _ _ _ _ _ _ _ _ _ _ (c.loop-c.invariant _ c.raise_leg-c.ensures) c.loop-c-test.true _
     c.next_at-next.ensures _ c.if-next-f.false
     (ap (λ (x : ℕ). get_or c.loop-c.m (176 + c.loop-c.f) 0 + x) c.stop_at.ensures) c.if-m-next.true
 
 pub raise_leg-c-requires-in-loop-c : goal.raise_leg-c-requires-in-loop-c
 raise_leg-c-requires-in-loop-c c =
-    let r = next_ready (along c.loop-c.invariant c.raise_leg-c.ensures) c.loop-c-test.true c.next_at-next.ensures c.requires.0 in
+    let r = next_ready (c.loop-c.invariant _ c.raise_leg-c.ensures) c.loop-c-test.true c.next_at-next.ensures c.requires.0 in
     let f = c.loop-c.f in (
       r,
       inl c.if-m-next.false,
-      omega (arith, r.within (176 + f), c.stop_at.ensures, r.shaped.stop-most f (along c.loop-c.invariant c.raise_leg-c.ensures).leg.0),
+      omega (arith, r.within (176 + f), c.stop_at.ensures, r.shaped.stop-most f (c.loop-c.invariant _ c.raise_leg-c.ensures).leg.0),
       omega arith,
     )
 
 pub overflow_add-legs : goal.overflow_add-legs
 overflow_add-legs c =
-    omega (arith, path_few _ _ _ _ _ _ _ _ _ _ _ _ _ (along c.loop-c.invariant c.raise_leg-c.ensures) c.loop-c-test.true c.requires.0.size)
+    omega (arith, path_few _ _ _ _ _ _ _ _ _ _ _ _ _ (c.loop-c.invariant _ c.raise_leg-c.ensures) c.loop-c-test.true c.requires.0.size)
 
 pub loop-c-smaller : goal.loop-c-smaller
 loop-c-smaller c =
@@ -84,5 +77,5 @@ loop-c-preserved c =
 
 pub returns : goal.returns
 returns c =
-    path_dead _ _ _ _ _ _ _ _ _ _ _ _ _ (along c.loop-c.invariant c.raise_leg-c.ensures)
+    path_dead _ _ _ _ _ _ _ _ _ _ _ _ _ (c.loop-c.invariant _ c.raise_leg-c.ensures)
     c.loop-c-test.false
