@@ -1,5 +1,5 @@
 -- The starred examples of document 01 hold: the walk, run on each line, finds the timetable that document 01 gives.
-use Rattle.std.specs.Prelude.{ℕ, ◌≡◌, refl, true, List, [], ◌∷◌}
+use Rattle.std.specs.Prelude.{ℕ, ◌≡◌, refl, true, List, [], ◌∷◌, Ok}
 use Rattle.finite.specs.Each.{Each}
 use Rattle.text.specs.Elements.Padded.{padded}
 use Rattle.text.specs.Elements.PaddedLaws.{padded-length, each_padded}
@@ -9,12 +9,10 @@ use Rattle.line.specs.declared.Kind.{Kind}
 use Rattle.line.specs.declared.Segment.{Segment}
 use Rattle.line.specs.declared.Train.{Train}
 use Rattle.line.specs.declared.Line.{Line}
-use Rattle.line.specs.declared.writing.Fault.{Fault}
 use Rattle.line.specs.Record.{no_segment, no_train, no_booking, no_listed}
 use Rattle.line.specs.Within.{TrainArrays, Arrays}
 use Rattle.line.specs.Writing.{number_fault, lines_fault, times_fault, segment_fault, path_fault, head_fault, train_fault, booking_fault, rising_fault, track_fault_of, traffic_fault_of, booked_fault_of, listed_fault, list_fault, fault_of}
 use Rattle.line.specs.WithinLaws.{within_of}
-use Rattle.rules.specs.declared.rules.Breach.{Breach}
 use Rattle.rules.specs.Statement.Paths.{segment_between}
 use Rattle.rules.specs.Statement.Rules.{Lawful, middle}
 use Rattle.rules.specs.Statement.Bookings.{floor_of}
@@ -80,14 +78,14 @@ unfolding
 answer_of l = (walk (planning l)).best
 
 answer :
-    (l : Line) (d : ℕ) (rows : List (List ℕ)) → Arrays l → fault_of l ≡ Fault.None → answer_of l ≡ found (minutes_of l rows) →
+    (l : Line) (d : ℕ) (rows : List (List ℕ)) → Arrays l → fault_of l ≡ Ok tt → answer_of l ≡ found (minutes_of l rows) →
     weighted_delay l (minutes_of l rows) ≡ d → ExampleAnswer l d rows
 unfolding answer_of
 answer l d rows a f e c = record { best = walk_best l (within_of l f) a (minutes_of l rows) e; delay = c }
 
 -- by the check of the rules
 costs :
-    (l : Line) (d : ℕ) (rows : List (List ℕ)) → Arrays l → fault_of l ≡ Fault.None → breach_of l (minutes_of l rows) ≡ Breach.None →
+    (l : Line) (d : ℕ) (rows : List (List ℕ)) → Arrays l → fault_of l ≡ Ok tt → breach_of l (minutes_of l rows) ≡ Ok tt →
     within_days (minutes_of l rows) ≡ true → weighted_delay l (minutes_of l rows) ≡ d → Costs l d rows
 costs l d rows a f b t c =
     let low = within_true (minutes_of l rows) t in

@@ -49,6 +49,17 @@ pub each_mem : {A : Type 0} (P : A → Type 0) (z : A) (xs : List A) → Each P 
 each_mem P z [] v m = absurd (Memᴰ.not-nil m)
 each_mem P z (x ∷ xs) v m = ⊎_elim (λ e. subst P (sym e) v.0) (each_mem P z xs v.1) (Memᴰ.cases_cons m)
 
+-- what holds of anything
+pub each_any : {A : Type 0} (xs : List A) → Each (λ x. Unit {0}) xs
+each_any [] = tt
+each_any (x ∷ xs) = (tt, each_any xs)
+
+-- what holds of each holds of element i
+pub each_get : {A : Type 0} (P : A → Type 0) (xs : List A) (i : ℕ) (d : A) → i < length xs → Each P xs → P (get_or xs i d)
+each_get P [] i d h e = absurd (omega arith)
+each_get P (x ∷ xs) zero d h e = e.0
+each_get P (x ∷ xs) (suc i) d h e = each_get P xs i d (omega arith) e.1
+
 -- what holds of each of the first n holds of element i
 pub each_at : {A : Type 0} (P : A → Type 0) (n : ℕ) (xs : List A) (i : ℕ) (d : A) → n ≤ length xs → i < n → Each P (take n xs) → P (get_or xs i d)
 each_at P zero xs i d full h e = absurd (omega arith)

@@ -7,16 +7,13 @@ use borrow.Author.Tests.{eq-eqb, ne_eqb, lt-ltb, le-ltb}
 use Rattle.finite.specs.Decide.{Decides}
 use Rattle.finite.specs.DecideLaws.{decides_as, decides_and, decides_eq}
 use Rattle.text.specs.declared.Cursor.{Cursor}
-use Rattle.text.specs.declared.Ending.{Ending}
 use Rattle.text.specs.Reading.Choice.{pick}
 use Rattle.text.specs.Reading.Parsed.{Parsed}
 use Rattle.text.proofs.Reading.ParsedLaws.{then_got, bad_got, got_is}
 use Rattle.text.specs.Reading.Fixed.{text_at}
-use Rattle.text.specs.Reading.Told.{told_ending}
 use Rattle.line.specs.declared.Train.{Train}
 use Rattle.line.specs.declared.Line.{Line}
 use Rattle.line.specs.Record.{legs_of}
-use Rattle.line.specs.FileLaws.{ended_told}
 use Rattle.rules.specs.Statement.Paths.{train, legs, segment_of}
 use Rattle.gtfs.specs.declared.stops.Stop.{Stop}
 use Rattle.gtfs.specs.declared.stops.StopTime.{StopTime}
@@ -176,6 +173,5 @@ pub end_later : (t : Train) {k n : ℕ} {b : Bool} → (k ≡ 0 → ⊥) → n �
 end_later t {k} e f h = rw (ne_eqb k 0 e) (h ∙ ap (eqb k) f)
 
 -- the line of the stop that is due, as a call told it that was given that stop
-pub due_told : (s : List ℕ) (c : Cursor) (x : StopTime) {stop due : Stop} {e end : Ending} → stop ≡ due → told_ending e x ≡ due_at stop s c → e ≡ end →
-    due_at due s c ≡ told_ending end x
-due_told s c x is told ends = ap (λ (d : Stop). due_at d s c) (sym is) ∙ sym told ∙ ended_told _ ends
+pub due_told : (s : List ℕ) (c : Cursor) {stop due : Stop} {r : Parsed StopTime} → stop ≡ due → r ≡ due_at stop s c → due_at due s c ≡ r
+due_told s c is told = ap (λ (d : Stop). due_at d s c) (sym is) ∙ sym told

@@ -1,11 +1,10 @@
 -- Laws of one line of stop_times.txt: each step of its reading, what is read is its text, a text is read as its value, and where the cursor stands after it.
-use Rattle.std.specs.Prelude.{ℕ, ◌+◌, ◌*◌, ◌/◌, ◌%◌, ◌≤◌, ◌≡◌, Bool, true, ◌&&◌, List, [], ◌∷◌, ◌++◌, ltb}
+use Rattle.std.specs.Prelude.{ℕ, ◌+◌, ◌*◌, ◌/◌, ◌%◌, ◌≤◌, ◌≡◌, Bool, true, ◌&&◌, List, [], ◌∷◌, ◌++◌, Option, Some, None, ltb}
 use Rattle.std.proofs.Math.Path.{refl}
 use Rattle.std.proofs.Common.{ap, ◌∙◌, true≢false, arith}
 use Rattle.finite.specs.Decide.{Decides}
 use Rattle.finite.specs.DecideLaws.{decides_and, decides_lt}
 use Rattle.text.specs.declared.Cursor.{Cursor}
-use Rattle.text.specs.declared.Digit.{Digit}
 use Rattle.text.specs.Reading.Bytes.{from, digit_of}
 use Rattle.text.specs.Reading.BytesLaws.{digit_worth, feed_ends}
 use Rattle.text.specs.Reading.Parsed.{Parsed}
@@ -151,12 +150,12 @@ time-spelt s c x next e =
 -- ---- a text is read as its value
 
 -- a comma is no digit
-comma_ends : digit_of 44 ≡ Digit.Other
+comma_ends : digit_of 44 ≡ None
 comma_ends = go (digit_of 44) refl
   where
-    go : (d : Digit) → digit_of 44 ≡ d → d ≡ Digit.Other
-    go (Digit.Worth v) e = absurd (omega (arith, (digit_worth 44 v e).low))
-    go Digit.Other e = refl
+    go : (d : Option ℕ) → digit_of 44 ≡ d → d ≡ None
+    go (Some v) e = absurd (omega (arith, (digit_worth 44 v e).low))
+    go None e = refl
 
 clock_reads : (s : List ℕ) (c : Cursor) (v : ℕ) (rest : List ℕ) → v ≤ 2879 → from s c ≡ clock_text v rest → Reads (clock_at s c) v s rest
 unfolding clock_at

@@ -1,13 +1,11 @@
 -- What export and import answer: a fault of the line file comes first, then one of the text that is read for its line.
-use Rattle.std.specs.Prelude.{ℕ, List, [], replicate}
+use Rattle.std.specs.Prelude.{ℕ, List, []}
 use Rattle.text.specs.Reading.Parsed.{Parsed, then_read, map_parsed}
 use Rattle.text.specs.Writing.Lend.{Spelling}
-use Rattle.line.specs.declared.Answer.{Answer}
 use Rattle.line.specs.declared.Line.{Line}
 use Rattle.line.specs.File.{line_file}
 use Rattle.timetable.specs.Reading.{Timetable, timetable_file}
 use Rattle.timetable.specs.Spell.{minutes_text}
-use Rattle.gtfs.specs.declared.importing.Imported.{Imported}
 use Rattle.gtfs.specs.Spell.{stop_times_text}
 use Rattle.gtfs.specs.Reading.{stop_times_file}
 
@@ -27,11 +25,6 @@ exporting file s = spelt (then_read (line_file file) (λ l _. stop_times_of l (t
 -- "Read the same form back for a given line file": the minutes
 unfoldable pub minutes_of : List ℕ → List ℕ → Parsed (List ℕ)
 minutes_of file s = then_read (line_file file) (λ l _. stop_times_file l s)
-
--- as a record; refused, all minutes are 0
-abbrev pub imported : Parsed (List ℕ) → Imported
-imported (Parsed.got m c) = record { answer = Answer.Accepted; minutes = m }
-imported (Parsed.bad n p) = record { answer = Answer.Refused n p; minutes = replicate 352 0 }
 
 -- as a text of a line: the train count and the train lines, which is what K8's first check reads
 abbrev pub lines_of : Line → Parsed (List ℕ) → Parsed (List ℕ)

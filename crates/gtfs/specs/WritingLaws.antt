@@ -5,14 +5,14 @@ use Rattle.std.proofs.Math.Path.{refl, sym, ap}
 use Rattle.std.proofs.Common.{◌∙◌, length-append}
 use mathlib.Core.List.{List, [], ◌∷◌, ◌++◌, append_assoc}
 use native.Mathlib.Omega.{arith}
+use Rattle.text.specs.Writing.SpliceLaws.{part_fits, Putting, putting_room}
 use Rattle.text.specs.Writing.Digits.{field_text}
-use Rattle.text.specs.Writing.SpliceLaws.{Putting, putting_room}
 use Rattle.line.specs.declared.Train.{Train}
 use Rattle.line.specs.declared.Line.{Line}
 use Rattle.rules.specs.Statement.Paths.{train, legs}
 use Rattle.gtfs.specs.declared.stops.StopTime.{StopTime}
 use Rattle.gtfs.specs.Stops.{origin_time, time_after}
-use Rattle.gtfs.specs.Spell.{header, clock_text, stop_time_text, stops_text, trip_text, trips_text, stop_times_text}
+use Rattle.gtfs.specs.Spell.{header, stop_time_text, stops_text, trip_text, trips_text, stop_times_text, clock_text}
 
 -- ---- a line
 
@@ -68,6 +68,12 @@ module _ (t : Train) (m : List ℕ) (i : ℕ) where
         rw none refl
 
     -- a line fits where the whole does
+    pub stop_fits : (now : List ℕ) {whole : List ℕ} → now ++ stops_text (n - j) t m i j [] ≡ whole → j < n →
+        length now + length (stop_time_text (time_after t m i j) []) ≤ length whole
+    stop_fits now left h =
+        part_fits now (stop_time_text (time_after t m i j) []) (stops_text (n - (j + 1)) t m i (j + 1) [])
+        (ap (λ (x : List ℕ). now ++ x) (sym (next-stop h)) ∙ left)
+
     pub stop_room : {entry : List ℕ} {start : ℕ} {whole now : List ℕ} {at : ℕ} → Putting entry start whole now at (stops_text (n - j) t m i j []) → j < n →
         start + length whole ≤ length entry → at + length (stop_time_text (time_after t m i j) []) ≤ length now
     stop_room putting h fits = putting_room (stop_time_text (time_after t m i j) []) (stops_text (n - (j + 1)) t m i (j + 1) []) putting (next-stop h) fits
@@ -105,6 +111,12 @@ module _ (l : Line) (m : List ℕ) (n i : ℕ) where
   no_trip e =
       let none : n - i ≡ 0 = omega arith in
       rw none refl
+
+  pub trip_fits : (now : List ℕ) {whole : List ℕ} → now ++ trips_text (n - i) l m i [] ≡ whole → i < n →
+      length now + length (trip_text (legs l i) (train l i) m i []) ≤ length whole
+  trip_fits now left h =
+      part_fits now (trip_text (legs l i) (train l i) m i []) (trips_text (n - (i + 1)) l m (i + 1) [])
+      (ap (λ (x : List ℕ). now ++ x) (sym (next_trip h)) ∙ left)
 
   pub trip_room : {entry : List ℕ} {start : ℕ} {whole now : List ℕ} {at : ℕ} → Putting entry start whole now at (trips_text (n - i) l m i []) → i < n →
       start + length whole ≤ length entry → at + length (trip_text (legs l i) (train l i) m i []) ≤ length now

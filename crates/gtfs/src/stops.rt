@@ -26,6 +26,7 @@ pub struct StopTime {
 }
 
 // The number of station k of a path between these stations, from 0.
+#[tactic(auto, unfolding(crate::specs::Stops::station_between))]
 fn station_between(origin: u16, destination: u16, k: usize) -> u16
     requires { (origin ≤ 12) × (destination ≤ 12) × (k ≤ legs_between origin destination) }
     ensures { result ≡ station_between origin destination k }
@@ -38,17 +39,17 @@ fn station_between(origin: u16, destination: u16, k: usize) -> u16
 }
 
 // Stop k of a train, which is train i, from 0.
+#[tactic(auto, unfolding(crate::specs::Stops::stop_on))]
 pub fn stop_on(train: Train, i: usize, k: usize) -> Stop
     requires { Routed train × (i < 12) × (k ≤ legs_of train) }
     ensures { result ≡ stop_on train i k }
 {
     let legs = legs_between(train.origin, train.destination);
-    let end = if k == 0 { true } else { k == legs };
     Stop {
         trip: i as u16 + 1,
         station: station_between(train.origin, train.destination, k),
         sequence: k as u16 + 1,
-        end,
+        end: k == 0 || k == legs,
     }
 }
 

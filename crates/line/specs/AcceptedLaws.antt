@@ -1,5 +1,5 @@
 -- What is accepted is the text of its line: each part that was read is within the limits, and its bytes are its text.
-use Rattle.std.specs.Prelude.{ℕ, zero, suc, ◌-◌, ◌<◌, ◌≤◌, ◌≡◌, Bool, true, false, not, ltb, eqb, length, take}
+use Rattle.std.specs.Prelude.{ℕ, zero, suc, ◌-◌, ◌<◌, ◌≤◌, ◌≡◌, Bool, true, false, not, Option, Some, None, ltb, eqb, length, take}
 use Rattle.std.proofs.Math.Path.{refl, ap}
 use Rattle.std.proofs.Common.{sym, ◌∙◌, ltb-true, ltb-false, drop_of_length-le}
 use mathlib.Core.List.{List, [], ◌∷◌}
@@ -7,8 +7,7 @@ use native.Mathlib.Omega.{arith}
 use Rattle.std.proofs.lemmas.Bool.{eqb-false, not-false}
 use Rattle.text.specs.declared.Cursor.{Cursor}
 use Rattle.text.specs.declared.Limits.{Limits}
-use Rattle.text.specs.declared.Step.{Step}
-use Rattle.text.specs.Reading.Choice.{pick, on_step}
+use Rattle.text.specs.Reading.Choice.{pick, on_some}
 use Rattle.text.specs.Reading.Bytes.{byte_at, from, ahead, past_of}
 use Rattle.text.specs.Reading.BytesLaws.{from_cons, past_spelt}
 use Rattle.text.specs.Elements.Padded.{padded}
@@ -25,14 +24,14 @@ use Rattle.line.specs.declared.Train.{Train}
 use Rattle.line.specs.declared.Booking.{Booking}
 use Rattle.line.specs.declared.Listed.{Listed}
 use Rattle.line.specs.declared.Line.{Line}
-use Rattle.line.specs.declared.reading.Letter.{Letter}
 use Rattle.line.specs.declared.reading.Path.{Path}
 use Rattle.line.specs.declared.reading.Head.{Head}
+use Rattle.line.specs.declared.reading.Section.{Section}
 use Rattle.line.specs.Ranges.{In, station_count, tracks, gap, train_count, train_number, booking_count, list_count, newest, station, time, weight, run, stop}
 use Rattle.line.specs.Record.{no_segment, no_train, no_booking, no_listed, Further, line_with, legs_between, tidy_train}
 use Rattle.line.specs.Bookings.{bookable}
 use Rattle.line.specs.BookingsLaws.{decides_bookable}
-use Rattle.line.specs.File.{number, station_line, letter_of, on_letter, kind_at, segment_line, path_at, head_at, Journey, journey_at, train_with, train_line, Section, used_in, section_at, station_section, segment_section, train_section, booking_line, rising_at, null, rising_section, booking_section, listed_line, due_section, further_at, joins, line_from, line_at, line_file}
+use Rattle.line.specs.File.{number, station_line, letter_of, kind_at, segment_line, path_at, head_at, Journey, journey_at, train_with, train_line, used_in, section_at, station_section, segment_section, train_section, booking_line, rising_at, null, rising_section, booking_section, listed_line, due_section, further_at, joins, line_from, line_at, line_file}
 use Rattle.line.specs.Spell.{field, station_text, letter_byte, segment_text, journey_text, train_text, booking_text, listed_text, counted_text, further_text}
 use Rattle.line.specs.RecordLaws.{path_legs}
 use Rattle.line.specs.FileLaws.{letter_byte_lem, letter_inside}
@@ -63,21 +62,21 @@ kind_spelt : (s : List ℕ) (c : Cursor) (k : Kind) (next : Cursor) → kind_at 
 unfolding kind_at
 kind_spelt s c k next e = go (letter_of (byte_at s c)) refl e
   where
-    step : (m : Kind) → letter_of (byte_at s c) ≡ Letter.Found m → (y : Step) → past_of s (ahead c) 32 ≡ y →
-        on_step y (λ x. Parsed.got m x) (Parsed.bad 2 c.line) ≡ Parsed.got k next → from s c ≡ letter_byte k ∷ (32 ∷ from s next)
-    step m hx (Step.Next x) hy f =
+    step : (m : Kind) → letter_of (byte_at s c) ≡ Some m → (y : Option Cursor) → past_of s (ahead c) 32 ≡ y →
+        on_some y (λ x. Parsed.got m x) (Parsed.bad 2 c.line) ≡ Parsed.got k next → from s c ≡ letter_byte k ∷ (32 ∷ from s next)
+    step m hx (Some x) hy f =
         let q : m ≡ k = cc in
         let z : x ≡ next = cc in
         let w = letter_byte_lem (byte_at s c) m hx in
         let t : from s c ≡ letter_byte m ∷ from s (ahead c) = rw w at (from_cons s c (letter_inside s c m hx)) in
         rw (← q, ← z) (t ∙ ap (λ (l : List ℕ). letter_byte m ∷ l) (past_spelt s (ahead c) x 32 (omega arith) hy))
-    step m hx Step.Wrong hy f = let z : ◌≡◌ {A = ℕ} 0 1 = cc in absurd (omega arith)
+    step m hx None hy f = let z : ◌≡◌ {A = ℕ} 0 1 = cc in absurd (omega arith)
 
-    go : (x : Letter) → letter_of (byte_at s c) ≡ x →
-        on_letter x (λ m. on_step (past_of s (ahead c) 32) (λ y. Parsed.got m y) (Parsed.bad 2 c.line)) (Parsed.bad 2 c.line) ≡ Parsed.got k next →
+    go : (x : Option Kind) → letter_of (byte_at s c) ≡ x →
+        on_some x (λ m. on_some (past_of s (ahead c) 32) (λ y. Parsed.got m y) (Parsed.bad 2 c.line)) (Parsed.bad 2 c.line) ≡ Parsed.got k next →
         from s c ≡ letter_byte k ∷ (32 ∷ from s next)
-    go (Letter.Found m) hx f = step m hx (past_of s (ahead c) 32) refl f
-    go Letter.Other hx f = let z : ◌≡◌ {A = ℕ} 0 1 = cc in absurd (omega arith)
+    go (Some m) hx f = step m hx (past_of s (ahead c) 32) refl f
+    go None hx f = let z : ◌≡◌ {A = ℕ} 0 1 = cc in absurd (omega arith)
 
 segment-spelt : (s : List ℕ) (c : Cursor) (g : Segment) (next : Cursor) → segment_line s c ≡ Parsed.got g next →
     PartSpelt SegmentWithin segment_text s c g next
@@ -257,7 +256,7 @@ module _ (n : ℕ) (few : n ≤ 12) (s : List ℕ) where
 
 -- a section that was read: the entries xs of its array, each within the limits, and its text
 record SectionSpelt {A : Type 0} (r : Limits) (size : ℕ) (none : A) (P : A → Type 0) (text : A → List ℕ → List ℕ) (s : List ℕ) (c : Cursor)
-    (x : Section A) (next : Cursor) : Type 0 where
+    (x : Section A size) (next : Cursor) : Type 0 where
   xs : List A
   range : In r x.count
   many : length xs ≡ x.count
@@ -267,7 +266,7 @@ record SectionSpelt {A : Type 0} (r : Limits) (size : ℕ) (none : A) (P : A →
 
 section_spelt : {A : Type 0} (r : Limits) (size : ℕ) (none : A) (P : A → Type 0) (text : A → List ℕ → List ℕ) (line : List ℕ → Cursor → Parsed A)
     (s : List ℕ) → ((c : Cursor) (x : A) (next : Cursor) → line s c ≡ Parsed.got x next → PartSpelt P text s c x next) →
-    (c : Cursor) (x : Section A) (next : Cursor) → section_at r size none line s c ≡ Parsed.got x next → SectionSpelt r size none P text s c x next
+    (c : Cursor) (x : Section A size) (next : Cursor) → section_at r size none line s c ≡ Parsed.got x next → SectionSpelt r size none P text s c x next
 unfolding section_at
 section_spelt r size none P text line s one c x next e =
     let n = then_got (number r 10 s c) _ x next e in
@@ -346,7 +345,7 @@ module _ {A : Type 0} (r : Limits) (none : A) (line : A → List ℕ → Cursor 
       optional_spelt 3 [] null refl (rising_at r none line) s RisingWithin (counted_text text) (omega arith, tt) rising_spelt c xs next e
 
 -- of a line with these trains
-further_spelt : (n : ℕ) (z : Section Train) (trains : List Train) → used_in z ≡ trains → (s : List ℕ) (c : Cursor) (x : Further) (next : Cursor) →
+further_spelt : (n : ℕ) (z : Section Train 12) (trains : List Train) → used_in z ≡ trains → (s : List ℕ) (c : Cursor) (x : Further) (next : Cursor) →
     further_at n z s c ≡ Parsed.got x next → from s next ≡ [] → FurtherWithin n z.count trains x × (from s c ≡ further_text x)
 unfolding further_at
 further_spelt n z trains used s c x next e end =
@@ -389,12 +388,12 @@ pub record LineRead (s : List ℕ) (l : Line) : Type 0 where
   pub text : s ≡ field n 10 (each_then station_text ts (field (n - 1) 10 (each_then segment_text gs (field t 10 (each_then train_text trs (further_text x))))))
 
 -- the used entries of a section that was read
-used_spelt : {A : Type 0} (size : ℕ) (none : A) (x : Section A) (xs : List A) → length xs ≡ x.count → x.count ≤ size → x.entries ≡ padded size none xs → used_in x ≡ xs
+used_spelt : {A : Type 0} (size : ℕ) (none : A) (x : Section A size) (xs : List A) → length xs ≡ x.count → x.count ≤ size → x.entries ≡ padded size none xs → used_in x ≡ xs
 used_spelt size none x xs many few array =
     ap (take x.count) array ∙ ap (λ (k : ℕ). take k (padded size none xs)) (sym many) ∙ take-padded size none xs (omega (arith, many))
 
 -- the line of three sections and those past them
-line_of_lem : (s : List ℕ) (x : Section ℕ) (y : Section Segment) (z : Section Train) (u : Further) (c c₁ c₂ c₃ : Cursor) → from s c ≡ s →
+line_of_lem : (s : List ℕ) (x : Section ℕ 12) (y : Section Segment 11) (z : Section Train 12) (u : Further) (c c₁ c₂ c₃ : Cursor) → from s c ≡ s →
     SectionSpelt station_count 12 0 (In tracks) station_text s c x c₁ → SectionSpelt (joins x.count) 11 no_segment SegmentWithin segment_text s c₁ y c₂ →
     (d : SectionSpelt train_count 12 no_train (TrainRead x.count) train_text s c₂ z c₃) →
     FurtherWithin x.count z.count d.xs u × (from s c₃ ≡ further_text u) → LineRead s (line_from x y z u)

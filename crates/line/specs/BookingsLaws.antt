@@ -1,16 +1,16 @@
 -- Laws of bookings: where one may stand, and their trains. Of where one may stand: the tests decide the statements; of the trains only the one booked
 -- matters, and of that only origin and destination, so that a booking within the limits is one too where their entries beyond the path are emptied.
 use Rattle.std.specs.Prelude.{ℕ, zero, suc, ◌-◌, ◌≤◌, ◌≡◌, refl, List, [], ◌∷◌, map, get_or, take}
-use Rattle.std.proofs.Common.{sym, ap, ◌∙◌, arith, get_or-take}
 use Rattle.std.proofs.lemmas.List.{length-map}
-use Rattle.std.proofs.Math.ListN.{get_or-map}
+use Rattle.std.proofs.Common.{sym, ap, ◌∙◌, arith, get_or-take}
 use Rattle.finite.specs.Decide.{Decides}
 use Rattle.finite.specs.DecideLaws.{decides_lt, decides_eq, decides_and, decides_or}
 use Rattle.line.specs.declared.Train.{Train}
 use Rattle.line.specs.declared.Booking.{Booking}
 use Rattle.line.specs.Record.{no_train, tidy_train}
-use Rattle.line.specs.Bookings.{Rises, rises, Between, between, numbered, stands_after, bookable}
+use Rattle.line.specs.Bookings.{Rises, rises, Between, between, numbered, bookable, stands_after}
 use Rattle.line.specs.Within.{BookingWithin}
+use Rattle.std.proofs.Math.ListN.{get_or-map}
 
 pub decides_rises : (a : Booking) (t s : ℕ) → Decides (Rises a t s) (rises a t s)
 decides_rises a t s = decides_or (decides_lt a.train t) (decides_and (decides_eq a.train t) (decides_lt a.station s))

@@ -1,6 +1,7 @@
 -- Places of the writer: "Writing a record gives 3 or 4 with the line its field would have", and 19 so too. The sums of counts that name a line are right: in the text of
 -- the record, what is at fault begins on that line (`fault_begins`), and there a reader's cursor stands on it (`begins_line`).
-use Rattle.std.specs.Prelude.{ℕ, suc, ◌+◌, ◌-◌, ◌<◌, ◌≤◌, ◌⊎◌, Bool, true, not, ◌&&◌, eqb, ltb, length, get_or, take, drop}
+use Rattle.std.specs.Prelude.{ℕ, suc, ◌+◌, ◌-◌, ◌<◌, ◌≤◌, ◌⊎◌, Bool, true, not, ◌&&◌, eqb, ltb, length, get_or, take, drop, Option, Some, None, Ok, Err}
+use Rattle.std.specs.Result.{result_and}
 use Rattle.std.proofs.Math.Path.{◌≡◌, refl, sym, ap}
 use Rattle.std.proofs.Common.{◌∙◌, length-take-le}
 use Rattle.std.proofs.Math.Logic.{inl, inr, ⊎_elim}
@@ -9,10 +10,11 @@ use mathlib.Core.List.{List, [], ◌∷◌, ◌++◌, append_assoc}
 use Rattle.std.proofs.Math.Decide.{dec_le}
 use native.Mathlib.Omega.{arith}
 use borrow.Author.Tests.{ne_eqb}
-use Rattle.text.specs.declared.Bounded.{Bounded}
 use Rattle.text.specs.declared.Limits.{Limits}
-use Rattle.text.specs.Reading.Choice.{pick, on_bounded}
+use Rattle.text.specs.declared.Refusal.{Refusal}
+use Rattle.text.specs.Reading.Choice.{pick}
 use Rattle.text.specs.Reading.Limits.{bounded_of}
+use Rattle.text.specs.Reading.Told.{refusal}
 use Rattle.text.specs.Writing.Digits.{digits, field_text}
 use Rattle.text.specs.Elements.EachThen.{each_then}
 use Rattle.text.specs.Sections.Chained.{nothing, optional_text}
@@ -25,14 +27,13 @@ use Rattle.line.specs.declared.Train.{Train}
 use Rattle.line.specs.declared.Booking.{Booking}
 use Rattle.line.specs.declared.Listed.{Listed}
 use Rattle.line.specs.declared.Line.{Line}
-use Rattle.line.specs.declared.writing.Fault.{Fault}
 use Rattle.line.specs.Ranges.{In, station_count, tracks, gap, train_count, train_number, booking_count, list_count, station, time, weight, run, stop}
 use Rattle.line.specs.Record.{no_segment, no_train, no_booking, no_listed, tracks_of, segments_of, trains_of, bookings_of, runs_of, stops_of}
 use Rattle.line.specs.Bookings.{bookable}
 use Rattle.line.specs.Within.{Arrays}
 use Rattle.line.specs.Spell.{field, station_text, letter_byte, segment_text, journey_text, train_text, booking_text, listed_text, array_text, booked_text, unbooked, train_list_text, unlisted, dues_text, text_of}
 use Rattle.line.specs.SpellLaws.{station_then, segment_then, train_then, booking_then, listed_then, each_then_lem, field-some}
-use Rattle.line.specs.Writing.{then_fault, number_fault, lines_fault, times_fault, track_fault, segment_fault, path_fault, head_fault, train_fault, booking_fault, listed_fault, rising_fault, counted_fault, track_fault_of, traffic_fault_of, bookings_line, booked_fault_of, list_fault, dues_line, dues_fault_of, fault_of}
+use Rattle.line.specs.Writing.{Checked, value_fault, number_fault, lines_fault, times_fault, track_fault, segment_fault, path_fault, head_fault, train_fault, booking_fault, listed_fault, rising_fault, counted_fault, track_fault_of, traffic_fault_of, bookings_line, booked_fault_of, list_fault, dues_line, dues_fault_of, fault_of}
 use Rattle.line.specs.FaultLaws.{tells_number, stations_fit, trains_fit, bookings_fit}
 
 -- ---- each line has one line feed, its last byte
@@ -241,29 +242,29 @@ module _ (l : Line) (arrays : Arrays l) (few : In station_count l.track.station_
 -- ---- the line that a fault names
 
 -- a check that finds faults on line p only
-record OnlyOn (p : ℕ) (f : Fault) : Type 0 where
-  line : (m q : ℕ) → f ≡ Fault.At m q → p ≡ q
+record OnlyOn (p : ℕ) (f : Checked) : Type 0 where
+  line : (m q : ℕ) → f ≡ refusal m q → p ≡ q
 
-only_none : (p : ℕ) → OnlyOn p Fault.None
+only_none : (p : ℕ) → OnlyOn p (Ok tt)
 only_none p = record { line = λ m q e. let z : ◌≡◌ {A = ℕ} 0 1 = cc in absurd (omega arith) }
 
-only_at : (n p : ℕ) → OnlyOn p (Fault.At n p)
-only_at n p = record { line = λ m q e. cc }
+only_at : (n p : ℕ) → OnlyOn p (refusal n p)
+only_at n p = record { line = λ m q e. let r : ◌≡◌ {A = Refusal} (record { number = n; place = p }) (record { number = m; place = q }) = cc in ap (λ (x : Refusal). x.place) r }
 
-only_then : (p : ℕ) (a b : Fault) → OnlyOn p a → OnlyOn p b → OnlyOn p (then_fault a b)
-only_then p Fault.None b h g = g
-only_then p (Fault.At m q) b h g = h
+only_then : (p : ℕ) (a b : Checked) → OnlyOn p a → OnlyOn p b → OnlyOn p (result_and a b)
+only_then p (Ok u) b h g = g
+only_then p (Err r) b h g = h
 
 only_number : (r : Limits) (x p : ℕ) → OnlyOn p (number_fault r x p)
 unfolding number_fault
 only_number r x p = go (bounded_of r.min r.max x)
   where
-    go : (b : Bounded) → OnlyOn p (on_bounded b (λ v. Fault.None) (Fault.At 3 p))
-    go (Bounded.Within v) = only_none p
-    go Bounded.Outside = only_at 3 p
+    go : (b : Option ℕ) → OnlyOn p (value_fault b p)
+    go (Some v) = only_none p
+    go None = only_at 3 p
 
 -- a test before what follows it
-only_test : (n p : ℕ) (b : Bool) (f : Fault) → OnlyOn p f → OnlyOn p (pick b (Fault.At n p) f)
+only_test : (n p : ℕ) (b : Bool) (f : Checked) → OnlyOn p f → OnlyOn p (pick b (refusal n p) f)
 only_test n p true f h = only_at n p
 only_test n p false f h = h
 
@@ -303,23 +304,23 @@ only_listed k r before p x =
 -- ---- what is at fault begins on the line that the fault names
 
 -- x is at fault, with number m on line p, and its text begins on line p of the text s
-pub record Faulty {A : Type 0} (s : List ℕ) (text : A → List ℕ → List ℕ) (check : ℕ → A → Fault) (m p : ℕ) : Type 0 where
+pub record Faulty {A : Type 0} (s : List ℕ) (text : A → List ℕ → List ℕ) (check : ℕ → A → Checked) (m p : ℕ) : Type 0 where
   pub x : A
-  pub fault : check p x ≡ Fault.At m p
+  pub fault : check p x ≡ refusal m p
   pub begins : Begins s (text x) p
 
-either : (a b : Fault) (m p : ℕ) → then_fault a b ≡ Fault.At m p → (a ≡ Fault.At m p) ⊎ ((a ≡ Fault.None) × (b ≡ Fault.At m p))
-either Fault.None b m p e = inr (refl, e)
-either (Fault.At n q) b m p e = inl e
+either : (a b : Checked) (m p : ℕ) → result_and a b ≡ refusal m p → (a ≡ refusal m p) ⊎ ((a ≡ Ok tt) × (b ≡ refusal m p))
+either (Ok u) b m p e = inr (refl, e)
+either (Err r) b m p e = inl e
 
 -- of lines in a row, the one at fault
-module _ {A : Type 0} (s : List ℕ) (text : A → List ℕ → List ℕ) (check : ℕ → A → Fault) (only : (p : ℕ) (x : A) → OnlyOn p (check p x)) where
-  one_faulty : (x : A) (q m p : ℕ) → Begins s (text x) q → check q x ≡ Fault.At m p → Faulty s text check m p
+module _ {A : Type 0} (s : List ℕ) (text : A → List ℕ → List ℕ) (check : ℕ → A → Checked) (only : (p : ℕ) (x : A) → OnlyOn p (check p x)) where
+  one_faulty : (x : A) (q m p : ℕ) → Begins s (text x) q → check q x ≡ refusal m p → Faulty s text check m p
   one_faulty x q m p b e =
       let same = (only q x).line m p e in
       record { x = x; fault = ap (λ (k : ℕ). check k x) (sym same) ∙ e; begins = rw same at b }
 
-  lines_faulty : (xs : List A) (d : A) (q m p : ℕ) → ((i : ℕ) → i < length xs → Begins s (text (get_or xs i d)) (q + i)) → lines_fault xs check q ≡ Fault.At m p →
+  lines_faulty : (xs : List A) (d : A) (q m p : ℕ) → ((i : ℕ) → i < length xs → Begins s (text (get_or xs i d)) (q + i)) → lines_fault xs check q ≡ refusal m p →
       Faulty s text check m p
   unfolding lines_fault
   lines_faulty [] d q m p b e = let z : ◌≡◌ {A = ℕ} 0 1 = cc in absurd (omega arith)
@@ -330,7 +331,7 @@ module _ {A : Type 0} (s : List ℕ) (text : A → List ℕ → List ℕ) (check
       (either (check q x) _ m p e)
 
 -- a count, which is checked on its line
-abbrev count_fault : Limits → ℕ → ℕ → Fault
+abbrev count_fault : Limits → ℕ → ℕ → Checked
 count_fault r p n = number_fault r n p
 
 abbrev count_text : ℕ → List ℕ → List ℕ
@@ -340,16 +341,16 @@ count_text n rest = field n 10 rest
 abbrev line_text : {A : Type 0} → (A → List ℕ → List ℕ) → A × A → List ℕ → List ℕ
 line_text text x rest = text x.1 rest
 
-abbrev line_fault : {A : Type 0} → (A → ℕ → A → Fault) → ℕ → A × A → Fault
+abbrev line_fault : {A : Type 0} → (A → ℕ → A → Checked) → ℕ → A × A → Checked
 line_fault check p x = check x.0 p x.1
 
 -- of a section of such lines, the count in the range r is at fault, or one of them
-abbrev pub SectionFaulty : {A : Type 0} → List ℕ → (A → List ℕ → List ℕ) → Limits → (A → ℕ → A → Fault) → ℕ → ℕ → Type 0
+abbrev pub SectionFaulty : {A : Type 0} → List ℕ → (A → List ℕ → List ℕ) → Limits → (A → ℕ → A → Checked) → ℕ → ℕ → Type 0
 SectionFaulty s text r check m p = Faulty s count_text (count_fault r) m p ⊎ Faulty s (line_text text) (line_fault check) m p
 
-module _ {A : Type 0} (s : List ℕ) (text : A → List ℕ → List ℕ) (check : A → ℕ → A → Fault) (only : (before : A) (p : ℕ) (x : A) → OnlyOn p (check before p x)) where
+module _ {A : Type 0} (s : List ℕ) (text : A → List ℕ → List ℕ) (check : A → ℕ → A → Checked) (only : (before : A) (p : ℕ) (x : A) → OnlyOn p (check before p x)) where
   rising_faulty : (xs : List A) (before d : A) (q m p : ℕ) → ((i : ℕ) → i < length xs → Begins s (text (get_or xs i d)) (q + i)) →
-      rising_fault xs check before q ≡ Fault.At m p → Faulty s (line_text text) (line_fault check) m p
+      rising_fault xs check before q ≡ refusal m p → Faulty s (line_text text) (line_fault check) m p
   unfolding rising_fault
   rising_faulty [] before d q m p b e = let z : ◌≡◌ {A = ℕ} 0 1 = cc in absurd (omega arith)
   rising_faulty (x ∷ xs) before d q m p b e =
@@ -359,7 +360,7 @@ module _ {A : Type 0} (s : List ℕ) (text : A → List ℕ → List ℕ) (check
       (either (check before q x) _ m p e)
 
   -- of a section of the first k elements of an array, with `front` before it
-  module _ (r : Limits) (k : ℕ) (xs : List A) (none : A) (q m p : ℕ) (e : counted_fault r k (take k xs) check none q ≡ Fault.At m p) where
+  module _ (r : Limits) (k : ℕ) (xs : List A) (none : A) (q m p : ℕ) (e : counted_fault r k (take k xs) check none q ≡ refusal m p) where
     section_faulty : ((x : A) (rest : List ℕ) → text x rest ≡ text x [] ++ rest) → ((x : A) → feeds (text x []) ≡ 1) → (front later : List ℕ) →
         s ≡ front ++ array_text text k xs later → q ≡ 1 + feeds front → SectionFaulty s text r check m p
     section_faulty parts one front later whole line =
@@ -375,7 +376,7 @@ module _ {A : Type 0} (s : List ℕ) (text : A → List ℕ → List ℕ) (check
       | yes h ↦ h
       | no h ↦ (
           let empty : k ≡ 0 = omega arith in
-          let z : Fault.None ≡ Fault.At m p = sym (rw (empty, (tells_number r 0 q).clean (omega arith, omega arith)) refl) ∙ e in
+          let z : ◌≡◌ {A = Checked} (Ok tt) (refusal m p) = sym (rw (empty, (tells_number r 0 q).clean (omega arith, omega arith)) refl) ∙ e in
           let y : ◌≡◌ {A = ℕ} 0 1 = cc in
           absurd (omega arith))
     ]
@@ -397,7 +398,7 @@ module _ (l : Line) (arrays : Arrays l) (m p : ℕ) where
   unfolding text_of
   first_begins = record { before = []; after = _; whole = refl; line = refl }
 
-  track_faulty : track_fault_of l.track ≡ Fault.At m p →
+  track_faulty : track_fault_of l.track ≡ refusal m p →
       Faulty (text_of l) count_text (count_fault station_count) m p ⊎ (Faulty (text_of l) station_text track_fault m p ⊎ Faulty (text_of l) segment_text segment_fault m p)
   unfolding track_fault_of
   track_faulty e =
@@ -414,7 +415,7 @@ module _ (l : Line) (arrays : Arrays l) (m p : ℕ) where
       (either _ _ m p e)
 
   module _ (few : In station_count l.track.station_count) where
-    traffic_faulty : traffic_fault_of l.track.station_count l.traffic ≡ Fault.At m p →
+    traffic_faulty : traffic_fault_of l.track.station_count l.traffic ≡ refusal m p →
         Faulty (text_of l) count_text (count_fault train_count) m p ⊎ Faulty (text_of l) train_text (train_fault l.track.station_count) m p
     unfolding traffic_fault_of
     traffic_faulty e =
@@ -425,7 +426,7 @@ module _ (l : Line) (arrays : Arrays l) (m p : ℕ) where
 
     module _ (some : In train_count l.traffic.train_count) where
       -- where bookings are at fault there are some, so their section is written
-      booked_faulty : booked_fault_of l ≡ Fault.At m p →
+      booked_faulty : booked_fault_of l ≡ refusal m p →
           SectionFaulty (text_of l) booking_text booking_count (booking_fault l.track.station_count (trains_of l)) m p
       unfolding booked_fault_of
       booked_faulty e =
@@ -440,7 +441,7 @@ module _ (l : Line) (arrays : Arrays l) (m p : ℕ) where
           (from_booked l arrays few some written) (omega (arith, feeds_booked l arrays few some written))
 
       -- where dues are at fault there are some, so both sections are written
-      dues_faulty : In booking_count l.booked.booking_count → dues_fault_of l ≡ Fault.At m p →
+      dues_faulty : In booking_count l.booked.booking_count → dues_fault_of l ≡ refusal m p →
           SectionFaulty (text_of l) listed_text (list_count l.traffic.train_count) (listed_fault l.traffic.train_count time) m p
       unfolding list_fault optional_text
       dues_faulty most e =
@@ -460,7 +461,7 @@ module _ (l : Line) (arrays : Arrays l) (m p : ℕ) where
           (from_dues l arrays few some written ∙ ap (λ (x : List ℕ). before_dues l arrays few ++ x) dues)
           (omega (arith, feeds_dues l arrays few some written most))
 
-  pub fault_begins : fault_of l ≡ Fault.At m p → FaultBegins l m p
+  pub fault_begins : fault_of l ≡ refusal m p → FaultBegins l m p
   unfolding fault_of booked_fault_of
   fault_begins e =
       ⊎_elim

@@ -1,11 +1,13 @@
 -- Reading the line file: document 01, "The line file", section by section and field by field: the field's form, the byte after it (2), its range
 -- (3), at a destination whether it equals the origin (4), and at a booking's station and a due's train whether it may stand there (19).
-use Rattle.std.specs.Prelude.{ℕ, zero, suc, ◌-◌, Bool, true, false, not, ◌&&◌, List, [], ◌∷◌, length, take, ltb, eqb}
+use Rattle.std.specs.Prelude.{ℕ, zero, suc, ◌-◌, Bool, true, false, not, ◌&&◌, Option, Some, None, Result, Ok, Err, List, [], ◌∷◌, length, take, ltb, eqb}
 use Rattle.text.specs.declared.Cursor.{Cursor}
 use Rattle.text.specs.declared.Limits.{Limits}
-use Rattle.text.specs.Reading.Choice.{pick, on_step}
+use Rattle.text.specs.declared.Refusal.{Refusal}
+use Rattle.text.specs.Reading.Choice.{pick, on_some}
 use Rattle.text.specs.Reading.Bytes.{byte_at, ahead, past_of}
 use Rattle.text.specs.Reading.Parsed.{Parsed, then_read, lines, ranged_at}
+use Rattle.text.specs.Reading.Told.{refusal}
 use Rattle.text.specs.Elements.Padded.{padded}
 use Rattle.text.specs.Sections.Chained.{chained, left, optional_at}
 use Rattle.line.specs.declared.Kind.{Kind}
@@ -14,16 +16,13 @@ use Rattle.line.specs.declared.Train.{Train}
 use Rattle.line.specs.declared.Booking.{Booking}
 use Rattle.line.specs.declared.Listed.{Listed}
 use Rattle.line.specs.declared.Line.{Line}
-use Rattle.line.specs.declared.Answer.{Answer}
-use Rattle.line.specs.declared.ReadLine.{ReadLine}
+use Rattle.line.specs.declared.NoKind.{NoKind}
 use Rattle.line.specs.declared.reading.Head.{Head}
 use Rattle.line.specs.declared.reading.Path.{Path}
-use Rattle.line.specs.declared.reading.Place.{Place}
-use Rattle.line.specs.declared.reading.Letter.{Letter}
-use Rattle.line.specs.declared.reading.KindField.{KindField}
+use Rattle.line.specs.declared.reading.Section.{Section}
 use Rattle.line.specs.Ranges.{station_count, tracks, gap, train_count, train_number, booking_count, list_count, newest, station, time, weight, run, stop}
-use Rattle.line.specs.Record.{no_segment, no_train, no_booking, no_listed, Further, line_with, empty_line, legs_between}
-use Rattle.line.specs.Bookings.{stands_after, bookable}
+use Rattle.line.specs.Record.{no_segment, no_train, no_booking, no_listed, Further, line_with, legs_between}
+use Rattle.line.specs.Bookings.{bookable}
 
 -- a number in its range, with the byte b after it: 2 for its form and the byte after it, 3 for its range
 abbrev pub number : Limits → ℕ → List ℕ → Cursor → Parsed ℕ
@@ -36,17 +35,12 @@ after_field (suc k) = 32
 
 -- ---- a section: "each after a line with its count", and then a line each
 
--- its count, and an array that begins with what its lines gave
-pub record Section (A : Type 0) : Type 0 where
-  pub count : ℕ
-  pub entries : List A
-
--- the entries that it has
-abbrev pub used_in : {A : Type 0} → Section A → List A
+-- the entries that it has: it is its count, and an array that begins with what its lines gave
+abbrev pub used_in : {A : Type 0} {size : ℕ} → Section A size → List A
 used_in x = take x.count x.entries
 
 -- a count in its range, and as many lines; "entries beyond a count are 0 (a kind is S) after reading"
-unfoldable pub section_at : {A : Type 0} → Limits → ℕ → A → (List ℕ → Cursor → Parsed A) → List ℕ → Cursor → Parsed (Section A)
+unfoldable pub section_at : {A : Type 0} → Limits → (size : ℕ) → A → (List ℕ → Cursor → Parsed A) → List ℕ → Cursor → Parsed (Section A size)
 section_at r size none line s c =
     then_read (number r 10 s c) (λ n c₁.
     then_read (lines n line s c₁) (λ xs c₂.
@@ -57,32 +51,34 @@ section_at r size none line s c =
 abbrev pub station_line : List ℕ → Cursor → Parsed ℕ
 station_line s c = number tracks 10 s c
 
-abbrev pub station_section : List ℕ → Cursor → Parsed (Section ℕ)
+abbrev pub station_section : List ℕ → Cursor → Parsed (Section ℕ 12)
 station_section s c = section_at station_count 12 0 station_line s c
 
 -- ---- 2. Segments, "a line each: kind (the letter S, F or D), following gap f, opposing gap o"
 
-unfoldable pub letter_of : ℕ → Letter
+-- the kind that a letter names
+unfoldable pub letter_of : ℕ → Option Kind
 letter_of b =
-    pick (eqb b 83) (Letter.Found Kind.S)
-    (pick (eqb b 70) (Letter.Found Kind.F)
-    (pick (eqb b 68) (Letter.Found Kind.D) Letter.Other))
+    pick (eqb b 83) (Some Kind.S)
+    (pick (eqb b 70) (Some Kind.F)
+    (pick (eqb b 68) (Some Kind.D) None))
 
-abbrev pub on_letter : {A : Type 0} → Letter → (Kind → A) → A → A
-on_letter (Letter.Found k) f e = f k
-on_letter Letter.Other f e = e
+-- what the answer for a letter tells
+abbrev pub told_letter : Result Kind NoKind → Option Kind
+told_letter (Ok k) = Some k
+told_letter (Err e) = None
 
 -- a kind and the space after it
 unfoldable pub kind_at : List ℕ → Cursor → Parsed Kind
 kind_at s c =
-    on_letter (letter_of (byte_at s c))
-    (λ k. on_step (past_of s (ahead c) 32) (λ next. Parsed.got k next) (Parsed.bad 2 c.line))
+    on_some (letter_of (byte_at s c))
+    (λ k. on_some (past_of s (ahead c) 32) (λ next. Parsed.got k next) (Parsed.bad 2 c.line))
     (Parsed.bad 2 c.line)
 
 -- what the answer for the kind at a cursor on line p tells
-abbrev pub told_kind : ℕ → KindField → Parsed Kind
-told_kind p (KindField.Value k c) = Parsed.got k c
-told_kind p KindField.Malformed = Parsed.bad 2 p
+abbrev pub told_kind : ℕ → Option (Kind × Cursor) → Parsed Kind
+told_kind p (Some (k, c)) = Parsed.got k c
+told_kind p None = Parsed.bad 2 p
 
 unfoldable pub segment_line : List ℕ → Cursor → Parsed Segment
 segment_line s c =
@@ -95,7 +91,7 @@ segment_line s c =
 abbrev pub joins : ℕ → Limits
 joins n = record { min = n - 1; max = n - 1 }
 
-abbrev pub segment_section : ℕ → List ℕ → Cursor → Parsed (Section Segment)
+abbrev pub segment_section : ℕ → List ℕ → Cursor → Parsed (Section Segment 11)
 segment_section n s c = section_at (joins n) 11 no_segment segment_line s c
 
 -- ---- 3. Trains, "a line each: origin, destination, earliest, latest, weight, then .. run, stop, run, stop, .., run"
@@ -140,7 +136,7 @@ train_line n s c =
     then_read (journey_at (legs_between h.origin h.destination - 1) s c₁) (λ j c₂.
     Parsed.got (train_with h (padded 11 0 j.runs) (padded 11 0 j.stops)) c₂))
 
-abbrev pub train_section : ℕ → List ℕ → Cursor → Parsed (Section Train)
+abbrev pub train_section : ℕ → List ℕ → Cursor → Parsed (Section Train 12)
 train_section n s c = section_at train_count 12 no_train (train_line n) s c
 
 -- ---- 4. Bookings (document 02, K1): "train, station, minute, in rising order of train then station, at most 120"
@@ -152,19 +148,6 @@ booking_line n trains before s c =
     then_read (number (station n) 32 s c₁) (λ p c₂.
     pick (not (bookable trains before i p)) (Parsed.bad 19 c₁.line)
     (then_read (number time 10 s c₂) (λ m c₃. Parsed.got (record { train = i; station = p; minute = m }) c₃))))
-
--- in two parts, as the code reads it: its train, one of t, and its station, with the line where the station stands
-unfoldable pub place_at : ℕ → ℕ → List ℕ → Cursor → Parsed Place
-place_at t n s c =
-    then_read (number (train_number t) 32 s c) (λ i c₁.
-    then_read (number (station n) 32 s c₁) (λ p c₂.
-    Parsed.got (record { train = i; station = p; line = c₁.line }) c₂))
-
--- and the rest, where the train of this place is t
-unfoldable pub rest_at : Train → Booking → Place → List ℕ → Cursor → Parsed Booking
-rest_at t before x s c =
-    pick (not (stands_after before x.train x.station t)) (Parsed.bad 19 x.line)
-    (then_read (number time 10 s c) (λ m next. Parsed.got (record { train = x.train; station = x.station; minute = m }) next))
 
 -- a count in its range, and as many lines, each after the one before it
 unfoldable pub rising_at : {A : Type 0} → Limits → A → (A → List ℕ → Cursor → Parsed A) → List ℕ → Cursor → Parsed (List A)
@@ -202,14 +185,14 @@ due_section t s c = rising_section (newest (list_count t)) no_listed (listed_lin
 -- ---- the file: "Three sections in this order", those that may be left off, and no bytes after the last line
 
 -- the sections past the third, on a line of n stations with these trains
-unfoldable pub further_at : ℕ → Section Train → List ℕ → Cursor → Parsed Further
+unfoldable pub further_at : ℕ → Section Train 12 → List ℕ → Cursor → Parsed Further
 further_at n trains s c =
     then_read (booking_section n (used_in trains) s c) (λ bookings c₁.
     then_read (due_section trains.count s c₁) (λ dues c₂.
     Parsed.got (record { bookings = bookings; dues = dues }) c₂))
 
 -- the line of its sections
-abbrev pub line_from : Section ℕ → Section Segment → Section Train → Further → Line
+abbrev pub line_from : Section ℕ 12 → Section Segment 11 → Section Train 12 → Further → Line
 line_from stations segments trains further =
     line_with stations.count stations.entries segments.entries trains.count trains.entries further
 
@@ -227,6 +210,6 @@ line_file s = pick (ltb 4096 (length s)) (Parsed.bad 1 0) (line_at s (record { a
 
 -- ---- the answer of `read`
 
-abbrev pub answered : Parsed Line → ReadLine
-answered (Parsed.got l c) = record { answer = Answer.Accepted; line = l }
-answered (Parsed.bad n p) = record { answer = Answer.Refused n p; line = empty_line }
+abbrev pub answered : {A : Type 0} → Parsed A → Result A Refusal
+answered (Parsed.got x c) = Ok x
+answered (Parsed.bad n p) = refusal n p

@@ -1,51 +1,52 @@
 -- Laws of reading the line file: each line's refusals and its value.
-use Rattle.std.specs.Prelude.{ℕ, ◌-◌, ◌<◌, ◌≤◌, Bool, true, false, not, eqb, length, get_or, replicate, take}
+use Rattle.std.specs.Prelude.{ℕ, ◌<◌, ◌≤◌, Bool, true, false, Some, None, Result, eqb, length, get_or, replicate}
 use Rattle.std.proofs.Math.Path.{◌≡◌, refl}
-use Rattle.std.proofs.Common.{ap, ◌∙◌, arith, length-take-le}
+use Rattle.std.proofs.Common.{ap, ◌∙◌, arith}
 use mathlib.Core.List.{List, [], ◌∷◌}
 use borrow.Author.Tests.{eqb-true, eq-eqb, ne_eqb, lt-ltb, le-ltb}
 use Rattle.std.proofs.Math.Seq.{sets}
 use Rattle.text.specs.declared.Cursor.{Cursor}
-use Rattle.text.specs.declared.Ending.{Ending}
 use Rattle.text.specs.declared.Limits.{Limits}
+use Rattle.text.specs.declared.Refusal.{Refusal}
 use Rattle.text.specs.Reading.Choice.{pick}
 use Rattle.text.specs.Reading.Bytes.{byte_at}
 use Rattle.text.specs.Reading.BytesLaws.{inside}
 use Rattle.text.specs.Reading.Parsed.{Parsed, then_read, map_parsed, many}
-use Rattle.text.proofs.Reading.ParsedLaws.{ranged_spelt}
-use Rattle.text.proofs.Elements.LayLaws.{lay_many}
 use Rattle.text.specs.Reading.Told.{told_ending}
+use Rattle.text.proofs.Elements.LayLaws.{lay_many}
 use Rattle.line.specs.declared.Kind.{Kind}
 use Rattle.line.specs.declared.Segment.{Segment}
 use Rattle.line.specs.declared.Train.{Train}
 use Rattle.line.specs.declared.Booking.{Booking}
 use Rattle.line.specs.declared.Listed.{Listed}
-use Rattle.line.specs.declared.reading.Letter.{Letter}
-use Rattle.line.specs.declared.reading.Path.{Path}
-use Rattle.line.specs.declared.reading.Place.{Place}
-use Rattle.line.specs.Ranges.{In, gap, train_number, station, time, weight}
-use Rattle.line.specs.Bookings.{numbered, stands_after, bookable}
-use Rattle.line.specs.BookingsLaws.{entry, bookable_used}
+use Rattle.line.specs.Ranges.{gap, train_number, station, time, weight}
 use Rattle.line.specs.Spell.{letter_byte}
-use Rattle.line.specs.File.{number, after_field, letter_of, kind_at, segment_line, path_at, head_at, place_at, rest_at, booking_line, listed_line}
+use Rattle.line.specs.File.{number, after_field, letter_of, kind_at, segment_line, path_at, head_at, booking_line, listed_line}
+use Rattle.line.specs.declared.reading.Path.{Path}
+use Rattle.line.specs.Bookings.{bookable}
 
 -- what a part tells whose ending is known
-pub ended_told : {A : Type 0} {e y : Ending} (x : A) → e ≡ y → told_ending e x ≡ told_ending y x
-ended_told x is = ap (λ (k : Ending). told_ending k x) is
+pub ended_told : {A : Type 0} {e y : Result Cursor Refusal} (x : A) → e ≡ y → told_ending e x ≡ told_ending y x
+ended_told x is = ap (λ (k : Result Cursor Refusal). told_ending k x) is
 
 -- ---- a segment's line
 
 -- a byte that names a kind is its letter
-pub letter_byte_lem : (b : ℕ) (k : Kind) → letter_of b ≡ Letter.Found k → b ≡ letter_byte k
+pub letter_byte_lem : (b : ℕ) (k : Kind) → letter_of b ≡ Some k → b ≡ letter_byte k
 unfolding letter_of
 letter_byte_lem b k e = go (eqb b 83) (eqb b 70) (eqb b 68) refl refl refl e
   where
     go : (p q r : Bool) → eqb b 83 ≡ p → eqb b 70 ≡ q → eqb b 68 ≡ r →
-        pick p (Letter.Found Kind.S) (pick q (Letter.Found Kind.F) (pick r (Letter.Found Kind.D) Letter.Other)) ≡ Letter.Found k → b ≡ letter_byte k
+        pick p (Some Kind.S) (pick q (Some Kind.F) (pick r (Some Kind.D) None)) ≡ Some k → b ≡ letter_byte k
     go true q r hp hq hr h = let z : Kind.S ≡ k = cc in eqb-true b 83 hp ∙ ap letter_byte z
     go false true r hp hq hr h = let z : Kind.F ≡ k = cc in eqb-true b 70 hq ∙ ap letter_byte z
     go false false true hp hq hr h = let z : Kind.D ≡ k = cc in eqb-true b 68 hr ∙ ap letter_byte z
     go false false false hp hq hr h = let z : ◌≡◌ {A = ℕ} 0 1 = cc in absurd (omega arith)
+
+-- past the end stands no letter
+pub no_letter : letter_of 256 ≡ None
+unfolding letter_of
+no_letter = refl
 
 letter_small : (k : Kind) → letter_byte k < 256
 letter_small Kind.S = omega arith
@@ -53,7 +54,7 @@ letter_small Kind.F = omega arith
 letter_small Kind.D = omega arith
 
 -- it stands inside the text
-pub letter_inside : (s : List ℕ) (c : Cursor) (k : Kind) → letter_of (byte_at s c) ≡ Letter.Found k → c.at < length s
+pub letter_inside : (s : List ℕ) (c : Cursor) (k : Kind) → letter_of (byte_at s c) ≡ Some k → c.at < length s
 letter_inside s c k e = inside s c.at (omega (arith, letter_byte_lem (byte_at s c) k e, letter_small k))
 
 -- a gap with `left` more on its line
@@ -135,96 +136,32 @@ module _ (k : ℕ) (s : List ℕ) (c : Cursor) where
         unfolding head_at
         head_got e = rw (path, earliest, latest, e) refl
 
--- ---- train and station on a booking's line
+-- ---- a booking's line
 
-module _ (t k : ℕ) (s : List ℕ) (c : Cursor) where
-  pub place_no_train : {n q : ℕ} → number (train_number t) 32 s c ≡ Parsed.bad n q → place_at t k s c ≡ Parsed.bad n q
-  unfolding place_at
-  place_no_train e = rw e refl
+module _ (k : ℕ) (trains : List Train) (before : Booking) (s : List ℕ) (c : Cursor) where
+  pub booking_no_train : {n q : ℕ} → number (train_number (length trains)) 32 s c ≡ Parsed.bad n q → booking_line k trains before s c ≡ Parsed.bad n q
+  unfolding booking_line
+  booking_no_train e = rw e refl
 
-  module _ {i : ℕ} {c₁ : Cursor} (train : number (train_number t) 32 s c ≡ Parsed.got i c₁) where
-    pub place_no_station : {n q : ℕ} → number (station k) 32 s c₁ ≡ Parsed.bad n q → place_at t k s c ≡ Parsed.bad n q
-    unfolding place_at
-    place_no_station e = rw (train, e) refl
+  module _ {i : ℕ} {c₁ : Cursor} (train : number (train_number (length trains)) 32 s c ≡ Parsed.got i c₁) where
+    pub booking_no_station : {n q : ℕ} → number (station k) 32 s c₁ ≡ Parsed.bad n q → booking_line k trains before s c ≡ Parsed.bad n q
+    unfolding booking_line
+    booking_no_station e = rw (train, e) refl
 
-    pub place_got : {p : ℕ} {c₂ : Cursor} → number (station k) 32 s c₁ ≡ Parsed.got p c₂ →
-        place_at t k s c ≡ Parsed.got (record { train = i; station = p; line = c₁.line }) c₂
-    unfolding place_at
-    place_got e = rw (train, e) refl
+    module _ {p : ℕ} {c₂ : Cursor} (at : number (station k) 32 s c₁ ≡ Parsed.got p c₂) where
+      pub booking-not_standing : bookable trains before i p ≡ false → booking_line k trains before s c ≡ Parsed.bad 19 c₁.line
+      unfolding booking_line
+      booking-not_standing e = rw (train, at, e) refl
 
-  -- the train read is one of the t
-  pub place_train : {x : Place} {next : Cursor} → place_at t k s c ≡ Parsed.got x next → In (train_number t) x.train
-  unfolding place_at
-  place_train {x} {next} e = first (number (train_number t) 32 s c) refl e
-    where
-      second : (i : ℕ) (c₁ : Cursor) (a : Parsed ℕ) → In (train_number t) i →
-          then_read a (λ p c₂. Parsed.got (record { train = i; station = p; line = c₁.line }) c₂) ≡ Parsed.got x next → In (train_number t) x.train
-      second i c₁ (Parsed.got p c₂) range h = let z : i ≡ x.train = cc in rw (← z) range
-      second i c₁ (Parsed.bad n q) range h = let z : ◌≡◌ {A = ℕ} 0 1 = cc in absurd (omega arith)
+      module _ (stands : bookable trains before i p ≡ true) where
+        pub booking_no_minute : {n q : ℕ} → number time 10 s c₂ ≡ Parsed.bad n q → booking_line k trains before s c ≡ Parsed.bad n q
+        unfolding booking_line
+        booking_no_minute e = rw (train, at, stands, e) refl
 
-      first : (a : Parsed ℕ) → number (train_number t) 32 s c ≡ a →
-          then_read a (λ i c₁. then_read (number (station k) 32 s c₁) (λ p c₂. Parsed.got (record { train = i; station = p; line = c₁.line }) c₂)) ≡ Parsed.got x next →
-          In (train_number t) x.train
-      first (Parsed.got i c₁) is h =
-          let r = ranged_spelt 2 3 1 t 32 s c i c₁ (omega arith) is in
-          second i c₁ (number (station k) 32 s c₁) (r.low, r.high) h
-      first (Parsed.bad n q) is h = let z : ◌≡◌ {A = ℕ} 0 1 = cc in absurd (omega arith)
-
--- ---- the rest of a booking's line
-
-module _ (t : Train) (before : Booking) (x : Place) (s : List ℕ) (c : Cursor) where
-  pub rest_not-standing : not (stands_after before x.train x.station t) ≡ true → rest_at t before x s c ≡ Parsed.bad 19 x.line
-  unfolding rest_at
-  rest_not-standing e = rw e refl
-
-  module _ (stands : not (stands_after before x.train x.station t) ≡ false) where
-    pub rest_no_minute : {n q : ℕ} → number time 10 s c ≡ Parsed.bad n q → rest_at t before x s c ≡ Parsed.bad n q
-    unfolding rest_at
-    rest_no_minute e = rw (stands, e) refl
-
-    pub rest_got : {m : ℕ} {next : Cursor} → number time 10 s c ≡ Parsed.got m next →
-        rest_at t before x s c ≡ Parsed.got (record { train = x.train; station = x.station; minute = m }) next
-    unfolding rest_at
-    rest_got e = rw (stands, e) refl
-
--- ---- a booking's line: the place, and then the rest
-
-booking_in_two : (k : ℕ) (trains : List Train) (before : Booking) (s : List ℕ) (c : Cursor) →
-    booking_line k trains before s c ≡ then_read (place_at (length trains) k s c) (λ x c₂. rest_at (numbered trains x.train) before x s c₂)
-unfolding booking_line place_at rest_at bookable
-booking_in_two k trains before s c = first (number (train_number (length trains)) 32 s c)
-  where
-    rest : ℕ → ℕ → Cursor → Cursor → Parsed Booking
-    rest i p c₁ c₂ = rest_at (numbered trains i) before (record { train = i; station = p; line = c₁.line }) s c₂
-
-    second : (i : ℕ) (c₁ : Cursor) (a : Parsed ℕ) → then_read a (λ p c₂. rest i p c₁ c₂)
-        ≡ then_read (then_read a (λ p c₂. Parsed.got (record { train = i; station = p; line = c₁.line }) c₂)) (λ x c₂. rest_at (numbered trains x.train) before x s c₂)
-    second i c₁ (Parsed.got p c₂) = refl
-    second i c₁ (Parsed.bad n q) = refl
-
-    first : (a : Parsed ℕ) → then_read a (λ i c₁. then_read (number (station k) 32 s c₁) (λ p c₂. rest i p c₁ c₂))
-        ≡ then_read (then_read a (λ i c₁. then_read (number (station k) 32 s c₁) (λ p c₂. Parsed.got (record { train = i; station = p; line = c₁.line }) c₂)))
-        (λ x c₂. rest_at (numbered trains x.train) before x s c₂)
-    first (Parsed.got i c₁) = second i c₁ (number (station k) 32 s c₁)
-    first (Parsed.bad n q) = refl
-
--- of one of the first t trains of an array, on whose entry the code reads the rest
-module _ (t k : ℕ) (trains : List Train) (room : t ≤ length trains) (before : Booking) (s : List ℕ) (c : Cursor) where
-  in_two : booking_line k (take t trains) before s c ≡ then_read (place_at t k s c) (λ x c₂. rest_at (numbered (take t trains) x.train) before x s c₂)
-  in_two = booking_in_two k (take t trains) before s c
-      ∙ ap (λ (m : ℕ). then_read (place_at m k s c) (λ x c₂. rest_at (numbered (take t trains) x.train) before x s c₂)) (length-take-le t trains room)
-
-  pub booking_no_place : {n q : ℕ} → place_at t k s c ≡ Parsed.bad n q → booking_line k (take t trains) before s c ≡ Parsed.bad n q
-  booking_no_place e = in_two ∙ rw e refl
-
-  pub booking_placed : {x : Place} {c₂ : Cursor} → place_at t k s c ≡ Parsed.got x c₂ →
-      booking_line k (take t trains) before s c ≡ rest_at (entry trains (x.train - 1)) before x s c₂
-  unfolding rest_at bookable
-  booking_placed {x} {c₂} e =
-      let range = place_train t k s c e in
-      in_two ∙ rw e (ap (λ (b : Bool). pick (not b) (Parsed.bad 19 x.line)
-      (then_read (number time 10 s c₂) (λ m next. Parsed.got (record { train = x.train; station = x.station; minute = m }) next)))
-      (bookable_used t trains before x.train x.station range.0 range.1))
+        pub booking_got : {m : ℕ} {c₃ : Cursor} → number time 10 s c₂ ≡ Parsed.got m c₃ →
+            booking_line k trains before s c ≡ Parsed.got (record { train = i; station = p; minute = m }) c₃
+        unfolding booking_line
+        booking_got e = rw (train, at, stands, e) refl
 
 -- ---- a line of a list of trains
 

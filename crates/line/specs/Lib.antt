@@ -4,6 +4,7 @@ pub mod Record
 pub mod Bookings
 pub mod File
 pub mod Parts
+pub mod Rising
 pub mod Spell
 pub mod Writing
 pub mod Within

@@ -11,8 +11,9 @@ use Rattle.text.proofs.Places.LinesLaws.{keeps_counted}
 use Rattle.line.specs.declared.Segment.{Segment}
 use Rattle.line.specs.declared.Track.{Track}
 use Rattle.line.specs.declared.Train.{Train}
+use Rattle.line.specs.declared.reading.Section.{Section}
 use Rattle.line.specs.Record.{Further, track_with, traffic_with, booked_with, list_with}
-use Rattle.line.specs.File.{Section, station_section, segment_section, train_section, further_at, line_at, line_file}
+use Rattle.line.specs.File.{station_section, segment_section, train_section, further_at, line_at, line_file}
 use Rattle.line.specs.SectionLaws.{section_range, file_long, file_short}
 use Rattle.line.specs.PlaceLaws.{any_line_number, stands_stations, stands_segments}
 use Rattle.line.specs.Parts.{track_at, completed_at, track_from, end_of, completed_from, CanComplete}
@@ -35,12 +36,12 @@ module _ (s : List ℕ) (i : ℕ) (short : length s ≤ 4096) where
   unfolding track_at
   no_stations e = track_short ∙ rw e refl
 
-  module _ {x : Section ℕ} {c₁ : Cursor} (stations : station_section s start ≡ Parsed.got x c₁) where
+  module _ {x : Section ℕ 12} {c₁ : Cursor} (stations : station_section s start ≡ Parsed.got x c₁) where
     pub no_segments : {m q : ℕ} → segment_section x.count s c₁ ≡ Parsed.bad m q → track_from s i ≡ Parsed.bad m q
     unfolding track_at
     no_segments e = track_short ∙ rw (stations, e) refl
 
-    pub track_read : {y : Section Segment} {c₂ : Cursor} → segment_section x.count s c₁ ≡ Parsed.got y c₂ →
+    pub track_read : {y : Section Segment 11} {c₂ : Cursor} → segment_section x.count s c₁ ≡ Parsed.got y c₂ →
         track_from s i ≡ Parsed.got (track_with x.count x.entries y.entries) c₂
     unfolding track_at
     track_read e = track_short ∙ rw (stations, e) refl
@@ -52,7 +53,7 @@ module _ (t : Track) (s : List ℕ) (c : Cursor) where
   unfolding completed_at
   no_trains e = rw e refl
 
-  module _ {z : Section Train} {c₁ : Cursor} (trains : train_section t.station_count s c ≡ Parsed.got z c₁) where
+  module _ {z : Section Train 12} {c₁ : Cursor} (trains : train_section t.station_count s c ≡ Parsed.got z c₁) where
     pub no_further : {m q : ℕ} → further_at t.station_count z s c₁ ≡ Parsed.bad m q → completed_at t s c ≡ Parsed.bad m q
     unfolding completed_at
     no_further e = rw (trains, e) refl
@@ -110,12 +111,12 @@ can_complete_at : (s : List ℕ) (c : Cursor) (i : ℕ) → Counted c → CanCom
 unfolding track_at
 can_complete_at s c i h = after (station_section s c) refl (stands_stations s Counted (keeps_counted s) AnyNumber any_line_number c h)
   where
-    joined : (x : Section ℕ) → x.count ≤ 12 → (b : Parsed (Section Segment)) → HoldsOn Counted AnyNumber b →
+    joined : (x : Section ℕ 12) → x.count ≤ 12 → (b : Parsed (Section Segment 11)) → HoldsOn Counted AnyNumber b →
         let whole : Parsed Track = then_read b (λ y c₂. Parsed.got (track_with x.count x.entries y.entries) c₂) in CanComplete (end_of i whole) whole
     joined x most (Parsed.got y c₂) k = (most, k)
     joined x most (Parsed.bad n p) k = tt
 
-    after : (a : Parsed (Section ℕ)) → station_section s c ≡ a → HoldsOn Counted AnyNumber a →
+    after : (a : Parsed (Section ℕ 12)) → station_section s c ≡ a → HoldsOn Counted AnyNumber a →
         let whole : Parsed Track = then_read a (λ x c₁. then_read (segment_section x.count s c₁)
         (λ y c₂. Parsed.got (track_with x.count x.entries y.entries) c₂)) in CanComplete (end_of i whole) whole
     after (Parsed.got x c₁) e k =
@@ -128,3 +129,16 @@ can_complete s i = elim (dec_le (length s) 4096) [
   | yes short ↦ subst (λ (p : Parsed Track). CanComplete (end_of i p) p) (sym (track_short s i short)) (can_complete_at s (record { at = i; line = 1 }) i (record { fits = omega arith }))
   | no long ↦ subst (λ (p : Parsed Track). CanComplete (end_of i p) p) (sym (track_long s i (omega arith))) tt
 ]
+
+-- ---- for the reader's code
+
+module _ (s : List ℕ) where
+  -- the first part as it was told, and the file
+  pub file_refused : {n p : ℕ} → Parsed.bad n p ≡ track_from s 0 → Parsed.bad n p ≡ line_file s
+  file_refused is = ap (λ (x : Parsed Track). completed_from s (end_of 0 x) x) is ∙ file_in_parts s
+
+  pub file_completed : {t : Track} {c : Cursor} → Parsed.got t c ≡ track_from s 0 → completed_at t s c ≡ line_file s
+  file_completed is = ap (λ (x : Parsed Track). completed_from s (end_of 0 x) x) is ∙ file_in_parts s
+
+  pub can_complete_after : {t : Track} {c : Cursor} → Parsed.got t c ≡ track_from s 0 → (t.station_count ≤ 12) × Counted c
+  can_complete_after is = subst (λ (x : Parsed Track). CanComplete (end_of 0 x) x) (sym is) (can_complete s 0)

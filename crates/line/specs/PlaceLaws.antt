@@ -1,37 +1,35 @@
 -- Places: what going past a byte keeps, every part of the line file keeps (`KeepsPassing`, `HoldsOn`). So the cursor at which each section, line and field
 -- starts stands on its line, and a refusal by 2, 3, 4 or 19 names the line on which the refused field began (`refused_on`): one more than the line feeds
 -- before it. So the number and the place of a refused file have their bounds (`file_refusal`).
-use Prim.Native.Nat.{ℕ, zero, suc, ◌-◌, ◌≤◌}
-use Rattle.std.specs.Prelude.{◌≡◌, ◌⊎◌, not, ltb, eqb, length}
+use Prim.Native.Nat.{ℕ, zero, suc, ◌-◌, ◌<◌, ◌≤◌}
+use Rattle.std.specs.Prelude.{◌≡◌, ◌⊎◌, not, Option, Some, None, Result, Err, ltb, eqb, length}
 use Rattle.std.proofs.Math.Path.{refl}
 use Rattle.std.proofs.Common.{sym, ap, ◌∙◌, inl, inr, arith}
 use mathlib.Core.List.{List, []}
 use Rattle.text.proofs.Sections.ChainedLaws.{stands-chained, stands_optional}
 use Rattle.std.proofs.Math.Decide.{dec_le}
 use Rattle.text.specs.declared.Cursor.{Cursor}
-use Rattle.text.specs.declared.Ending.{Ending}
 use Rattle.text.specs.declared.Limits.{Limits}
-use Rattle.text.specs.declared.Step.{Step}
-use Rattle.text.specs.Reading.Choice.{on_step}
+use Rattle.text.specs.declared.Refusal.{Refusal as Refused}
+use Rattle.text.specs.Reading.Choice.{on_some}
 use Rattle.text.specs.Reading.Bytes.{byte_at, ahead, past_of}
-use Rattle.text.specs.Reading.Parsed.{Parsed, lines}
-use Rattle.text.specs.Reading.Told.{told_ending}
+use Rattle.text.specs.Reading.Parsed.{Parsed, lines, ranged_at}
+use Rattle.text.proofs.Reading.ParsedLaws.{ranged_spelt}
 use Rattle.text.specs.Places.Lines.{LineAt, Counted, Stood, HoldsOn, AnyNumber, OnLine}
 use Rattle.text.proofs.Places.LinesLaws.{KeepsPassing, keeps_line, keeps_counted, line_first, stood_line, line_most, stands_got, stands_bad, stands_then, stands_test, ahead_keeps, past_keeps, stands_ranged, stands-many}
 use Rattle.line.specs.declared.Kind.{Kind}
-use Rattle.line.specs.declared.Answer.{Answer}
 use Rattle.line.specs.declared.Train.{Train}
 use Rattle.line.specs.declared.Booking.{Booking}
 use Rattle.line.specs.declared.Listed.{Listed}
 use Rattle.line.specs.declared.Line.{Line}
-use Rattle.line.specs.declared.ReadLine.{ReadLine}
-use Rattle.line.specs.declared.reading.Letter.{Letter}
-use Rattle.line.specs.declared.reading.KindField.{KindField}
+use Rattle.line.specs.declared.reading.Section.{Section}
+use Rattle.line.specs.declared.reading.Path.{Path}
+use Rattle.line.specs.declared.reading.Head.{Head}
 use Rattle.line.specs.Ranges.{station_count, tracks, gap, train_count, train_number, booking_count, list_count, newest, station, time, weight, run, stop}
 use Rattle.line.specs.Record.{no_segment, no_train, no_booking, no_listed, legs_between}
 use Rattle.line.specs.Bookings.{bookable}
 use Rattle.line.specs.Spell.{letter_byte}
-use Rattle.line.specs.File.{number, Section, section_at, station_line, station_section, letter_of, on_letter, kind_at, told_kind, segment_line, segment_section, joins, path_at, head_at, journey_at, train_line, used_in, train_section, place_at, booking_line, rising_at, null, rising_section, booking_section, listed_line, due_section, further_at, line_at, line_file, answered}
+use Rattle.line.specs.File.{number, section_at, station_line, station_section, letter_of, kind_at, segment_line, segment_section, joins, path_at, head_at, journey_at, train_line, used_in, train_section, booking_line, rising_at, null, rising_section, booking_section, listed_line, due_section, further_at, line_at, line_file, answered}
 use Rattle.line.specs.FileLaws.{letter_byte_lem}
 use Rattle.line.specs.SectionLaws.{file_long, file_short}
 
@@ -55,21 +53,21 @@ module _ (s : List ℕ) (P : Cursor → Type 0) (k : KeepsPassing s P) (Q : ℕ 
   stands-number : (r : Limits) (b : ℕ) (c : Cursor) → P c → HoldsOn P Q (number r b s c)
   stands-number r b c h = stands_ranged s P k Q 2 3 r.min r.max b q.form q.range c h
 
-  pub letter_keeps : (c : Cursor) (x : Kind) → letter_of (byte_at s c) ≡ Letter.Found x → P c → P (ahead c)
+  pub letter_keeps : (c : Cursor) (x : Kind) → letter_of (byte_at s c) ≡ Some x → P c → P (ahead c)
   letter_keeps c x e h = ahead_keeps s P k c (λ z. letter_other x (sym (letter_byte_lem (byte_at s c) x e) ∙ z)) h
 
   pub stands_kind : (c : Cursor) → P c → HoldsOn P Q (kind_at s c)
   unfolding kind_at
   stands_kind c h = go (letter_of (byte_at s c)) refl
     where
-      step : (x : Kind) → P (ahead c) → (y : Step) → past_of s (ahead c) 32 ≡ y → HoldsOn P Q (on_step y (λ next. Parsed.got x next) (Parsed.bad 2 c.line))
-      step x w (Step.Next next) e = past_keeps s P k (ahead c) 32 next w e
-      step x w Step.Wrong e = record { cursor = c; keeps = h; line = refl; number = q.form }
+      step : (x : Kind) → P (ahead c) → (y : Option Cursor) → past_of s (ahead c) 32 ≡ y → HoldsOn P Q (on_some y (λ next. Parsed.got x next) (Parsed.bad 2 c.line))
+      step x w (Some next) e = past_keeps s P k (ahead c) 32 next w e
+      step x w None e = record { cursor = c; keeps = h; line = refl; number = q.form }
 
-      go : (x : Letter) → letter_of (byte_at s c) ≡ x →
-          HoldsOn P Q (on_letter x (λ m. on_step (past_of s (ahead c) 32) (λ next. Parsed.got m next) (Parsed.bad 2 c.line)) (Parsed.bad 2 c.line))
-      go (Letter.Found x) e = step x (letter_keeps c x e h) (past_of s (ahead c) 32) refl
-      go Letter.Other e = record { cursor = c; keeps = h; line = refl; number = q.form }
+      go : (x : Option Kind) → letter_of (byte_at s c) ≡ x →
+          HoldsOn P Q (on_some x (λ m. on_some (past_of s (ahead c) 32) (λ next. Parsed.got m next) (Parsed.bad 2 c.line)) (Parsed.bad 2 c.line))
+      go (Some x) e = step x (letter_keeps c x e h) (past_of s (ahead c) 32) refl
+      go None e = record { cursor = c; keeps = h; line = refl; number = q.form }
 
   pub stands-segment : (c : Cursor) → P c → HoldsOn P Q (segment_line s c)
   unfolding segment_line
@@ -130,12 +128,6 @@ module _ (s : List ℕ) (P : Cursor → Type 0) (k : KeepsPassing s P) (Q : ℕ 
   pub stands_trains : (n : ℕ) (c : Cursor) → P c → HoldsOn P Q (train_section n s c)
   stands_trains n c h = stands_section train_count 12 no_train (train_line n) (stands-train n) c h
 
-  pub stands_place : (t n : ℕ) (c : Cursor) → P c → HoldsOn P Q (place_at t n s c)
-  unfolding place_at
-  stands_place t n c h =
-      stands_then P Q (number (train_number t) 32 s c) _ (stands-number (train_number t) 32 c h)
-      (λ i c₁ h₁. stands_then P Q (number (station n) 32 s c₁) _ (stands-number (station n) 32 c₁ h₁) (λ p c₂ h₂. h₂))
-
   pub stands-booking : (n : ℕ) (trains : List Train) (before : Booking) (c : Cursor) → P c → HoldsOn P Q (booking_line n trains before s c)
   unfolding booking_line
   stands-booking n trains before c h =
@@ -162,7 +154,7 @@ module _ (s : List ℕ) (P : Cursor → Type 0) (k : KeepsPassing s P) (Q : ℕ 
   pub stands_bookings : (n : ℕ) (trains : List Train) (c : Cursor) → P c → HoldsOn P Q (booking_section n trains s c)
   stands_bookings n trains c h = stands_rising booking_count no_booking (booking_line n trains) (stands-booking n trains) c h
 
-  stands_further : (n : ℕ) (trains : Section Train) (c : Cursor) → P c → HoldsOn P Q (further_at n trains s c)
+  stands_further : (n : ℕ) (trains : Section Train 12) (c : Cursor) → P c → HoldsOn P Q (further_at n trains s c)
   unfolding further_at
   stands_further n trains c h =
       let t = trains.count in
@@ -234,21 +226,47 @@ file_refusal s n p e = elim (dec_le (length s) 4096) [
     from_field (inr e) = inr e
 
 -- the same of what the code answers
-refused_is : (a : Parsed Line) (n p : ℕ) → (answered a).answer ≡ Answer.Refused n p → a ≡ Parsed.bad n p
-refused_is (Parsed.got l c) n p e = let z : ◌≡◌ {A = ℕ} 0 1 = cc in absurd (omega arith)
-refused_is (Parsed.bad m q) n p e = cc
+refused_is : (a : Parsed Line) {r : Refused} → ◌≡◌ {A = Result Line Refused} (Err r) (answered a) → a ≡ Parsed.bad r.number r.place
+refused_is (Parsed.got l c) e = absurd (cc)
+refused_is (Parsed.bad n p) {r} e = let q : r ≡ record { number = n; place = p } = cc in sym (ap (λ (x : Refused). Parsed.bad x.number x.place) q)
 
-pub answer_refusal : (s : List ℕ) {x : ReadLine} {n p : ℕ} → x ≡ answered (line_file s) → x.answer ≡ Answer.Refused n p → Refusal n p
-answer_refusal s {x} {n} {p} read is = file_refusal s n p (refused_is (line_file s) n p (sym (ap (λ (y : ReadLine). y.answer) read) ∙ is))
+pub answer_refusal : (s : List ℕ) {r : Refused} → ◌≡◌ {A = Result Line Refused} (Err r) (answered (line_file s)) → Refusal r.number r.place
+answer_refusal s {r} is = file_refusal s r.number r.place (refused_is (line_file s) is)
 
 -- ---- for the reader's code
 
 -- after a part that was read there are still no more lines than bytes
-pub part_counted : {A : Type 0} (r : Parsed A) (x : A) {e : Ending} {next : Cursor} → HoldsOn Counted AnyNumber r → told_ending e x ≡ r → e ≡ Ending.Done next →
-    Counted next
-part_counted r x w told is = stands_got Counted AnyNumber r w (sym told ∙ ap (λ (y : Ending). told_ending y x) is)
+pub part_counted : {A : Type 0} (r : Parsed A) {x : A} {next : Cursor} → HoldsOn Counted AnyNumber r → Parsed.got x next ≡ r → Counted next
+part_counted r w is = stands_got Counted AnyNumber r w (sym is)
 
-pub kind_counted : (s : List ℕ) (c : Cursor) {f : KindField} {x : Kind} {next : Cursor} → Counted c → told_kind c.line f ≡ kind_at s c →
-    f ≡ KindField.Value x next → Counted next
-kind_counted s c h told is =
-    stands_got Counted AnyNumber (kind_at s c) (stands_kind s Counted (keeps_counted s) AnyNumber any_line_number c h) (sym told ∙ ap (λ (y : KindField). told_kind c.line y) is)
+-- a number that was read is in its range
+pub number_least : (form range lo hi b : ℕ) (s : List ℕ) (c next : Cursor) (v : ℕ) → b < 256 → Parsed.got v next ≡ ranged_at form range lo hi b s c → lo ≤ v
+number_least form range lo hi b s c next v h is = (ranged_spelt form range lo hi b s c v next h (sym is)).low
+
+pub number_most : (form range lo hi b : ℕ) (s : List ℕ) (c next : Cursor) (v : ℕ) → b < 256 → Parsed.got v next ≡ ranged_at form range lo hi b s c → v ≤ hi
+number_most form range lo hi b s c next v h is = (ranged_spelt form range lo hi b s c v next h (sym is)).high
+
+module _ (s : List ℕ) (c next : Cursor) (h : Counted c) where
+  pub path_counted : (n : ℕ) (x : Path) → Parsed.got x next ≡ path_at n s c → Counted next
+  path_counted n x is = part_counted _ (stands_path s Counted (keeps_counted s) AnyNumber any_line_number n c h) is
+
+  pub head_counted : (n : ℕ) (x : Head) → Parsed.got x next ≡ head_at n s c → Counted next
+  head_counted n x is = part_counted _ (stands_head s Counted (keeps_counted s) AnyNumber any_line_number n c h) is
+
+  pub listed_counted : (t : ℕ) (r : Limits) (before x : Listed) → Parsed.got x next ≡ listed_line t r before s c → Counted next
+  listed_counted t r before x is = part_counted _ (stands-listed s Counted (keeps_counted s) AnyNumber any_line_number t r before c h) is
+
+  pub booking_counted : (n : ℕ) (trains : List Train) (before x : Booking) → Parsed.got x next ≡ booking_line n trains before s c → Counted next
+  booking_counted n trains before x is = part_counted _ (stands-booking s Counted (keeps_counted s) AnyNumber any_line_number n trains before c h) is
+
+  pub stations_counted : (x : Section ℕ 12) → Parsed.got x next ≡ station_section s c → Counted next
+  stations_counted x is = part_counted _ (stands_stations s Counted (keeps_counted s) AnyNumber any_line_number c h) is
+
+  pub trains_counted : (n : ℕ) (x : Section Train 12) → Parsed.got x next ≡ train_section n s c → Counted next
+  trains_counted n x is = part_counted _ (stands_trains s Counted (keeps_counted s) AnyNumber any_line_number n c h) is
+
+  pub bookings_counted : (n : ℕ) (trains : List Train) (xs : List Booking) → booking_section n trains s c ≡ Parsed.got xs next → Counted next
+  bookings_counted n trains xs is = part_counted _ (stands_bookings s Counted (keeps_counted s) AnyNumber any_line_number n trains c h) (sym is)
+
+  pub kind_counted : (x : Kind) → Parsed.got x next ≡ kind_at s c → Counted next
+  kind_counted x is = part_counted _ (stands_kind s Counted (keeps_counted s) AnyNumber any_line_number c h) is

@@ -1,5 +1,5 @@
 -- The text of a line within the limits is accepted, and gives that line: each part of the text is read as its value.
-use Rattle.std.specs.Prelude.{ℕ, suc, ◌-◌, ◌<◌, ◌≤◌, ◌≡◌, true, false, not, ◌&&◌, ltb, length}
+use Rattle.std.specs.Prelude.{ℕ, suc, ◌-◌, ◌<◌, ◌≤◌, ◌≡◌, true, false, not, ◌&&◌, Some, ltb, length}
 use Rattle.std.proofs.Math.Path.{refl}
 use Rattle.std.proofs.Common.{sym, ap, ◌∙◌, true≢false, arith, le-ltb, lt-ltb, ne_eqb, length-take-le}
 use mathlib.Core.List.{List, [], ◌∷◌, map, map-id}
@@ -24,14 +24,14 @@ use Rattle.line.specs.declared.Train.{Train}
 use Rattle.line.specs.declared.Booking.{Booking}
 use Rattle.line.specs.declared.Listed.{Listed}
 use Rattle.line.specs.declared.Line.{Line}
-use Rattle.line.specs.declared.reading.Letter.{Letter}
 use Rattle.line.specs.declared.reading.Head.{Head}
+use Rattle.line.specs.declared.reading.Section.{Section}
 use Rattle.line.specs.Ranges.{In, station_count, tracks, gap, train_count, train_number, booking_count, list_count, newest, station, time, weight, run, stop}
 use Rattle.line.specs.Record.{no_segment, no_train, no_booking, no_listed, Further, legs_of, runs_of, stops_of, tracks_of, segments_of, trains_of, bookings_of, further_of, tidy_train, tidy_line}
 use Rattle.line.specs.Bookings.{bookable}
 use Rattle.line.specs.BookingsLaws.{decides_bookable, within_tidy}
 use Rattle.line.specs.FurtherLaws.{further_text_lem}
-use Rattle.line.specs.File.{number, station_line, letter_of, kind_at, segment_line, path_at, head_at, journey_at, train_line, Section, used_in, section_at, station_section, segment_section, train_section, booking_line, rising_at, null, rising_section, listed_line, further_at, joins, line_at, line_file}
+use Rattle.line.specs.File.{number, station_line, letter_of, kind_at, segment_line, path_at, head_at, journey_at, train_line, used_in, section_at, station_section, segment_section, train_section, booking_line, rising_at, null, rising_section, listed_line, further_at, joins, line_at, line_file}
 use Rattle.line.specs.Spell.{field, station_text, letter_byte, segment_text, journey_text, head_text, train_text, booking_text, listed_text, counted_text, further_text, booked_text, unbooked, dues_text, text_of}
 use Rattle.line.specs.Within.{SegmentWithin, TrainWithin, BookingWithin, ListedWithin, FurtherWithin, Within, TrainArrays, Arrays}
 use Rattle.line.specs.SpellLaws.{field-some}
@@ -51,7 +51,7 @@ module _ (r : Limits) (s : List ℕ) (c : Cursor) (n : ℕ) (rest : List ℕ) (i
 station_reads : (s : List ℕ) (c : Cursor) (t : ℕ) (rest : List ℕ) → In tracks t → from s c ≡ station_text t rest → Reads (station_line s c) t s rest
 station_reads s c t rest i e = before_feed tracks s c t rest i (omega arith) e
 
-letter_reads : (k : Kind) → letter_of (letter_byte k) ≡ Letter.Found k
+letter_reads : (k : Kind) → letter_of (letter_byte k) ≡ Some k
 unfolding letter_of
 letter_reads Kind.S = refl
 letter_reads Kind.F = refl
@@ -61,7 +61,7 @@ kind_reads : (s : List ℕ) (c : Cursor) (k : Kind) (rest : List ℕ) → from s
 unfolding kind_at
 kind_reads s c k rest e =
     let after : from s (ahead c) ≡ 32 ∷ rest = from-ahead s c (letter_byte k) (32 ∷ rest) e in
-    let found : letter_of (byte_at s c) ≡ Letter.Found k = ap letter_of (from_byte s c (letter_byte k ∷ (32 ∷ rest)) e) ∙ letter_reads k in
+    let found : letter_of (byte_at s c) ≡ Some k = ap letter_of (from_byte s c (letter_byte k ∷ (32 ∷ rest)) e) ∙ letter_reads k in
     record {
       next = passing 32 (ahead c);
       reads = simp (found, past_reads s (ahead c) 32 rest after);
@@ -199,7 +199,7 @@ module _ {A : Type 0} (r : Limits) (none : A) (line : A → List ℕ → Cursor 
       optional_reads 3 [] null refl (rising_at r none line) s (counted_text text) xs (null_is xs)
       (λ rest. field-some (length xs) 10 (each_then text xs rest)) later rising_reads c e
 
-further_reads : (n : ℕ) (z : Section Train) (x : Further) → n ≤ 12 → z.count ≤ 12 → length (used_in z) ≤ 12 → FurtherWithin n z.count (used_in z) x →
+further_reads : (n : ℕ) (z : Section Train 12) (x : Further) → n ≤ 12 → z.count ≤ 12 → length (used_in z) ≤ 12 → FurtherWithin n z.count (used_in z) x →
     (s : List ℕ) (c : Cursor) → from s c ≡ further_text x → Reads (further_at n z s c) x s []
 unfolding further_at
 further_reads n z x few some used w s c e =
@@ -259,7 +259,7 @@ module _ (l : Line) (w : Within l) (a : Arrays l) (s : List ℕ) where
   many-tidied : length tidied ≡ l.traffic.train_count
   many-tidied = length-map (trains_of l) tidy_train ∙ many_trains
 
-  abbrev trains_read : Section Train
+  abbrev trains_read : Section Train 12
   trains_read = record { count = l.traffic.train_count; entries = padded 12 no_train tidied }
 
   further_read : (c : Cursor) → from s c ≡ further_part → Reads (further_at l.track.station_count trains_read s c) (further_of l) s []

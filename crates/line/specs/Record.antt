@@ -48,12 +48,6 @@ abbrev pub line_with : ℕ → List ℕ → List Segment → ℕ → List Train 
 line_with n ts gs t trs x =
     record { track = track_with n ts gs; traffic = traffic_with t trs; booked = booked_with x.bookings; dues = list_with x.dues }
 
-abbrev pub empty_track : Track
-empty_track = track_with 0 (replicate 12 0) (replicate 11 no_segment)
-
-abbrev pub empty_line : Line
-empty_line = line_with 0 (replicate 12 0) (replicate 11 no_segment) 0 (replicate 12 no_train) (record { bookings = []; dues = [] })
-
 -- the segments of a train's path: as many as its origin and destination are apart
 abbrev pub legs_between : ℕ → ℕ → ℕ
 legs_between o d = (o - d) + (d - o)

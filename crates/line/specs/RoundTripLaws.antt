@@ -1,6 +1,6 @@
 -- The theorems of the line file (demand 2): an accepted file written out again has the same bytes; every line within the limits can be written and
 -- is read back as the same line; and so a file is accepted exactly when it is the text of a line within the limits.
-use Rattle.std.specs.Prelude.{ℕ, ◌-◌, ◌≤◌, ◌≡◌, refl, take}
+use Rattle.std.specs.Prelude.{ℕ, ◌-◌, ◌≤◌, ◌≡◌, refl, Result, Ok, take}
 use Rattle.std.proofs.Math.Path.{sym, ap}
 use Rattle.std.proofs.Common.{◌∙◌, length-take-le}
 use mathlib.Core.List.{List, [], ◌∷◌, map}
@@ -8,6 +8,7 @@ use native.Mathlib.Omega.{arith}
 use Rattle.std.proofs.Math.ListN.{length, length-replicate}
 use Rattle.std.proofs.lemmas.List.{length-map}
 use Rattle.text.specs.declared.Cursor.{Cursor}
+use Rattle.text.specs.declared.Refusal.{Refusal}
 use Rattle.text.specs.Elements.Padded.{padded}
 use Rattle.text.specs.Elements.PaddedLaws.{take-padded, padded-length, each_padded}
 use Rattle.text.specs.Elements.EachThen.{each_then}
@@ -18,8 +19,6 @@ use Rattle.text.specs.Reading.Parsed.{Parsed}
 use Rattle.line.specs.declared.Segment.{Segment}
 use Rattle.line.specs.declared.Train.{Train}
 use Rattle.line.specs.declared.Line.{Line}
-use Rattle.line.specs.declared.Answer.{Answer}
-use Rattle.line.specs.declared.ReadLine.{ReadLine}
 use Rattle.line.specs.Ranges.{In, station_count, tracks, train_count}
 use Rattle.line.specs.Record.{no_segment, no_train, no_booking, no_listed, Further, legs_of, runs_of, stops_of, tracks_of, segments_of, trains_of, bookings_of, dues_of, further_of, tidy_train, tidy_line, SameTrain, SameTrains, SameLine}
 use Rattle.line.specs.File.{line_file, answered}
@@ -183,14 +182,11 @@ line_read s l r =
 
 -- accepted with the line l
 abbrev pub Accepts : List ℕ → Line → Type 0
-Accepts s l = answered (line_file s) ≡ record { answer = Answer.Accepted; line = l }
+Accepts s l = answered (line_file s) ≡ Ok l
 
-pub accepted_got : (l : Line) (r : Parsed Line) → answered r ≡ record { answer = Answer.Accepted; line = l } → Got r l
-accepted_got l (Parsed.got m c) e = record { end = c; got = ap (λ (x : ReadLine). Parsed.got x.line c) e }
-accepted_got l (Parsed.bad n p) e =
-    let q : Answer.Refused n p ≡ Answer.Accepted = ap (λ (x : ReadLine). x.answer) e in
-    let z : ◌≡◌ {A = ℕ} 0 1 = cc in
-    absurd (omega arith)
+pub accepted_got : (l : Line) (r : Parsed Line) → answered r ≡ Ok l → Got r l
+accepted_got l (Parsed.got m c) e = let q : m ≡ l = cc in record { end = c; got = ap (λ (x : Line). Parsed.got x c) q }
+accepted_got l (Parsed.bad n p) e = absurd (cc)
 
 pub accepts_read : (s : List ℕ) (l : Line) → Accepts s l → ReadFrom s l
 accepts_read s l e =
@@ -198,8 +194,8 @@ accepts_read s l e =
     line_read s l (file_spelt s l g.end g.got)
 
 -- the same of what the code answers
-pub accepted_read : (s : List ℕ) {x : ReadLine} → x ≡ answered (line_file s) → x.answer ≡ Answer.Accepted → ReadFrom s x.line
-accepted_read s {x} read is = accepts_read s x.line (sym read ∙ (λ i. record { answer = is i; line = x.line }))
+pub accepted_read : (s : List ℕ) {l : Line} → ◌≡◌ {A = Result Line Refusal} (Ok l) (answered (line_file s)) → ReadFrom s l
+accepted_read s {l} is = accepts_read s l (sym is)
 
 -- ---- the theorems
 

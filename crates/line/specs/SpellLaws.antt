@@ -1,17 +1,17 @@
 -- The texts of a line in parts: each part is its own text and then what follows it, so that parts written one after the other are the whole.
 use Rattle.std.specs.Prelude.{ℕ, suc, ◌+◌, ◌-◌, ◌≤◌, ◌<◌, ◌≡◌, refl, Bool, true, false, ◌&&◌, length, get_or, take, drop}
-use Rattle.std.proofs.Common.{sym, ◌∙◌, arith, length-append, drop-drop, get_or-take, get_or-drop, length-take-le}
+use Rattle.std.proofs.Common.{sym, ◌∙◌, arith, add-one, length-append, drop-cons, drop_of_length-le, get_or-drop, drop-drop, get_or-take, length-take-le}
 use Rattle.std.proofs.Math.Path.{ap}
 use Rattle.std.proofs.Math.Bool.{and-true}
 use mathlib.Core.List.{List, [], ◌∷◌, ◌++◌, append_assoc, append-nil}
 use Rattle.text.specs.Reading.Choice.{pick}
 use Rattle.text.specs.Writing.Digits.{digits, field_text}
+use Rattle.text.specs.Writing.Splice.{Put}
+use Rattle.text.specs.Writing.SpliceLaws.{Putting, putting_step, putting_room, putting_end}
 use Rattle.text.specs.Elements.EachThen.{each_then}
 use Rattle.text.specs.Elements.LeftLaws.{left_cons, left_none}
 use Rattle.text.specs.Sections.Chained.{nothing, optional_text}
 use Rattle.text.proofs.Sections.ChainedLaws.{optional_parts, optional_nothing}
-use Rattle.text.specs.Writing.Splice.{Put}
-use Rattle.text.specs.Writing.SpliceLaws.{Putting, putting_step, putting_room, putting_end}
 use Rattle.line.specs.declared.Segment.{Segment}
 use Rattle.line.specs.declared.Train.{Train}
 use Rattle.line.specs.declared.Booking.{Booking}
@@ -20,7 +20,7 @@ use Rattle.line.specs.declared.Listed.{Listed}
 use Rattle.line.specs.declared.TrainList.{TrainList}
 use Rattle.line.specs.declared.Line.{Line}
 use Rattle.line.specs.Record.{tracks_of, segments_of, trains_of, stops_of, runs_of}
-use Rattle.line.specs.Spell.{field, station_text, letter_byte, segment_text, journey_text, head_text, train_text, booking_text, listed_text, array_text, booked_text, unbooked, train_list_text, unlisted, dues_text, text_of}
+use Rattle.line.specs.Spell.{field, station_text, segment_text, journey_text, head_text, train_text, booking_text, listed_text, array_text, booked_text, unbooked, train_list_text, unlisted, dues_text, text_of, letter_byte}
 
 -- ---- each part, and then what follows it
 
@@ -57,6 +57,26 @@ module _ {A : Type 0} (text : A → List ℕ → List ℕ) (parts : (x : A) (res
       ∙ sym (append_assoc (text x []) (each_then text xs []) rest)
       ∙ ap (λ (l : List ℕ). l ++ rest) (sym (parts x (each_then text xs [])))
 
+  -- ---- the entries of which those before i are written, x is the next, and what is written with the others is the whole
+
+  module _ (xs : List A) (i : ℕ) (now whole : List ℕ) (left : now ++ each_then text (drop i xs) [] ≡ whole) where
+    pub each_next : (x d : A) → x ≡ get_or xs i d → i < length xs → (now ++ text x []) ++ each_then text (drop (i + 1) xs) [] ≡ whole
+    each_next x d is h =
+        append_assoc now (text x []) (each_then text (drop (i + 1) xs) [])
+        ∙ ap (λ (l : List ℕ). now ++ l) (sym (parts x (each_then text (drop (i + 1) xs) [])))
+        ∙ ap (λ (ys : List A). now ++ each_then text ys []) (ap (λ (y : A). y ∷ drop (i + 1) xs) is ∙ rest)
+        ∙ left
+      where
+        rest : get_or xs i d ∷ drop (i + 1) xs ≡ drop i xs
+        rest = rw (add-one i) (sym (drop-cons xs i d h))
+
+    pub each_fits : (x d : A) → x ≡ get_or xs i d → i < length xs → length now + length (text x []) ≤ length whole
+    each_fits x d is h =
+        omega (arith, ap length (each_next x d is h), length-append (now ++ text x []) (each_then text (drop (i + 1) xs) []), length-append now (text x []))
+
+    pub each_end : length xs ≤ i → now ≡ whole
+    each_end h = sym (append-nil now) ∙ ap (λ (ys : List A). now ++ each_then text ys []) (sym (drop_of_length-le xs h)) ∙ left
+
   -- ---- a part for each of the first n elements, of which i are written
 
   module _ (n : ℕ) (xs : List A) (i : ℕ) (full : n ≤ length xs) where
@@ -75,8 +95,8 @@ module _ {A : Type 0} (text : A → List ℕ → List ℕ) (parts : (x : A) (res
           Putting entry start whole then next (each_then text (drop (i + 1) (take n xs)) [])
       each_put d h put = putting_step (each_then text (drop (i + 1) (take n xs)) []) putting (step d h) put
 
-      pub each_end : i ≡ n → Put entry now start whole at
-      each_end e = putting_end putting (ap (λ (l : List A). each_then text l []) (left_none n xs i (length-take-le n xs full) e))
+      pub each_put_end : i ≡ n → Put entry now start whole at
+      each_put_end e = putting_end putting (ap (λ (l : List A). each_then text l []) (left_none n xs i (length-take-le n xs full) e))
 
 -- ---- the runs and stops of a path, of which k of each are written
 
@@ -164,6 +184,25 @@ module _ (x : Listed) where
   pub listed_size : length (listed_text x []) ≡ length (field_text x.train 32) + length (field_text x.minutes 10)
   listed_size = ap length listed-parts ∙ length-append (field_text x.train 32) (field_text x.minutes 10)
 
+-- ---- the same of what is written with the others the whole
+
+module _ (runs stops : List ℕ) (k : ℕ) (now whole : List ℕ) (left : now ++ journey_text (drop k stops) (drop k runs) [] ≡ whole) where
+  next_run : get_or (drop k runs) 0 0 ≡ get_or runs k 0
+  next_run = get_or-drop k runs 0 0 ∙ ap (λ (i : ℕ). get_or runs i 0) (omega arith)
+
+  pub leg_fits : k < length stops → length now + (length (field_text (get_or runs k 0) 32) + length (field_text (get_or stops k 0) 32)) ≤ length whole
+  leg_fits h =
+      let others = journey_text (drop (suc k) stops) (drop 1 (drop k runs)) [] in
+      let parts : now ++ field (get_or runs k 0) 32 (field (get_or stops k 0) 32 others) ≡ whole = rw (← next_run)
+      (ap (λ (ts : List ℕ). now ++ journey_text ts (drop k runs) []) (sym (drop-cons stops k 0 h)) ∙ left) in
+      simp length-append (omega (arith, simp length-append at (ap length parts)))
+
+  pub last_fits : length stops ≤ k → length now + length (field_text (get_or runs k 0) 10) ≤ length whole
+  last_fits h =
+      let parts : now ++ field (get_or runs k 0) 10 [] ≡ whole = rw (← next_run)
+      (ap (λ (ts : List ℕ). now ++ journey_text ts (drop k runs) []) (sym (drop_of_length-le stops h)) ∙ left) in
+      simp length-append (omega (arith, simp length-append at (ap length parts)))
+
 -- ---- a section of the first n elements of an array, which is left off or written
 
 pub field-some : (n b : ℕ) (rest : List ℕ) → field n b rest ≡ [] → ⊥
@@ -192,7 +231,7 @@ module _ (b : Booked) (dues : TrainList) where
   booked_part = pick (unbooked b && unlisted dues) [] (booked_text b [])
 
   abbrev dues_part : List ℕ
-  dues_part = pick (unlisted dues && true) [] (train_list_text dues [])
+  dues_part = pick (unlisted dues) [] (train_list_text dues [])
 
   pub further_parts : optional_text unbooked booked_text b (optional_text unlisted train_list_text dues []) ≡ booked_part ++ dues_part
   unfolding optional_text
@@ -201,6 +240,7 @@ module _ (b : Booked) (dues : TrainList) where
       let none : nothing later ≡ unlisted dues = optional_nothing unlisted train_list_text dues [] (field-some dues.count 10 _) ∙ and-true (unlisted dues) in
       optional_parts unbooked booked_text b later (section_then booking_text b.booking_count b.bookings booking_then later)
       ∙ ap (λ (e : Bool). pick (unbooked b && e) [] (booked_text b []) ++ later) none
+      ∙ ap (λ (e : Bool). booked_part ++ pick e [] (train_list_text dues [])) (and-true (unlisted dues))
 
   pub further_size : length (optional_text unbooked booked_text b (optional_text unlisted train_list_text dues [])) ≡ length booked_part + length dues_part
   further_size = ap length further_parts ∙ length-append booked_part dues_part

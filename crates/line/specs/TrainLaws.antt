@@ -3,8 +3,8 @@
 use Rattle.std.specs.Prelude.{ℕ, suc, ◌+◌, ◌-◌, ◌≤◌, ◌<◌, ◌≡◌, List, ◌∷◌, set, replicate}
 use Rattle.std.proofs.Math.Path.{refl}
 use Rattle.std.proofs.Common.{sym, ◌∙◌, arith}
-use Rattle.std.proofs.Math.Nat.{sub-zero}
 use Rattle.std.proofs.Math.Numerals.{add-one}
+use Rattle.std.proofs.Math.Nat.{sub-zero}
 use Rattle.std.proofs.lemmas.List.Edits.{sets}
 use Rattle.text.specs.declared.Cursor.{Cursor}
 use Rattle.text.specs.Reading.Parsed.{Parsed, then_read, map_parsed}
@@ -13,7 +13,7 @@ use Rattle.text.specs.Elements.Padded.{padded}
 use Rattle.line.specs.declared.Train.{Train}
 use Rattle.line.specs.declared.reading.Head.{Head}
 use Rattle.line.specs.Ranges.{run, stop}
-use Rattle.line.specs.Record.{no_train, legs_between}
+use Rattle.line.specs.Record.{legs_between, no_train}
 use Rattle.line.specs.RecordLaws.{path_legs}
 use Rattle.line.specs.AcceptedLaws.{head_spelt}
 use Rattle.line.specs.File.{number, head_at, Journey, journey_at, train_with, train_line}

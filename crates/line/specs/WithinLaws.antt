@@ -1,7 +1,8 @@
 -- A record has no fault exactly when it is a line within the limits.
-use Rattle.std.specs.Prelude.{ℕ, ◌+◌, ◌≡◌, refl, Bool, true, false, not, List, [], ◌∷◌, ltb, length}
+use Rattle.std.specs.Prelude.{ℕ, ◌+◌, ◌≡◌, refl, Bool, true, false, not, List, [], ◌∷◌, ltb, length, Ok}
 use Rattle.std.proofs.Common.{arith}
 use Rattle.text.specs.Reading.Choice.{pick}
+use Rattle.text.specs.Reading.Told.{refusal}
 use Rattle.text.specs.Sections.Chained.{EachAfter}
 use Rattle.finite.specs.Decide.{Decides}
 use Rattle.finite.specs.DecideLaws.{decides_lt}
@@ -13,21 +14,20 @@ use Rattle.line.specs.declared.Booking.{Booking}
 use Rattle.line.specs.declared.Listed.{Listed}
 use Rattle.line.specs.declared.TrainList.{TrainList}
 use Rattle.line.specs.declared.Line.{Line}
-use Rattle.line.specs.declared.writing.Fault.{Fault}
 use Rattle.line.specs.Ranges.{In, station_count, tracks, gap, train_count, train_number, booking_count, list_count, station, time, run, stop}
 use Rattle.line.specs.Record.{no_booking, no_listed, tracks_of, segments_of, trains_of, bookings_of, listed_in, runs_of, stops_of}
 use Rattle.line.specs.Bookings.{bookable}
 use Rattle.line.specs.BookingsLaws.{decides_bookable}
 use Rattle.line.specs.Within.{SegmentWithin, TrainWithin, BookingWithin, ListedWithin, Within}
-use Rattle.line.specs.Writing.{number_fault, lines_fault, times_fault, track_fault, segment_fault, train_fault, booking_fault, listed_fault, rising_fault, counted_fault, track_fault_of, traffic_fault_of, bookings_line, booked_fault_of, list_fault, dues_line, fault_of}
+use Rattle.line.specs.Writing.{Checked, number_fault, lines_fault, times_fault, track_fault, segment_fault, train_fault, booking_fault, listed_fault, rising_fault, counted_fault, track_fault_of, traffic_fault_of, bookings_line, booked_fault_of, list_fault, dues_line, fault_of}
 use Rattle.line.specs.FaultLaws.{CleanWhen, tells_then, tells_number, tells_head, times_lines}
 
 -- the same in other words
-tells_as : {f : Fault} {P Q : Type 0} → (P → Q) → (Q → P) → CleanWhen f P → CleanWhen f Q
+tells_as : {f : Checked} {P Q : Type 0} → (P → Q) → (Q → P) → CleanWhen f P → CleanWhen f Q
 tells_as there back p = record { holds = λ e. there (p.holds e); clean = λ q. p.clean (back q) }
 
 -- elements on lines of their own
-tells_lines : {A : Type 0} (f : ℕ → A → Fault) (P : A → Type 0) → ((p : ℕ) (x : A) → CleanWhen (f p x) (P x)) → (xs : List A) (p : ℕ) →
+tells_lines : {A : Type 0} (f : ℕ → A → Checked) (P : A → Type 0) → ((p : ℕ) (x : A) → CleanWhen (f p x) (P x)) → (xs : List A) (p : ℕ) →
     CleanWhen (lines_fault xs f p) (Each P xs)
 unfolding lines_fault
 tells_lines f P one [] p = record { holds = λ e. tt; clean = λ u. refl }
@@ -61,7 +61,7 @@ tells_train n p t =
     (tells_then _ _ (tells_head n p t) (tells_then _ _ (tells_times run (runs_of t) p) (tells_times stop (stops_of t) p)))
 
 -- elements on lines of their own, each after the one before it
-tells_rising : {A : Type 0} (f : A → ℕ → A → Fault) (P : A → A → Type 0) → ((before : A) (p : ℕ) (x : A) → CleanWhen (f before p x) (P before x)) →
+tells_rising : {A : Type 0} (f : A → ℕ → A → Checked) (P : A → A → Type 0) → ((before : A) (p : ℕ) (x : A) → CleanWhen (f before p x) (P before x)) →
     (xs : List A) (before : A) (p : ℕ) → CleanWhen (rising_fault xs f before p) (EachAfter (λ a x. x) P before xs)
 unfolding rising_fault
 tells_rising f P one [] before p = record { holds = λ e. tt; clean = λ u. refl }
@@ -69,13 +69,13 @@ tells_rising f P one (x ∷ xs) before p =
     tells_then (f before p x) (rising_fault xs f x (p + 1)) (one before p x) (tells_rising f P one xs x (p + 1))
 
 -- a section of them, with their count
-tells_counted : {A : Type 0} (r : Limits) (n : ℕ) (xs : List A) (f : A → ℕ → A → Fault) (P : A → A → Type 0) (none : A) (p : ℕ) →
+tells_counted : {A : Type 0} (r : Limits) (n : ℕ) (xs : List A) (f : A → ℕ → A → Checked) (P : A → A → Type 0) (none : A) (p : ℕ) →
     ((before : A) (q : ℕ) (x : A) → CleanWhen (f before q x) (P before x)) →
     CleanWhen (counted_fault r n xs f none p) (In r n × EachAfter (λ a x. x) P none xs)
 tells_counted r n xs f P none p one = tells_then _ _ (tells_number r n p) (tells_rising f P one xs none (p + 1))
 
 -- a test before what follows it
-tells_test : {P Q : Type 0} (b : Bool) (m p : ℕ) (f : Fault) → Decides P b → CleanWhen f Q → CleanWhen (pick (not b) (Fault.At m p) f) (P × Q)
+tells_test : {P Q : Type 0} (b : Bool) (m p : ℕ) (f : Checked) → Decides P b → CleanWhen f Q → CleanWhen (pick (not b) (refusal m p) f) (P × Q)
 tells_test true m p f d q = record { holds = λ e. (d.yea refl, q.holds e); clean = λ h. q.clean h.1 }
 tells_test false m p f d q =
     record { holds = λ e. let z : ◌≡◌ {A = ℕ} 0 1 = cc in absurd (omega arith); clean = λ h. absurd (d.nay refl h.0) }
@@ -133,8 +133,8 @@ tells_line l =
     (tells_booking n (trains_of l)))
     (tells_list l.traffic.train_count time l.dues (dues_line l)))))
 
-pub within_of : (l : Line) → fault_of l ≡ Fault.None → Within l
+pub within_of : (l : Line) → fault_of l ≡ Ok tt → Within l
 within_of l = (tells_line l).holds
 
-pub fault_none : (l : Line) → Within l → fault_of l ≡ Fault.None
+pub fault_none : (l : Line) → Within l → fault_of l ≡ Ok tt
 fault_none l = (tells_line l).clean

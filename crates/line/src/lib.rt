@@ -4,9 +4,11 @@
 ghost use Rattle.std.specs.Prelude.{◌≡◌, ◌+◌, ◌-◌, ◌<◌};
 ghost use Rattle.text.specs.Reading.Limits.{bounded_of};
 ghost use Rattle.line.specs.Ranges.{time, station, train_number, list_count};
+ghost use Rattle.line.specs.File.{letter_of, told_letter};
+ghost use Rattle.line.specs.Spell.{letter_byte};
 ghost use Rattle.line.specs.Record.{legs_between};
 
-use text::{Bounded, Limits};
+use text::Limits;
 
 pub mod reader;
 pub mod reading;
@@ -15,11 +17,43 @@ pub mod writing;
 // The longest line file.
 pub const MAX_BYTES: usize = 4096;
 
-#[derive(Clone, Copy)]
+#[derive(Clone, Copy, Debug, PartialEq, Eq)]
 pub enum Kind {
     S,
     F,
     D,
+}
+
+// A byte that is not the letter of a kind.
+#[derive(Clone, Copy, Debug, PartialEq, Eq)]
+pub struct NoKind(pub u8);
+
+impl TryFrom<u8> for Kind {
+    type Error = NoKind;
+
+    ghost try_from_gives = { λ b r. told_letter r ≡ letter_of b };
+
+    #[tactic(auto, unfolding(crate::specs::File::letter_of))]
+    fn try_from(letter: u8) -> Result<Kind, NoKind> {
+        match letter {
+            b'S' => Ok(Kind::S),
+            b'F' => Ok(Kind::F),
+            b'D' => Ok(Kind::D),
+            _ => Err(NoKind(letter)),
+        }
+    }
+}
+
+impl From<Kind> for u8 {
+    ghost from_gives = { λ k b. b ≡ letter_byte k };
+
+    fn from(kind: Kind) -> u8 {
+        match kind {
+            Kind::S => b'S',
+            Kind::F => b'F',
+            Kind::D => b'D',
+        }
+    }
 }
 
 // The track between two stations: its kind, the gap to a following train and to an opposing one.
@@ -86,26 +120,13 @@ pub struct TrainList {
     pub listed: [Listed; 12],
 }
 
-// Entries beyond a count are 0 (a kind is S) after reading and ignored in writing.
+// Entries beyond a count are 0 (a kind is S) after reading and ignored in writing. The parts are arrays with a count, as the project has no heap.
 #[derive(Clone, Copy)]
 pub struct Line {
     pub track: Track,
     pub traffic: Traffic,
     pub booked: Booked,
     pub dues: TrainList,
-}
-
-#[derive(Clone, Copy)]
-pub enum Answer {
-    Accepted,
-    Refused(u8, usize),
-}
-
-// What reading a file gives: accepted with its line, or refused with an empty one.
-#[derive(Clone, Copy)]
-pub struct ReadLine {
-    pub answer: Answer,
-    pub line: Line,
 }
 
 // Whole minutes.
@@ -115,19 +136,18 @@ pub struct Time {}
 impl Time {
     pub const LIMITS: Limits = Limits { min: 0, max: 2879 };
 
-    // Past the last minute: no time.
+    // Past the last minute: a bound above every minute, from which the least of some is sought, and at which a sum is cut off.
     pub const END: u16 = 2880;
 
     // Builds the time of minute n, or refuses.
-    pub fn value(n: u32) -> Bounded
+    pub fn value(n: u32) -> Option<u16>
         ensures { result ≡ bounded_of time.min time.max n }
     {
-        let limits = Time::LIMITS;
-        limits.value(n)
+        Time::LIMITS.value(n)
     }
 }
 
-// Stations are numbered from 1.
+// Stations are numbered from 1, and so are trains: each type has its own limits and its own function that builds a value (document 01).
 #[derive(Clone, Copy)]
 pub struct Station {}
 
@@ -144,19 +164,36 @@ impl Station {
     }
 
     // Builds station n of a line that has `count` of them, or refuses.
-    pub fn value(n: u32, count: u16) -> Bounded
+    pub fn value(n: u32, count: u16) -> Option<u16>
         ensures { result ≡ bounded_of (station count).min (station count).max n }
     {
-        let limits = Station::numbers(count);
-        limits.value(n)
+        Station::numbers(count).value(n)
     }
 }
 
 impl Segment {
+    // An entry beyond the count.
+    pub const NONE: Segment = Segment {
+        kind: Kind::S,
+        following: 0,
+        opposing: 0,
+    };
+
     pub const GAP: Limits = Limits { min: 1, max: 60 };
 }
 
 impl Train {
+    // An entry beyond the count.
+    pub const NONE: Train = Train {
+        origin: 0,
+        destination: 0,
+        earliest: 0,
+        latest: 0,
+        weight: 0,
+        runs: [0; 11],
+        stops: [0; 11],
+    };
+
     pub const COUNT: Limits = Limits { min: 0, max: 12 };
 
     pub const WEIGHT: Limits = Limits { min: 0, max: 99 };
@@ -173,16 +210,30 @@ impl Train {
     }
 
     // Builds the number of train n of a line that has `count` of them, or refuses.
-    pub fn value(n: u32, count: u16) -> Bounded
+    pub fn value(n: u32, count: u16) -> Option<u16>
         ensures { result ≡ bounded_of (train_number count).min (train_number count).max n }
     {
-        let limits = Train::numbers(count);
-        limits.value(n)
+        Train::numbers(count).value(n)
     }
 }
 
 impl Booking {
+    // An entry beyond the count, and what stands before the first.
+    pub const NONE: Booking = Booking {
+        train: 0,
+        station: 0,
+        minute: 0,
+    };
+
     pub const COUNT: Limits = Limits { min: 0, max: 120 };
+}
+
+impl Listed {
+    // An entry beyond the count, and what stands before the first.
+    pub const NONE: Listed = Listed {
+        train: 0,
+        minutes: 0,
+    };
 }
 
 impl TrainList {
@@ -190,10 +241,7 @@ impl TrainList {
     pub fn counts(trains: u16) -> Limits
         ensures { result ≡ list_count trains }
     {
-        Limits {
-            min: 0,
-            max: trains,
-        }
+        Limits::up_to(trains)
     }
 }
 
@@ -201,9 +249,5 @@ impl TrainList {
 pub fn legs_between(origin: u16, destination: u16) -> usize
     ensures { result ≡ legs_between origin destination }
 {
-    if origin < destination {
-        (destination - origin) as usize
-    } else {
-        (origin - destination) as usize
-    }
+    usize::from(origin.abs_diff(destination))
 }

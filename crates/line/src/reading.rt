@@ -1,35 +1,24 @@
-// Reading the line file: once through the lent bytes, section by section, field by field.
-ghost use Rattle.std.specs.Prelude.{◌≡◌, ◌+◌, ◌-◌, ◌≤◌, ◌<◌, [], take};
+// Reading the line file: once through the lent bytes, section by section, field by field. The bytes and the cursor stay two parameters: the theorems over
+// `Parsed` speak of a cursor without its text.
+ghost use Rattle.std.specs.Prelude.{ℕ, List, ◌≡◌, ◌+◌, ◌-◌, ◌≤◌, ◌<◌, length};
 ghost use Rattle.text.specs.Places.Lines.{Counted};
-ghost use Rattle.text.specs.Reading.Parsed.{map_parsed, lines};
-ghost use Rattle.text.specs.Reading.Told.{told_ending};
+ghost use Rattle.text.specs.Reading.Parsed.{Parsed, map_parsed, lines};
+ghost use Rattle.text.specs.Reading.Told.{told};
 ghost use Rattle.text.specs.Elements.Padded.{padded};
-ghost use Rattle.line.specs.Record.{no_segment, no_train, no_booking, no_listed, track_with, traffic_with, booked_with, list_with, empty_track, empty_line};
+ghost use Rattle.line.specs.Record.{no_segment, no_train, no_listed, booked_with, list_with};
 ghost use Rattle.line.specs.Bookings.{rises, between, stands_after};
 ghost use Rattle.text.specs.Sections.Chained.{chained};
-ghost use Rattle.line.specs.File.{told_kind, station_line, station_section, letter_of, kind_at, after_field, segment_line, segment_section, path_at, head_at, train_with, train_line, train_section, place_at, rest_at, booking_line, booking_section, empty_last, listed_line, rising_section, further_at, line_file, answered};
-ghost use Rattle.line.specs.Parts.{sections_with, track_from, end_of, CanComplete, completed_from};
+ghost use Rattle.line.specs.File.{told_kind, station_line, station_section, kind_at, after_field, segment_line, segment_section, path_at, head_at, train_with, train_line, train_section, booking_line, booking_section, empty_last, listed_line, rising_section, further_at, line_file, answered};
+ghost use Rattle.line.specs.Parts.{sections_with, track_from, completed_at};
+ghost use Rattle.line.specs.Rising.{ReadsOn, TellsPart, section_with};
 ghost use Rattle.line.specs.Ranges.{newest};
 
-use crate::reader::{complete, moved, open, read_track};
+use crate::reader::Reader;
 use crate::{
-    Answer, Booked, Booking, Kind, Line, Listed, MAX_BYTES, ReadLine, Segment, Station, Time,
-    Track, Traffic, Train, TrainList, legs_between,
+    Booked, Booking, Kind, Line, Listed, MAX_BYTES, Segment, Station, Time, Track, Traffic, Train,
+    TrainList, legs_between,
 };
-use text::{Cursor, Ending, Faults, Field, LINE_FEED, Limits, SPACE, Step, ending_of};
-
-#[derive(Clone, Copy)]
-pub enum Letter {
-    Found(Kind),
-    Other,
-}
-
-// A kind and the space after it.
-#[derive(Clone, Copy)]
-pub enum KindField {
-    Value(Kind, Cursor),
-    Malformed,
-}
+use text::{Cursor, Faults, LINE_FEED, Limits, Refusal, SPACE};
 
 #[derive(Clone, Copy)]
 pub struct Path {
@@ -47,109 +36,11 @@ pub struct Head {
     pub weight: u16,
 }
 
-// Each part of the file with how it ended; refused, its value says nothing.
+// A section: its count, and an array, as there is no heap, that begins with what its lines gave.
 #[derive(Clone, Copy)]
-pub struct PathPart {
-    pub ending: Ending,
-    pub path: Path,
-}
-
-#[derive(Clone, Copy)]
-pub struct HeadPart {
-    pub ending: Ending,
-    pub head: Head,
-}
-
-#[derive(Clone, Copy)]
-pub struct StationLines {
-    pub ending: Ending,
-    pub tracks: [u16; 12],
-}
-
-#[derive(Clone, Copy)]
-pub struct SegmentLines {
-    pub ending: Ending,
-    pub segments: [Segment; 11],
-}
-
-#[derive(Clone, Copy)]
-pub struct TrainLines {
-    pub ending: Ending,
-    pub trains: [Train; 12],
-}
-
-// Each section: the lines with their count.
-#[derive(Clone, Copy)]
-pub struct StationSection {
-    pub ending: Ending,
+pub struct Section<T, const N: usize> {
     pub count: u16,
-    pub tracks: [u16; 12],
-}
-
-#[derive(Clone, Copy)]
-pub struct SegmentSection {
-    pub ending: Ending,
-    pub count: u16,
-    pub segments: [Segment; 11],
-}
-
-#[derive(Clone, Copy)]
-pub struct TrainSection {
-    pub ending: Ending,
-    pub count: u16,
-    pub trains: [Train; 12],
-}
-
-// The train and station of a booking, and the line where the station stands.
-#[derive(Clone, Copy)]
-pub struct Place {
-    pub train: u16,
-    pub station: u16,
-    pub line: usize,
-}
-
-#[derive(Clone, Copy)]
-pub struct PlacePart {
-    pub ending: Ending,
-    pub place: Place,
-}
-
-// A booking's line, the lines of bookings, and their section.
-#[derive(Clone, Copy)]
-pub struct BookingPart {
-    pub ending: Ending,
-    pub booking: Booking,
-}
-
-#[derive(Clone, Copy)]
-pub struct BookingLines {
-    pub ending: Ending,
-    pub bookings: [Booking; 120],
-}
-
-#[derive(Clone, Copy)]
-pub struct BookingSection {
-    pub ending: Ending,
-    pub booked: Booked,
-}
-
-// A line of a list of trains, its lines, and the section.
-#[derive(Clone, Copy)]
-pub struct ListedPart {
-    pub ending: Ending,
-    pub listed: Listed,
-}
-
-#[derive(Clone, Copy)]
-pub struct ListLines {
-    pub ending: Ending,
-    pub listed: [Listed; 12],
-}
-
-#[derive(Clone, Copy)]
-pub struct ListSection {
-    pub ending: Ending,
-    pub list: TrainList,
+    pub entries: [T; N],
 }
 
 // What the sections past the third give.
@@ -159,63 +50,21 @@ pub struct FurtherSections {
     pub dues: TrainList,
 }
 
-#[derive(Clone, Copy)]
-pub struct FurtherPart {
-    pub ending: Ending,
-    pub sections: FurtherSections,
-}
-
-// The stations and segments, and where the reader stands after them; where they are refused, where it stood before.
-#[derive(Clone, Copy)]
-pub struct TrackPart {
-    pub ending: Ending,
-    pub at: usize,
-    pub track: Track,
-}
-
 // The numbers of a line file's refusals.
 const FAULTS: Faults = Faults { form: 2, range: 3 };
 
-fn letter_of(b: u32) -> Letter
-    ensures { result ≡ letter_of b }
-{
-    if b == 83 {
-        return Letter::Found(Kind::S);
-    }
-    if b == 70 {
-        return Letter::Found(Kind::F);
-    }
-    if b == 68 {
-        return Letter::Found(Kind::D);
-    }
-    Letter::Other
-}
-
-fn kind_field(s: &[u8], cursor: Cursor) -> KindField
+// A kind and the space after it.
+#[tactic(auto, using(crate::specs::FileLaws::letter_inside, crate::specs::FileLaws::no_letter), unfolding(crate::specs::File::kind_at))]
+fn kind_field(s: &[u8], cursor: Cursor) -> Option<(Kind, Cursor)>
     requires { Counted cursor }
     ensures { told_kind cursor.line result ≡ kind_at s.now cursor }
 {
-    let Letter::Found(kind) = letter_of(cursor.byte(s)) else {
-        return KindField::Malformed;
-    };
+    let kind = Kind::try_from(cursor.byte(s)?).ok()?;
     let after = Cursor {
         at: cursor.at + 1,
         line: cursor.line,
     };
-    let Step::Next(next) = after.past(s, SPACE) else {
-        return KindField::Malformed;
-    };
-    KindField::Value(kind, next)
-}
-
-fn no_segment() -> Segment
-    ensures { result ≡ no_segment }
-{
-    Segment {
-        kind: Kind::S,
-        following: 0,
-        opposing: 0,
-    }
+    Some((kind, after.past(s, SPACE)?))
 }
 
 // The byte after a field with `left` more on its line.
@@ -225,264 +74,176 @@ pub fn after_field(left: usize) -> u8
     if left == 0 { LINE_FEED } else { SPACE }
 }
 
-// A path that was not read.
-fn no_path(ending: Ending) -> PathPart
-    ensures { result.ending ≡ ending }
-{
-    PathPart {
-        ending,
-        path: Path {
-            origin: 0,
-            destination: 0,
-        },
-    }
-}
-
 // Origin and destination on a train's line.
-fn path_fields(s: &[u8], cursor: Cursor, stations: u16) -> PathPart
+#[tactic(auto, using(text::proofs::Places::LinesLaws::field_counted), unfolding(crate::specs::File::path_at))]
+fn path_fields(s: &[u8], cursor: Cursor, stations: u16) -> Result<(Path, Cursor), Refusal>
     requires { Counted cursor }
-    ensures { told_ending result.ending result.path ≡ path_at stations s.now cursor }
+    ensures { told result ≡ path_at stations s.now cursor }
 {
-    let o = cursor.ranged(s, SPACE, Station::numbers(stations), FAULTS);
-    let Field::Value(origin, after_origin) = o else {
-        return no_path(ending_of(o));
-    };
-    let d = after_origin.ranged(s, SPACE, Station::numbers(stations), FAULTS);
-    let Field::Value(destination, next) = d else {
-        return no_path(ending_of(d));
-    };
+    let numbers = Station::numbers(stations);
+    let (origin, after_origin) = cursor.ranged(s, SPACE, numbers, FAULTS)?;
+    let (destination, next) = after_origin.ranged(s, SPACE, numbers, FAULTS)?;
     if destination == origin {
-        return no_path(Ending::Refused(4, after_origin.line));
+        return Err(Refusal {
+            number: 4,
+            place: after_origin.line,
+        });
     }
-    PathPart {
-        ending: Ending::Done(next),
-        path: Path {
+    Ok((
+        Path {
             origin,
             destination,
         },
-    }
-}
-
-// A head that was not read.
-fn no_head(ending: Ending) -> HeadPart
-    ensures { result.ending ≡ ending }
-{
-    HeadPart {
-        ending,
-        head: Head {
-            origin: 0,
-            destination: 0,
-            earliest: 0,
-            latest: 0,
-            weight: 0,
-        },
-    }
+        next,
+    ))
 }
 
 // Origin, destination, earliest, latest and weight on a train's line.
-fn train_head(s: &[u8], cursor: Cursor, stations: u16) -> HeadPart
+#[tactic(auto, using(text::proofs::Places::LinesLaws::field_counted, crate::specs::PlaceLaws::path_counted), unfolding(crate::specs::File::head_at))]
+fn train_head(s: &[u8], cursor: Cursor, stations: u16) -> Result<(Head, Cursor), Refusal>
     requires { Counted cursor }
-    ensures { told_ending result.ending result.head ≡ head_at stations s.now cursor }
+    ensures { told result ≡ head_at stations s.now cursor }
 {
-    let part = path_fields(s, cursor, stations);
-    let ending = part.ending;
-    let Ending::Done(after_path) = ending else {
-        return no_head(ending);
+    let (path, after_path) = path_fields(s, cursor, stations)?;
+    let (earliest, after_earliest) = after_path.ranged(s, SPACE, Time::LIMITS, FAULTS)?;
+    let (latest, after_latest) = after_earliest.ranged(s, SPACE, Time::LIMITS, FAULTS)?;
+    let (weight, next) = after_latest.ranged(s, SPACE, Train::WEIGHT, FAULTS)?;
+    let head = Head {
+        origin: path.origin,
+        destination: path.destination,
+        earliest,
+        latest,
+        weight,
     };
-    let e = after_path.ranged(s, SPACE, Time::LIMITS, FAULTS);
-    let Field::Value(earliest, after_earliest) = e else {
-        return no_head(ending_of(e));
-    };
-    let l = after_earliest.ranged(s, SPACE, Time::LIMITS, FAULTS);
-    let Field::Value(latest, after_latest) = l else {
-        return no_head(ending_of(l));
-    };
-    let w = after_latest.ranged(s, SPACE, Train::WEIGHT, FAULTS);
-    let Field::Value(weight, next) = w else {
-        return no_head(ending_of(w));
-    };
-    HeadPart {
-        ending: Ending::Done(next),
-        head: Head {
-            origin: part.path.origin,
-            destination: part.path.destination,
-            earliest,
-            latest,
-            weight,
-        },
-    }
+    Ok((head, next))
 }
 
 // The lines of stations.
-fn station_lines(s: &[u8], start: Cursor, count: usize) -> StationLines
+#[tactic(auto, using(text::proofs::Places::LinesLaws::field_counted, text::proofs::Elements::LayLaws::lay_step, text::proofs::Elements::LayLaws::lay_done, text::proofs::Elements::LayLaws::lay_stop), unfolding(text::specs::Elements::Padded::padded))]
+fn station_lines(s: &[u8], start: Cursor, count: usize) -> Result<([u16; 12], Cursor), Refusal>
     requires { (count ≤ 12) × Counted start }
-    ensures { told_ending result.ending result.tracks ≡ map_parsed (padded 12 0) (lines count station_line s.now start) }
+    ensures { told result ≡ map_parsed (padded 12 0) (lines count station_line s.now start) }
 {
-    let mut tracks = [0u16; 12];
+    let mut tracks = [0; 12];
     let mut cursor = start;
-    let mut i: usize = 0;
-    let ending = 'lines: loop {
-        if i == count {
-            break 'lines Ending::Done(cursor);
-        }
-        let field = cursor.ranged(s, LINE_FEED, Station::TRACKS, FAULTS);
-        let Field::Value(t, next) = field else {
-            break 'lines ending_of(field);
-        };
-        tracks[i] = t;
-        cursor = next;
-        i = i + 1;
-    };
-    StationLines { ending, tracks }
-}
-
-// 1. Stations: their count and a line each.
-fn station_section(s: &[u8], start: Cursor) -> StationSection
-    requires { Counted start }
-    ensures { told_ending result.ending (record { count = result.count; entries = result.tracks }) ≡ station_section s.now start }
-{
-    let field = start.ranged(s, LINE_FEED, Station::COUNT, FAULTS);
-    let Field::Value(count, next) = field else {
-        return StationSection {
-            ending: ending_of(field),
-            count: 0,
-            tracks: [0; 12],
-        };
-    };
-    let part = station_lines(s, next, count as usize);
-    let ending = part.ending;
-    let tracks = part.tracks;
-    StationSection {
-        ending,
-        count,
-        tracks,
+    for i in 0..count {
+        (tracks[i], cursor) = cursor.ranged(s, LINE_FEED, Station::TRACKS, FAULTS)?;
     }
+    Ok((tracks, cursor))
 }
 
-// The lines of segments. The inner loop goes through the gaps of a line, following and opposing.
-fn segment_lines(s: &[u8], start: Cursor, count: usize) -> SegmentLines
-    requires { (count ≤ 11) × Counted start }
-    ensures { told_ending result.ending result.segments ≡ map_parsed (padded 11 no_segment) (lines count segment_line s.now start) }
+// 1. Stations: their count and a line each. The first three sections stay three functions of two steps each: one over a closure for the lines would be no shorter.
+#[tactic(auto, using(text::proofs::Places::LinesLaws::field_counted, crate::specs::PlaceLaws::number_most, crate::specs::SectionLaws::section_lines), unfolding(crate::specs::File::section_at))]
+fn station_section(s: &[u8], start: Cursor) -> Result<(Section<u16, 12>, Cursor), Refusal>
+    requires { Counted start }
+    ensures { told result ≡ station_section s.now start }
 {
-    let none = no_segment();
-    let mut segments = [none; 11];
+    let (count, next) = start.ranged(s, LINE_FEED, Station::COUNT, FAULTS)?;
+    let (entries, end) = station_lines(s, next, usize::from(count))?;
+    Ok((Section { count, entries }, end))
+}
+
+// The lines of segments. The inner loop goes through the gaps of a line, following and opposing; either is left by the label at the first bad field, with
+// its refusal (document 01), so the outer loop counts by hand: a `for` has no value.
+fn segment_lines(s: &[u8], start: Cursor, count: usize) -> Result<([Segment; 11], Cursor), Refusal>
+    requires { (count ≤ 11) × Counted start }
+    ensures { told result ≡ map_parsed (padded 11 no_segment) (lines count segment_line s.now start) }
+{
+    let mut segments = [Segment::NONE; 11];
     let mut cursor = start;
-    let mut i: usize = 0;
-    let ending = 'lines: loop {
+    let mut i = 0;
+    'lines: loop {
         if i == count {
-            break 'lines Ending::Done(cursor);
+            break 'lines Ok((segments, cursor));
         }
-        let KindField::Value(kind, after_kind) = kind_field(s, cursor) else {
-            break 'lines Ending::Refused(2, cursor.line);
+        let Some((kind, after_kind)) = kind_field(s, cursor) else {
+            break 'lines Err(Refusal {
+                number: 2,
+                place: cursor.line,
+            });
         };
         cursor = after_kind;
-        let mut gaps = [0u16; 2];
-        let mut k: usize = 0;
-        while k < 2 {
-            let field = cursor.ranged(s, after_field(2 - (k + 1)), Segment::GAP, FAULTS);
-            let Field::Value(gap, next) = field else {
-                break 'lines ending_of(field);
-            };
-            gaps[k] = gap;
-            cursor = next;
-            k = k + 1;
+        let mut gaps = [0; 2];
+        for k in 0..2 {
+            match cursor.ranged(s, after_field(1 - k), Segment::GAP, FAULTS) {
+                Ok((gap, next)) => {
+                    gaps[k] = gap;
+                    cursor = next;
+                }
+                Err(refusal) => break 'lines Err(refusal),
+            }
         }
         segments[i] = Segment {
             kind,
             following: gaps[0],
             opposing: gaps[1],
         };
-        i = i + 1;
-    };
-    SegmentLines { ending, segments }
+        i += 1;
+    }
 }
 
 // 2. Segments, of a line with so many stations: their count, which is one less, and a line each.
-fn segment_section(s: &[u8], start: Cursor, stations: u16) -> SegmentSection
+#[tactic(auto, using(text::proofs::Places::LinesLaws::field_counted, crate::specs::PlaceLaws::number_most, crate::specs::SectionLaws::section_lines), unfolding(crate::specs::File::section_at))]
+fn segment_section(
+    s: &[u8],
+    start: Cursor,
+    stations: u16,
+) -> Result<(Section<Segment, 11>, Cursor), Refusal>
     requires { (2 ≤ stations) × (stations ≤ 12) × Counted start }
-    ensures { told_ending result.ending (record { count = result.count; entries = result.segments }) ≡ segment_section stations s.now start }
+    ensures { told result ≡ segment_section stations s.now start }
 {
-    let none = no_segment();
-    let field = start.ranged(s, LINE_FEED, Limits::only(stations - 1), FAULTS);
-    let Field::Value(count, next) = field else {
-        return SegmentSection {
-            ending: ending_of(field),
-            count: 0,
-            segments: [none; 11],
-        };
-    };
-    let part = segment_lines(s, next, count as usize);
-    let ending = part.ending;
-    let segments = part.segments;
-    SegmentSection {
-        ending,
-        count,
-        segments,
-    }
+    let (count, next) = start.ranged(s, LINE_FEED, Limits::only(stations - 1), FAULTS)?;
+    let (entries, end) = segment_lines(s, next, usize::from(count))?;
+    Ok((Section { count, entries }, end))
 }
 
-fn no_train() -> Train
-    ensures { result ≡ no_train }
-{
-    Train {
-        origin: 0,
-        destination: 0,
-        earliest: 0,
-        latest: 0,
-        weight: 0,
-        runs: [0; 11],
-        stops: [0; 11],
-    }
-}
-
-// The lines of trains. The inner loop goes through the runs and stops of a line.
-fn train_lines(s: &[u8], start: Cursor, count: usize, stations: u16) -> TrainLines
+// The lines of trains. The inner loop goes through the runs and stops of a line; as in `segment_lines`, both are left by the label.
+fn train_lines(
+    s: &[u8],
+    start: Cursor,
+    count: usize,
+    stations: u16,
+) -> Result<([Train; 12], Cursor), Refusal>
     requires { (count ≤ 12) × (stations ≤ 12) × Counted start }
-    ensures { told_ending result.ending result.trains ≡ map_parsed (padded 12 no_train) (lines count (train_line stations) s.now start) }
+    ensures { told result ≡ map_parsed (padded 12 no_train) (lines count (train_line stations) s.now start) }
 {
-    let none = no_train();
-    let mut trains = [none; 12];
+    let mut trains = [Train::NONE; 12];
     let mut cursor = start;
-    let mut i: usize = 0;
-    let ending = 'lines: loop {
+    let mut i = 0;
+    'lines: loop {
         if i == count {
-            break 'lines Ending::Done(cursor);
+            break 'lines Ok((trains, cursor));
         }
-        let part = train_head(s, cursor, stations);
-        let ended = part.ending;
-        let Ending::Done(after_head) = ended else {
-            break 'lines ended;
+        let (head, after_head) = match train_head(s, cursor, stations) {
+            Ok(part) => part,
+            Err(refusal) => break 'lines Err(refusal),
         };
         cursor = after_head;
-        let head = part.head;
-        let legs = legs_between(head.origin, head.destination);
-        let mut runs = [0u16; 11];
-        let mut stops = [0u16; 11];
-        let mut k: usize = 0;
-        while k + 1 < legs {
-            let r = cursor.ranged(s, SPACE, Train::RUN, FAULTS);
-            let Field::Value(run, after_run) = r else {
-                break 'lines ending_of(r);
+        let between = legs_between(head.origin, head.destination) - 1;
+        let mut runs = [0; 11];
+        let mut stops = [0; 11];
+        for k in 0..between {
+            let (run, after_run) = match cursor.ranged(s, SPACE, Train::RUN, FAULTS) {
+                Ok(field) => field,
+                Err(refusal) => break 'lines Err(refusal),
             };
-            let t = after_run.ranged(s, SPACE, Train::STOP, FAULTS);
-            let Field::Value(stop, after_stop) = t else {
-                break 'lines ending_of(t);
+            let (stop, after_stop) = match after_run.ranged(s, SPACE, Train::STOP, FAULTS) {
+                Ok(field) => field,
+                Err(refusal) => break 'lines Err(refusal),
             };
             runs[k] = run;
             stops[k] = stop;
             cursor = after_stop;
-            k = k + 1;
         }
-        let last = cursor.ranged(s, LINE_FEED, Train::RUN, FAULTS);
-        let Field::Value(run, next) = last else {
-            break 'lines ending_of(last);
+        let (last, next) = match cursor.ranged(s, LINE_FEED, Train::RUN, FAULTS) {
+            Ok(field) => field,
+            Err(refusal) => break 'lines Err(refusal),
         };
-        runs[k] = run;
+        runs[between] = last;
         trains[i] = train_of(head, runs, stops);
         cursor = next;
-        i = i + 1;
-    };
-    TrainLines { ending, trains }
+        i += 1;
+    }
 }
 
 fn train_of(head: Head, runs: [u16; 11], stops: [u16; 11]) -> Train
@@ -500,48 +261,18 @@ fn train_of(head: Head, runs: [u16; 11], stops: [u16; 11]) -> Train
 }
 
 // 3. Trains, of a line with so many stations: their count and a line each.
-fn train_section(s: &[u8], start: Cursor, stations: u16) -> TrainSection
+#[tactic(auto, using(text::proofs::Places::LinesLaws::field_counted, crate::specs::PlaceLaws::number_most, crate::specs::SectionLaws::section_lines), unfolding(crate::specs::File::section_at))]
+fn train_section(
+    s: &[u8],
+    start: Cursor,
+    stations: u16,
+) -> Result<(Section<Train, 12>, Cursor), Refusal>
     requires { (stations ≤ 12) × Counted start }
-    ensures { told_ending result.ending (record { count = result.count; entries = result.trains }) ≡ train_section stations s.now start }
+    ensures { told result ≡ train_section stations s.now start }
 {
-    let none = no_train();
-    let field = start.ranged(s, LINE_FEED, Train::COUNT, FAULTS);
-    let Field::Value(count, next) = field else {
-        return TrainSection {
-            ending: ending_of(field),
-            count: 0,
-            trains: [none; 12],
-        };
-    };
-    let part = train_lines(s, next, count as usize, stations);
-    let ending = part.ending;
-    let trains = part.trains;
-    TrainSection {
-        ending,
-        count,
-        trains,
-    }
-}
-
-pub fn no_booking() -> Booking
-    ensures { result ≡ no_booking }
-{
-    Booking {
-        train: 0,
-        station: 0,
-        minute: 0,
-    }
-}
-
-fn no_bookings() -> Booked
-    ensures { result ≡ booked_with [] }
-{
-    let none = no_booking();
-    let bookings = [none; 120];
-    Booked {
-        booking_count: 0,
-        bookings,
-    }
+    let (count, next) = start.ranged(s, LINE_FEED, Train::COUNT, FAULTS)?;
+    let (entries, end) = train_lines(s, next, usize::from(count), stations)?;
+    Ok((Section { count, entries }, end))
 }
 
 // Whether a booking of this train at this station comes after the one before it.
@@ -562,124 +293,85 @@ fn lies_between(train: Train, station: u16) -> bool
     }
 }
 
-// Whether a booking of this train, which has this number, at this station may stand after the one before it.
+// Whether a booking of the train with this number at this station may stand after the one before it.
 pub fn may_stand(train: Train, number: u16, station: u16, before: Booking) -> bool
     ensures { result ≡ stands_after before number station train }
 {
     rises_after(before, number, station) && lies_between(train, station)
 }
 
-// A booking that was not read.
-fn no_booking_part(ending: Ending) -> BookingPart
-    ensures { result.ending ≡ ending }
-{
-    let booking = no_booking();
-    BookingPart { ending, booking }
-}
-
-// A place that was not read.
-fn no_place(ending: Ending) -> PlacePart
-    ensures { result.ending ≡ ending }
-{
-    PlacePart {
-        ending,
-        place: Place {
-            train: 0,
-            station: 0,
-            line: 0,
-        },
-    }
-}
-
-// Train and station on a booking's line.
-fn booking_place(s: &[u8], cursor: Cursor, stations: u16, trains: u16) -> PlacePart
-    requires { Counted cursor }
-    ensures { told_ending result.ending result.place ≡ place_at trains stations s.now cursor }
-{
-    let t = cursor.ranged(s, SPACE, Train::numbers(trains), FAULTS);
-    let Field::Value(train, after_train) = t else {
-        return no_place(ending_of(t));
-    };
-    let p = after_train.ranged(s, SPACE, Station::numbers(stations), FAULTS);
-    let Field::Value(station, next) = p else {
-        return no_place(ending_of(p));
-    };
-    PlacePart {
-        ending: Ending::Done(next),
-        place: Place {
-            train,
-            station,
-            line: after_train.line,
-        },
-    }
-}
-
-// The rest of a booking's line: whether this train may be booked at the place, and the minute.
-fn booking_rest(
+// A booking's line, after the booking before it: a train, a station where it may be booked, and the minute.
+#[tactic(auto, using(text::proofs::Places::LinesLaws::field_counted, crate::specs::PlaceLaws::number_most, crate::specs::PlaceLaws::number_least), unfolding(crate::specs::File::booking_line, crate::specs::Bookings::bookable))]
+fn booking_line(
     s: &[u8],
     cursor: Cursor,
-    place: Place,
-    booked: Train,
     before: Booking,
-) -> BookingPart
-    requires { Counted cursor }
-    ensures { told_ending result.ending result.booking ≡ rest_at booked before place s.now cursor }
+    stations: u16,
+    trains: &[Train],
+) -> Result<(Booking, Cursor), Refusal>
+    requires { (length trains.now ≤ 12) × Counted cursor }
+    ensures { told result ≡ booking_line stations trains.now before s.now cursor }
 {
-    if !may_stand(booked, place.train, place.station, before) {
-        return no_booking_part(Ending::Refused(19, place.line));
+    let numbers = Train::numbers(trains.len() as u16);
+    let (train, after_train) = cursor.ranged(s, SPACE, numbers, FAULTS)?;
+    let (station, next) = after_train.ranged(s, SPACE, Station::numbers(stations), FAULTS)?;
+    let booked = trains[usize::from(train) - 1];
+    if !may_stand(booked, train, station, before) {
+        return Err(Refusal {
+            number: 19,
+            place: after_train.line,
+        });
     }
-    let m = cursor.ranged(s, LINE_FEED, Time::LIMITS, FAULTS);
-    let Field::Value(minute, next) = m else {
-        return no_booking_part(ending_of(m));
+    let (minute, end) = next.ranged(s, LINE_FEED, Time::LIMITS, FAULTS)?;
+    let booking = Booking {
+        train,
+        station,
+        minute,
     };
-    BookingPart {
-        ending: Ending::Done(next),
-        booking: Booking {
-            train: place.train,
-            station: place.station,
-            minute,
-        },
-    }
+    Ok((booking, end))
 }
 
-// The lines of bookings, each after the one before it. The train booked is looked up here, so that the trains are not copied for each line.
-fn booking_lines(
+// A line of a list of trains, after the one before it: the train, and its minutes within the limits.
+#[tactic(auto, using(text::proofs::Places::LinesLaws::field_counted), unfolding(crate::specs::File::listed_line))]
+fn listed_line(
     s: &[u8],
+    cursor: Cursor,
+    before: Listed,
+    trains: u16,
+    limits: Limits,
+) -> Result<(Listed, Cursor), Refusal>
+    requires { Counted cursor }
+    ensures { told result ≡ listed_line trains limits before s.now cursor }
+{
+    let (train, after_train) = cursor.ranged(s, SPACE, Train::numbers(trains), FAULTS)?;
+    if train <= before.train {
+        return Err(Refusal {
+            number: 19,
+            place: cursor.line,
+        });
+    }
+    let (minutes, next) = after_train.ranged(s, LINE_FEED, limits, FAULTS)?;
+    Ok((Listed { train, minutes }, next))
+}
+
+// The lines of a section in rising order: each is read after the one before it, and the first after `none`.
+fn rising_lines<T: Copy, const N: usize, F: Fn(Cursor, T) -> Result<(T, Cursor), Refusal>>(
     start: Cursor,
     count: usize,
-    stations: u16,
-    traffic: Traffic,
-) -> BookingLines
-    requires { (count ≤ 120) × (traffic.train_count ≤ 12) × Counted start }
-    ensures { told_ending result.ending result.bookings ≡ map_parsed (padded 120 no_booking) (chained (λ a b. b) (booking_line stations (take traffic.train_count traffic.trains)) count no_booking s.now start) }
+    none: T,
+    line: F,
+) -> Result<([T; N], Cursor), Refusal>
+    requires { (count ≤ N) × Counted start × ReadsOn (F.pre line) (F.post line) }
+    ensures { (s : List ℕ) (part : T → List ℕ → Cursor → Parsed T) → TellsPart (F.post line) part s → told result ≡ map_parsed (padded N none) (chained (λ a b. b) part count none s start) }
 {
-    let mut before = no_booking();
-    let mut bookings = [before; 120];
+    let mut before = none;
+    let mut entries = [none; N];
     let mut cursor = start;
-    let mut i: usize = 0;
-    let ending = 'lines: loop {
-        if i == count {
-            break 'lines Ending::Done(cursor);
-        }
-        let part = booking_place(s, cursor, stations, traffic.train_count);
-        let placed = part.ending;
-        let Ending::Done(after_place) = placed else {
-            break 'lines placed;
-        };
-        let place = part.place;
-        let k = place.train as usize - 1;
-        let booked = traffic.trains[k];
-        let rest = booking_rest(s, after_place, place, booked, before);
-        let ended = rest.ending;
-        let Ending::Done(next) = ended else {
-            break 'lines ended;
-        };
-        before = rest.booking;
-        bookings[i] = before;
-        cursor = next;
-        i = i + 1;
-    };
-    BookingLines { ending, bookings }
+    for i in 0..count {
+        (before, cursor) = line(cursor, before)?;
+        entries[i] = before;
+    }
+    Ok((entries, cursor))
 }
 
 // Whether a section with this count, which ended here, is empty and the last: "the last one written is never empty".
@@ -689,148 +381,78 @@ fn empty_last(s: &[u8], count: u16, next: Cursor) -> bool
     count == 0 && s.len() <= next.at
 }
 
-// 4. Bookings, which may be left off: their count and a line each.
-fn booking_section(s: &[u8], start: Cursor, stations: u16, traffic: Traffic) -> BookingSection
-    requires { (traffic.train_count ≤ 12) × Counted start }
-    ensures { told_ending result.ending result.booked ≡ map_parsed booked_with (booking_section stations (take traffic.train_count traffic.trains) s.now start) }
+// A section in rising order, which may be left off: its count, in these limits, and a line each.
+#[tactic(auto, using(text::proofs::Places::LinesLaws::field_counted, crate::specs::PlaceLaws::number_most))]
+fn rising_section<T: Copy, const N: usize, F: Fn(Cursor, T) -> Result<(T, Cursor), Refusal>>(
+    s: &[u8],
+    start: Cursor,
+    counts: Limits,
+    none: T,
+    line: F,
+) -> Result<(Section<T, N>, Cursor), Refusal>
+    requires { (counts.max ≤ N) × Counted start × ReadsOn (F.pre line) (F.post line) }
+    ensures { (part : T → List ℕ → Cursor → Parsed T) → TellsPart (F.post line) part s.now → told result ≡ map_parsed (section_with N none) (rising_section counts none part s.now start) }
 {
-    let none = no_bookings();
     if s.len() <= start.at {
-        return BookingSection {
-            ending: Ending::Done(start),
-            booked: none,
-        };
+        let entries = [none; N];
+        return Ok((Section { count: 0, entries }, start));
     }
-    let field = start.ranged(s, LINE_FEED, Booking::COUNT, FAULTS);
-    let Field::Value(count, next) = field else {
-        return BookingSection {
-            ending: ending_of(field),
-            booked: none,
-        };
-    };
+    let (count, next) = start.ranged(s, LINE_FEED, counts, FAULTS)?;
     if empty_last(s, count, next) {
-        return BookingSection {
-            ending: Ending::Refused(3, start.line),
-            booked: none,
-        };
+        return Err(Refusal {
+            number: 3,
+            place: start.line,
+        });
     }
-    let part = booking_lines(s, next, count as usize, stations, traffic);
-    let ending = part.ending;
-    let bookings = part.bookings;
-    BookingSection {
-        ending,
-        booked: Booked {
-            booking_count: count,
+    let (entries, end) = rising_lines(next, usize::from(count), none, line)?;
+    Ok((Section { count, entries }, end))
+}
+
+// 4. Bookings, of these trains.
+fn booking_section(
+    s: &[u8],
+    start: Cursor,
+    stations: u16,
+    trains: &[Train],
+) -> Result<(Booked, Cursor), Refusal>
+    requires { (length trains.now ≤ 12) × Counted start }
+    ensures { told result ≡ map_parsed booked_with (booking_section stations trains.now s.now start) }
+{
+    let (section, end) = rising_section(
+        s,
+        start,
+        Booking::COUNT,
+        Booking::NONE,
+        |cursor, before| { booking_line(s, cursor, before, stations, trains) },
+    )?;
+    let booking_count = section.count;
+    let bookings = section.entries;
+    Ok((
+        Booked {
+            booking_count,
             bookings,
         },
-    }
+        end,
+    ))
 }
 
-pub fn no_listed() -> Listed
-    ensures { result ≡ no_listed }
-{
-    Listed {
-        train: 0,
-        minutes: 0,
-    }
-}
-
-fn empty_list() -> TrainList
-    ensures { result ≡ list_with [] }
-{
-    let none = no_listed();
-    let listed = [none; 12];
-    TrainList { count: 0, listed }
-}
-
-// A line of a list of trains that was not read.
-fn no_listed_part(ending: Ending) -> ListedPart
-    ensures { result.ending ≡ ending }
-{
-    let listed = no_listed();
-    ListedPart { ending, listed }
-}
-
-// A line of a list of trains, after the one before it: the train, and its minutes within the limits.
-fn listed_line(s: &[u8], cursor: Cursor, before: Listed, trains: u16, limits: Limits) -> ListedPart
-    requires { Counted cursor }
-    ensures { told_ending result.ending result.listed ≡ listed_line trains limits before s.now cursor }
-{
-    let t = cursor.ranged(s, SPACE, Train::numbers(trains), FAULTS);
-    let Field::Value(train, after_train) = t else {
-        return no_listed_part(ending_of(t));
-    };
-    if train <= before.train {
-        return no_listed_part(Ending::Refused(19, cursor.line));
-    }
-    let m = after_train.ranged(s, LINE_FEED, limits, FAULTS);
-    let Field::Value(minutes, next) = m else {
-        return no_listed_part(ending_of(m));
-    };
-    ListedPart {
-        ending: Ending::Done(next),
-        listed: Listed { train, minutes },
-    }
-}
-
-// The lines of a list of trains, each after the one before it.
-fn list_lines(s: &[u8], start: Cursor, count: usize, trains: u16, limits: Limits) -> ListLines
-    requires { (count ≤ 12) × Counted start }
-    ensures { told_ending result.ending result.listed ≡ map_parsed (padded 12 no_listed) (chained (λ a b. b) (listed_line trains limits) count no_listed s.now start) }
-{
-    let mut before = no_listed();
-    let mut listed = [before; 12];
-    let mut cursor = start;
-    let mut i: usize = 0;
-    let ending = 'lines: loop {
-        if i == count {
-            break 'lines Ending::Done(cursor);
-        }
-        let part = listed_line(s, cursor, before, trains, limits);
-        let ended = part.ending;
-        let Ending::Done(next) = ended else {
-            break 'lines ended;
-        };
-        before = part.listed;
-        listed[i] = before;
-        cursor = next;
-        i = i + 1;
-    };
-    ListLines { ending, listed }
-}
-
-// The section of a list of trains, which may be left off: its count, in these limits, and a line each.
-fn list_section(s: &[u8], start: Cursor, counts: Limits, trains: u16, limits: Limits) -> ListSection
+// A list of trains, whose count and minutes are in these limits.
+fn list_section(
+    s: &[u8],
+    start: Cursor,
+    counts: Limits,
+    trains: u16,
+    limits: Limits,
+) -> Result<(TrainList, Cursor), Refusal>
     requires { (counts.max ≤ 12) × Counted start }
-    ensures { told_ending result.ending result.list ≡ map_parsed list_with (rising_section counts no_listed (listed_line trains limits) s.now start) }
+    ensures { told result ≡ map_parsed list_with (rising_section counts no_listed (listed_line trains limits) s.now start) }
 {
-    let none = empty_list();
-    if s.len() <= start.at {
-        return ListSection {
-            ending: Ending::Done(start),
-            list: none,
-        };
-    }
-    let field = start.ranged(s, LINE_FEED, counts, FAULTS);
-    let Field::Value(count, next) = field else {
-        return ListSection {
-            ending: ending_of(field),
-            list: none,
-        };
-    };
-    if empty_last(s, count, next) {
-        return ListSection {
-            ending: Ending::Refused(3, start.line),
-            list: none,
-        };
-    }
-    let part = list_lines(s, next, count as usize, trains, limits);
-    let ending = part.ending;
-    let listed = part.listed;
-    ListSection {
-        ending,
-        list: TrainList { count, listed },
-    }
+    let (section, end) = rising_section(s, start, counts, Listed::NONE, |cursor, before| {
+        listed_line(s, cursor, before, trains, limits)
+    })?;
+    let count = section.count;
+    let listed = section.entries;
+    Ok((TrainList { count, listed }, end))
 }
 
 // In the file the count of the newest section, which can only be the last, is from 1.
@@ -844,181 +466,81 @@ fn newest_counts(limits: Limits) -> Limits
 }
 
 // The sections past the third: bookings, and 5. dues.
-fn further_sections(s: &[u8], start: Cursor, stations: u16, traffic: Traffic) -> FurtherPart
-    requires { (traffic.train_count ≤ 12) × Counted start }
-    ensures { told_ending result.ending result.sections ≡ map_parsed sections_with (further_at stations (record { count = traffic.train_count; entries = traffic.trains }) s.now start) }
+#[tactic(auto, using(crate::specs::SectionLaws::further_no_bookings))]
+fn further_sections(
+    s: &[u8],
+    start: Cursor,
+    stations: u16,
+    traffic: &Traffic,
+) -> Result<(FurtherSections, Cursor), Refusal>
+    requires { (traffic.now.train_count ≤ 12) × Counted start }
+    ensures { told result ≡ map_parsed sections_with (further_at stations (record { count = traffic.now.train_count; entries = traffic.now.trains }) s.now start) }
 {
-    let trains = traffic.train_count;
-    let fourth = booking_section(s, start, stations, traffic);
-    let booked = fourth.booked;
-    let bookings_end = fourth.ending;
-    let Ending::Done(after_bookings) = bookings_end else {
-        let none = empty_list();
-        return FurtherPart {
-            ending: bookings_end,
-            sections: FurtherSections { booked, dues: none },
-        };
-    };
-    let counts = newest_counts(TrainList::counts(trains));
-    let fifth = list_section(s, after_bookings, counts, trains, Time::LIMITS);
-    let ending = fifth.ending;
-    let dues = fifth.list;
-    FurtherPart {
-        ending,
-        sections: FurtherSections { booked, dues },
-    }
+    let count = traffic.train_count;
+    let trains = &traffic.trains[..usize::from(count)];
+    let (booked, after_bookings) = booking_section(s, start, stations, trains)?;
+    let counts = newest_counts(TrainList::counts(count));
+    let (dues, end) = list_section(s, after_bookings, counts, count, Time::LIMITS)?;
+    Ok((FurtherSections { booked, dues }, end))
 }
 
-// The track of these entries; nothing else makes one.
-fn track_with(stations: u16, tracks: [u16; 12], segments: [Segment; 11]) -> Track
-    ensures { result ≡ track_with stations tracks segments }
-{
-    Track {
-        station_count: stations,
-        tracks,
-        segments,
-    }
-}
-
-// The traffic of these entries; nothing else makes one.
-fn traffic_with(count: u16, trains: [Train; 12]) -> Traffic
-    ensures { result ≡ traffic_with count trains }
-{
-    Traffic {
-        train_count: count,
-        trains,
-    }
-}
-
-// The line of these parts; nothing else makes one.
-fn line_with(track: Track, traffic: Traffic, booked: Booked, dues: TrainList) -> Line
-    ensures { result ≡ record { track = track; traffic = traffic; booked = booked; dues = dues } }
-{
-    Line {
-        track,
-        traffic,
-        booked,
-        dues,
-    }
-}
-
-fn empty_track() -> Track
-    ensures { result ≡ empty_track }
-{
-    let segment = no_segment();
-    let tracks = [0u16; 12];
-    let segments = [segment; 11];
-    track_with(0, tracks, segments)
-}
-
-fn empty_line() -> Line
-    ensures { result ≡ empty_line }
-{
-    let track = empty_track();
-    let train = no_train();
-    let trains = [train; 12];
-    let traffic = traffic_with(0, trains);
-    let booked = no_bookings();
-    let dues = empty_list();
-    line_with(track, traffic, booked, dues)
-}
-
-// What reading gives where it ended so: this line; or a refusal and the empty one.
-fn answer_for(ending: Ending, line: Line) -> ReadLine
-    ensures { result ≡ answered (told_ending ending line) }
-{
-    match ending {
-        Ending::Done(_) => ReadLine {
-            answer: Answer::Accepted,
-            line,
-        },
-        Ending::Refused(number, place) => {
-            let empty = empty_line();
-            ReadLine {
-                answer: Answer::Refused(number, place),
-                line: empty,
-            }
-        }
-    }
-}
-
-// A track that was not read: the reader stays where it stood.
-fn no_track(ending: Ending, at: usize) -> TrackPart
-    ensures { (result.ending ≡ ending) × (result.at ≡ at) }
-{
-    let track = empty_track();
-    TrackPart { ending, at, track }
-}
-
-// The stations and segments from a position on, which is on line 1, where the text is not too long.
-pub fn track_from(s: &[u8], at: usize) -> TrackPart
-    ensures { (told_ending result.ending result.track ≡ track_from s.now at) × (result.at ≡ end_of at (track_from s.now at)) }
+// The stations and segments from a position on, which is on line 1, where the text is not too long; with the cursor after them.
+#[tactic(auto, using(crate::specs::PlaceLaws::stations_counted, crate::specs::PartsLaws::track_long, crate::specs::PartsLaws::no_stations, crate::specs::PartsLaws::no_segments, crate::specs::PartsLaws::track_read))]
+pub fn track_from(s: &[u8], at: usize) -> Result<(Track, Cursor), Refusal>
+    ensures { told result ≡ track_from s.now at }
 {
     if MAX_BYTES < s.len() {
-        return no_track(Ending::Refused(1, 0), at);
+        return Err(Refusal {
+            number: 1,
+            place: 0,
+        });
     }
-    let first = station_section(s, Cursor { at, line: 1 });
-    let stations_end = first.ending;
-    let Ending::Done(after_stations) = stations_end else {
-        return no_track(stations_end, at);
+    let (stations, after_stations) = station_section(s, Cursor { at, line: 1 })?;
+    let station_count = stations.count;
+    let (joins, after_segments) = segment_section(s, after_stations, station_count)?;
+    let tracks = stations.entries;
+    let segments = joins.entries;
+    let track = Track {
+        station_count,
+        tracks,
+        segments,
     };
-    let stations = first.count;
-    let second = segment_section(s, after_stations, stations);
-    let segments_end = second.ending;
-    let Ending::Done(next) = segments_end else {
-        return no_track(segments_end, at);
-    };
-    let tracks = first.tracks;
-    let segments = second.segments;
-    let track = track_with(stations, tracks, segments);
-    TrackPart {
-        ending: Ending::Done(next),
-        at: next.at,
-        track,
-    }
+    Ok((track, after_segments))
 }
 
-// This track completed to a line: the trains and the sections past them from a position on, and nothing after the last; or the first refusal.
-pub fn complete_from(s: &[u8], at: usize, part: TrackPart) -> ReadLine
-    requires { CanComplete at (told_ending part.ending part.track) }
-    ensures { result ≡ answered (completed_from s.now at (told_ending part.ending part.track)) }
+// This track completed to a line: the trains and the sections past them, and nothing after the last; or the first refusal.
+#[tactic(auto, using(crate::specs::PlaceLaws::trains_counted, crate::specs::PartsLaws::no_trains, crate::specs::PartsLaws::no_further, crate::specs::PartsLaws::bytes_after, crate::specs::PartsLaws::track_completed))]
+pub fn complete_from(s: &[u8], start: Cursor, track: Track) -> Result<Line, Refusal>
+    requires { (track.station_count ≤ 12) × Counted start }
+    ensures { result ≡ answered (completed_at track s.now start) }
 {
-    let empty = empty_line();
-    let track_end = part.ending;
-    let Ending::Done(after_track) = track_end else {
-        return answer_for(track_end, empty);
+    let stations = track.station_count;
+    let (section, after_trains) = train_section(s, start, stations)?;
+    let trains = section.entries;
+    let traffic = Traffic {
+        train_count: section.count,
+        trains,
     };
-    let track = part.track;
-    let start = Cursor {
-        at,
-        line: after_track.line,
-    };
-    let third = train_section(s, start, track.station_count);
-    let trains_end = third.ending;
-    let Ending::Done(after_trains) = trains_end else {
-        return answer_for(trains_end, empty);
-    };
-    let trains = third.trains;
-    let traffic = traffic_with(third.count, trains);
-    let further = further_sections(s, after_trains, track.station_count, traffic);
-    let further_end = further.ending;
-    let Ending::Done(last) = further_end else {
-        return answer_for(further_end, empty);
-    };
+    let (further, last) = further_sections(s, after_trains, stations, &traffic)?;
     if last.at < s.len() {
-        return answer_for(Ending::Refused(2, last.line), empty);
+        return Err(Refusal {
+            number: 2,
+            place: last.line,
+        });
     }
-    let booked = further.sections.booked;
-    let dues = further.sections.dues;
-    let line = line_with(track, traffic, booked, dues);
-    answer_for(Ending::Done(last), line)
+    Ok(Line {
+        track,
+        traffic,
+        booked: further.booked,
+        dues: further.dues,
+    })
 }
 
 // Reads a line file: its line, or the number and place of its first fault.
-pub fn read(file: &[u8]) -> ReadLine
+pub fn read(file: &[u8]) -> Result<Line, Refusal>
     ensures { result ≡ answered (line_file file.now) }
 {
-    let r = open(file);
-    let part = read_track(r);
-    complete(moved(r, part), part)
+    let start = Reader::open(file);
+    let (track, after) = start.read_track()?;
+    start.moved(after).complete(track, after.line)
 }

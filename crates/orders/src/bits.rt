@@ -9,7 +9,8 @@ pub fn has_bit(mask: u16, i: usize) -> bool
     (mask >> i) % 2 == 1
 }
 
-// The lowest bit of the mask from this one on; 16 where there is none.
+// The lowest bit of the mask from this one on; 16 where there is none. That is past every train, and the callers stop at the number of trains: an Option would
+// want a second test.
 pub fn next_bit(mask: u16, from: usize) -> usize
     requires { from < 16 }
     ensures { NextBit mask from result }

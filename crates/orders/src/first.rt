@@ -12,7 +12,7 @@ use rules::bookings::floors_of;
 use rules::delay::{free_after, free_arrival, weighted_delay};
 use rules::directions::directions_of;
 
-// The minutes of the trains alone on the line, what they cost, and whether all end in time.
+// The minutes of the trains alone on the line, what they cost, and whether all end in time: minutes and cost are promised either way (`IsFirstPlan`).
 #[derive(Clone, Copy)]
 pub struct FirstPlan {
     pub in_time: bool,
@@ -21,57 +21,48 @@ pub struct FirstPlan {
 }
 
 // The minute at entry x, where a train has a leg.
-fn leg_minute(line: Line, floors: &[u16], x: usize) -> u16
+fn leg_minute(line: Line, floors: &[u16; 176], x: usize) -> u16
     requires { Runnable line × Floors line floors.now × (x < 352) × Leg line (x % 176) }
     ensures { result ≡ free_entry line x }
 {
     let e = x % 176;
     let i = e % 16;
-    let traffic = line.traffic;
-    let train = traffic.trains[i];
+    let train = line.traffic.trains[i];
     let k = leg_on(train, e / 16);
     let arrival = free_after(line, floors, i, k);
     if x < 176 {
-        let runs = train.runs;
-        return arrival - runs[k];
+        arrival - train.runs[k]
+    } else {
+        arrival
     }
-    arrival
 }
 
 // The minutes of the trains alone on the line, entry after entry.
-fn free_minutes(line: Line, floors: &[u16]) -> [u16; 352]
+fn free_minutes(line: Line, floors: &[u16; 176]) -> [u16; 352]
     requires { Runnable line × Floors line floors.now }
     ensures { result ≡ free_minutes line }
 {
     let ds = directions_of(line);
     let mut minutes = [0u16; 352];
-    let mut x: usize = 0;
-    while x < 352 {
-        let e = x % 176;
-        let mut minute: u16 = 0;
-        if ds[e] != 0 {
-            minute = leg_minute(line, floors, x);
-        }
-        minutes[x] = minute;
-        x = x + 1;
+    for x in 0..352 {
+        minutes[x] = if ds[x % 176] == 0 {
+            0
+        } else {
+            leg_minute(line, floors, x)
+        };
     }
     minutes
 }
 
 // Whether each train, alone on the line, arrives in time.
-fn free_in_time(line: Line, floors: &[u16]) -> bool
+fn free_in_time(line: Line, floors: &[u16; 176]) -> bool
     requires { Runnable line × Floors line floors.now }
     ensures { Decides (FreeInTime line) result }
 {
-    let n = line.traffic.train_count as usize;
-    let mut i: usize = 0;
-    while i < n {
-        let traffic = line.traffic;
-        let train = traffic.trains[i];
-        if train.latest < free_arrival(line, floors, i) {
+    for i in 0..usize::from(line.traffic.train_count) {
+        if line.traffic.trains[i].latest < free_arrival(line, floors, i) {
             return false;
         }
-        i = i + 1;
     }
     true
 }

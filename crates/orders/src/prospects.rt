@@ -1,8 +1,7 @@
 // A first look at a choice, before anything is raised: by its own legs alone the train that has to wait may be late already, or cost too much, or the
 // choice may contradict a mark.
-ghost use Rattle.std.specs.Prelude.{◌≡◌, true, ◌≤◌, ◌<◌, length, get_or};
+ghost use Rattle.std.specs.Prelude.{◌≡◌, true, ◌≤◌, ◌<◌, get_or};
 ghost use Rattle.orders.specs.Plan.Bits.{in_mask};
-ghost use Rattle.orders.specs.LineTables.Tables.{table_size};
 ghost use Rattle.orders.specs.Graph.LegGraph.{leaving};
 ghost use Rattle.orders.specs.Lift.Lifting.{Ready, Choosing, Follows, Comes, NoneChosen};
 ghost use Rattle.orders.specs.Look.Prospects.{NoneFrom, GoesBefore};
@@ -12,57 +11,57 @@ use crate::bits::has_bit;
 use crate::tables::{Tables, last_at, limit_at, next_at, rest_at, run_at};
 use crate::times::{arrival_for, more_cost};
 
-// Whether a train that arrives by its last leg e at this minute or later is late, or costs more than the cut.
-fn end_fails(
-    m: &[u16; 352],
-    marks: &[u16; 368],
-    t: &Tables,
-    ds: &[u16; 176],
-    e: usize,
-    arrival: u16,
+// What a choice is looked at from: the minutes, what they cost and may cost, and the marks, tables and directions of the line.
+#[derive(Clone, Copy)]
+struct Prospect<'a> {
+    m: &'a [u16; 352],
+    marks: &'a [u16; 368],
+    t: &'a Tables,
+    ds: &'a [u16; 176],
     cost: u32,
     cut: u32,
-) -> bool
-    requires { Ready m.now marks.now t.now ds.now e cost cut }
-    ensures { result ≡ true → NoneFrom marks.now t.now ds.now cut e 0 arrival m.now }
-{
-    if arrival > limit_at(t, e) {
-        return true;
-    }
-    let former = m[176 + e];
-    if arrival <= former {
-        return false;
-    }
-    cost + more_cost(t, e, former, arrival) > cut
 }
 
-// Whether the train of leg e, which is to depart there at v and to arrive at w or later, is late at its end or costs more than the cut: from there it needs
-// the runs and stops that are left.
-fn train_fails(
-    m: &[u16; 352],
-    marks: &[u16; 368],
-    t: &Tables,
-    ds: &[u16; 176],
-    e: usize,
-    v: u16,
-    w: u16,
-    cost: u32,
-    cut: u32,
-) -> bool
-    requires { Ready m.now marks.now t.now ds.now e cost cut × (v ≤ 20000) × (w ≤ 20000) }
-    ensures { result ≡ true → NoneFrom marks.now t.now ds.now cut e v w m.now }
-{
-    let arrival = arrival_for(0, w, v, run_at(t, e));
-    end_fails(
-        m,
-        marks,
-        t,
-        ds,
-        last_at(t, e),
-        arrival + rest_at(t, e),
-        cost,
-        cut,
-    )
+impl Prospect<'_> {
+    // Whether a train that arrives by its last leg e at this minute or later is late, or costs more than the cut.
+    fn end_fails(&self, e: usize, arrival: u16) -> bool
+        requires { Ready self.now.m.now self.now.marks.now self.now.t.now self.now.ds.now e self.now.cost self.now.cut }
+        ensures { result ≡ true → NoneFrom self.now.marks.now self.now.t.now self.now.ds.now self.now.cut e 0 arrival self.now.m.now }
+    {
+        if arrival > limit_at(self.t, e) {
+            return true;
+        }
+        let former = self.m[176 + e];
+        arrival > former && self.cost + more_cost(self.t, e, former, arrival) > self.cut
+    }
+
+    // Whether the train of leg e, which is to depart there at v and to arrive at w or later, is late at its end or costs more than the cut: from there it needs
+    // the runs and stops that are left.
+    fn train_fails(&self, e: usize, v: u16, w: u16) -> bool
+        requires { Ready self.now.m.now self.now.marks.now self.now.t.now self.now.ds.now e self.now.cost self.now.cut × (v ≤ 20000) × (w ≤ 20000) }
+        ensures { result ≡ true → NoneFrom self.now.marks.now self.now.t.now self.now.ds.now self.now.cut e v w self.now.m.now }
+    {
+        let arrival = arrival_for(0, w, v, run_at(self.t, e));
+        self.end_fails(last_at(self.t, e), arrival + rest_at(self.t, e))
+    }
+
+    // Whether train j is marked to go over the segment of leg e before its train, as it comes there by leg f or leaves by its next one. Then it cannot come to
+    // the station of leg e's departure after that train has left.
+    fn goes_before(&self, e: usize, f: usize, j: usize) -> bool
+        requires { (e < 176) × (f < 176) × (j < 12) }
+        ensures { result ≡ true → GoesBefore self.now.marks.now self.now.t.now self.now.ds.now e f j }
+    {
+        let x = 16 * (e / 16) + j;
+        let i = e % 16;
+        if i >= 12 || !has_bit(self.marks[x], i) {
+            return false;
+        }
+        if f == x {
+            self.ds[f] != self.ds[e]
+        } else {
+            next_at(self.t, f) == x
+        }
+    }
 }
 
 // Whether no minutes with the choice, marked already, that train j goes after that of leg e on its segment are in time for no more than the cut. A true
@@ -81,44 +80,15 @@ pub fn follow_fails(
     ensures { result ≡ true → NoneChosen marks.now t.now ds.now cut m.now }
 {
     let b = times_behind(m, t, ds, e, j);
-    train_fails(
+    Prospect {
         m,
         marks,
         t,
         ds,
-        16 * (e / 16) + j,
-        b.departure,
-        b.arrival,
         cost,
         cut,
-    )
-}
-
-// Whether train j is marked to go over the segment of leg e before its train, as it comes there by leg f or leaves by its next one. Then it cannot come to
-// the station of leg e's departure after that train has left.
-fn goes_before(
-    marks: &[u16; 368],
-    t: &Tables,
-    ds: &[u16; 176],
-    e: usize,
-    f: usize,
-    j: usize,
-) -> bool
-    requires { (length marks.now ≡ 368) × (length t.now ≡ table_size) × (length ds.now ≡ 176) × (e < 176) × (f < 176) × (j < 12) }
-    ensures { result ≡ true → GoesBefore marks.now t.now ds.now e f j }
-{
-    let x = 16 * (e / 16) + j;
-    let i = e % 16;
-    if i >= 12 {
-        return false;
     }
-    if !has_bit(marks[x], i) {
-        return false;
-    }
-    if f == x {
-        return ds[f] != ds[e];
-    }
-    next_at(t, f) == x
+    .train_fails(16 * (e / 16) + j, b.departure, b.arrival)
 }
 
 // The same for the choice that train j comes to the station of leg e's departure after its train has left.
@@ -136,8 +106,13 @@ pub fn come_after_fails(
     ensures { result ≡ true → NoneChosen marks.now t.now ds.now cut m.now }
 {
     let f = coming_leg(ds, e, j);
-    if goes_before(marks, t, ds, e, f, j) {
-        return true;
-    }
-    train_fails(m, marks, t, ds, f, 0, m[e] + 1, cost, cut)
+    let prospect = Prospect {
+        m,
+        marks,
+        t,
+        ds,
+        cost,
+        cut,
+    };
+    prospect.goes_before(e, f, j) || prospect.train_fails(f, 0, m[e] + 1)
 }

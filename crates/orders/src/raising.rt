@@ -11,10 +11,7 @@ use crate::bits::next_bit;
 use crate::tables::{Tables, limit_at, next_at, run_at, stop_at};
 use crate::times::{arrival_for, departure_for, more_cost, rises, source_rises};
 
-// No such minutes.
-pub const DEAD: u32 = 4294967295;
-
-// Raises leg e to depart at v and arrive at w or later, and nothing else.
+// Raises leg e to depart at v and arrive at w or later, and nothing else. A struct for what travels along here was tried, and slower in the walk by a tenth.
 fn raise_leg(
     m: &mut [u16; 352],
     marks: &[u16; 368],
@@ -26,7 +23,7 @@ fn raise_leg(
     src: usize,
     cost: u32,
     cut: u32,
-) -> u32
+) -> Option<u32>
     requires { Ready m.old marks.now t.now ds.now e cost cut × ((get_or m.old e 0 < v) ⊎ (get_or m.old (176 + e) 0 < w)) × (v ≤ 20000) × (w ≤ 20000) }
     ensures { LegRaised marks.now t.now ds.now src cut e v w m.old m.new result }
 {
@@ -36,18 +33,18 @@ fn raise_leg(
     let departure = departure_for(d, v, w, run);
     let arrival = arrival_for(a, w, departure, run);
     if arrival > limit_at(t, e) {
-        return DEAD;
+        return None;
     }
     if source_rises(src, e, d, departure, a, arrival) {
-        return DEAD;
+        return None;
     }
     let c = cost + more_cost(t, e, a, arrival);
     if c > cut {
-        return DEAD;
+        return None;
     }
     m[e] = departure;
     m[176 + e] = arrival;
-    c
+    Some(c)
 }
 
 // How many legs of a path were raised, and what the minutes cost.
@@ -69,27 +66,27 @@ fn raise_path(
     src: usize,
     cost: u32,
     cut: u32,
-) -> Path
+) -> Option<Path>
     requires { Ready m.old marks.now t.now ds.now e cost cut × ((get_or m.old e 0 < v) ⊎ (get_or m.old (176 + e) 0 < w)) × (v ≤ 20000) × (w ≤ 20000) }
     ensures { PathRaised marks.now t.now ds.now src cut e v w m.old m.new result }
 {
-    let mut c = raise_leg(m, marks, t, ds, e, v, w, src, cost, cut);
+    let mut c = raise_leg(m, marks, t, ds, e, v, w, src, cost, cut)?;
     let mut f = e;
     let mut legs: usize = 1;
-    while c != DEAD {
+    // Nothing is counted but the legs raised: the path ends where a leg need not move.
+    loop {
         let next = next_at(t, f);
         if next == f {
-            return Path { legs, cost: c };
+            return Some(Path { legs, cost: c });
         }
         let ready = m[176 + f] + stop_at(t, f);
         if m[next] >= ready {
-            return Path { legs, cost: c };
+            return Some(Path { legs, cost: c });
         }
-        c = raise_leg(m, marks, t, ds, next, ready, 0, src, c, cut);
+        c = raise_leg(m, marks, t, ds, next, ready, 0, src, c, cut)?;
         f = next;
-        legs = legs + 1;
+        legs += 1;
     }
-    Path { legs, cost: DEAD }
 }
 
 // Raises leg e to depart at v and arrive at w or later, and all that follows: the train's own path first, as it ends soonest where it is late, and then
@@ -106,30 +103,19 @@ fn lift(
     src: usize,
     cost: u32,
     cut: u32,
-) -> u32
+) -> Option<u32>
     requires { Ready m.old marks.now t.now ds.now e cost cut × ((get_or m.old e 0 < v) ⊎ (get_or m.old (176 + e) 0 < w)) × (v ≤ 20000) × (w ≤ 20000) }
     ensures { Lifted marks.now t.now ds.now src cut e v w m.old m.new result }
 {
-    let path = raise_path(m, marks, t, ds, e, v, w, src, cost, cut);
+    let path = raise_path(m, marks, t, ds, e, v, w, src, cost, cut)?;
     let mut c = path.cost;
-    if c == DEAD {
-        return DEAD;
-    }
     let mut f = e;
-    let mut left = path.legs;
-    while left > 0 {
-        c = followers(m, marks, t, ds, f, src, c, cut);
-        if c == DEAD {
-            return DEAD;
-        }
-        c = comers(m, marks, t, ds, f, src, c, cut);
-        if c == DEAD {
-            return DEAD;
-        }
+    for _ in 0..path.legs {
+        c = followers(m, marks, t, ds, f, src, c, cut)?;
+        c = comers(m, marks, t, ds, f, src, c, cut)?;
         f = next_at(t, f);
-        left = left - 1;
     }
-    c
+    Some(c)
 }
 
 // Raises the trains that go after that of leg e on its segment.
@@ -143,30 +129,26 @@ fn followers(
     src: usize,
     cost: u32,
     cut: u32,
-) -> u32
+) -> Option<u32>
     requires { Ready m.old marks.now t.now ds.now e cost cut }
     ensures { Followed (After e) marks.now t.now ds.now src cut m.old m.new result }
 {
     let s = marks[e];
     if s == 0 {
-        return cost;
+        return Some(cost);
     }
     let mut c = cost;
     let mut j = next_bit(s, 0);
+    // Over the marked trains alone: a `for` over all twelve would test each.
     while j < 12 {
         let f = 16 * (e / 16) + j;
         let b = times_behind(m, t, ds, e, j);
-        let v = b.departure;
-        let w = b.arrival;
-        if rises(m[f], v, m[176 + f], w) {
-            c = lift(m, marks, t, ds, f, v, w, src, c, cut);
-            if c == DEAD {
-                return DEAD;
-            }
+        if rises(m[f], b.departure, m[176 + f], b.arrival) {
+            c = lift(m, marks, t, ds, f, b.departure, b.arrival, src, c, cut)?;
         }
         j = next_bit(s, j + 1);
     }
-    c
+    Some(c)
 }
 
 // Raises the trains that come to the station of leg e's departure after its train has left.
@@ -180,32 +162,30 @@ fn comers(
     src: usize,
     cost: u32,
     cut: u32,
-) -> u32
+) -> Option<u32>
     requires { Ready m.old marks.now t.now ds.now e cost cut }
     ensures { Followed (Gone e) marks.now t.now ds.now src cut m.old m.new result }
 {
     let row = leaving_row(ds, e);
     let s = marks[row];
     if s == 0 {
-        return cost;
+        return Some(cost);
     }
     let mut c = cost;
     let mut j = next_bit(s, 0);
+    // Over the marked trains alone: a `for` over all twelve would test each.
     while j < 12 {
         let f = coming_leg(ds, e, j);
         let w = m[e] + 1;
         if m[176 + f] < w {
-            c = lift(m, marks, t, ds, f, 0, w, src, c, cut);
-            if c == DEAD {
-                return DEAD;
-            }
+            c = lift(m, marks, t, ds, f, 0, w, src, c, cut)?;
         }
         j = next_bit(s, j + 1);
     }
-    c
+    Some(c)
 }
 
-// The least minutes with the choice, marked already, that train j goes after that of leg e on its segment, and what they cost; DEAD where none are in
+// The least minutes with the choice, marked already, that train j goes after that of leg e on its segment, and what they cost; None where none are in
 // time for no more than the cut. Where the gap counts at departure and at arrival these are two arcs, and each is lifted for with its own source.
 pub fn follow(
     m: &mut [u16; 352],
@@ -216,26 +196,21 @@ pub fn follow(
     j: usize,
     cost: u32,
     cut: u32,
-) -> u32
+) -> Option<u32>
     requires { Choosing (Follows e j) m.old marks.now t.now ds.now e cost cut × (j < 12) × (in_mask (get_or marks.now e 0) j ≡ true) }
     ensures { Chose marks.now t.now ds.now cut m.old m.new result }
 {
     let f = 16 * (e / 16) + j;
     let b = times_behind(m, t, ds, e, j);
-    let v = b.departure;
-    let w = b.arrival;
     let mut c = cost;
-    if m[f] < v {
+    if m[f] < b.departure {
         let src = source_of(t, ds, e, j);
-        c = lift(m, marks, t, ds, f, v, 0, src, cost, cut);
-        if c == DEAD {
-            return DEAD;
-        }
+        c = lift(m, marks, t, ds, f, b.departure, 0, src, cost, cut)?;
     }
-    if m[176 + f] < w {
-        return lift(m, marks, t, ds, f, 0, w, 176 + e, c, cut);
+    if m[176 + f] < b.arrival {
+        return lift(m, marks, t, ds, f, 0, b.arrival, 176 + e, c, cut);
     }
-    c
+    Some(c)
 }
 
 // The same with the choice that train j comes to the station of leg e's departure after its train has left.
@@ -248,7 +223,7 @@ pub fn come_after(
     j: usize,
     cost: u32,
     cut: u32,
-) -> u32
+) -> Option<u32>
     requires { Choosing (Comes e j) m.old marks.now t.now ds.now e cost cut × (j < 12) × (in_mask (get_or marks.now (leaving ds.now e) 0) j ≡ true) }
     ensures { Chose marks.now t.now ds.now cut m.old m.new result }
 {
@@ -257,5 +232,5 @@ pub fn come_after(
     if m[176 + f] < w {
         return lift(m, marks, t, ds, f, 0, w, e, cost, cut);
     }
-    cost
+    Some(cost)
 }

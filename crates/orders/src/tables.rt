@@ -1,5 +1,5 @@
 // The tables of a line that raising reads, in one array; see specs/LineTables/Tables.antt for its layout.
-ghost use Rattle.std.specs.Prelude.{◌≡◌, ◌<◌, eqb, length};
+ghost use Rattle.std.specs.Prelude.{◌≡◌, ◌<◌, eqb};
 ghost use Rattle.line.specs.Record.{legs_of};
 ghost use Rattle.line.specs.Runnable.{Runnable};
 ghost use Rattle.rules.specs.Statement.Paths.{legs, leg_on, Uses, Routed};
@@ -19,84 +19,79 @@ pub const TABLE_SIZE: usize = 1456;
 
 pub type Tables = [u16; TABLE_SIZE];
 
-fn place(x: u16) -> usize
-    ensures { result ≡ x }
-{
-    x as usize
-}
-
+// Each table by its name: one function with the number of the table would be no plainer, as the callers then had numbers for names.
 pub fn run_at(t: &Tables, e: usize) -> u16
-    requires { (length t.now ≡ table_size) × (e < 176) }
+    requires { e < 176 }
     ensures { result ≡ run_in t.now e }
 {
     t[48 + e]
 }
 
 pub fn stop_at(t: &Tables, e: usize) -> u16
-    requires { (length t.now ≡ table_size) × (e < 176) }
+    requires { e < 176 }
     ensures { result ≡ stop_in t.now e }
 {
     t[224 + e]
 }
 
 pub fn next_at(t: &Tables, e: usize) -> usize
-    requires { (length t.now ≡ table_size) × (e < 176) }
+    requires { e < 176 }
     ensures { result ≡ next_in t.now e }
 {
-    place(t[400 + e])
+    usize::from(t[400 + e])
 }
 
 pub fn limit_at(t: &Tables, e: usize) -> u16
-    requires { (length t.now ≡ table_size) × (e < 176) }
+    requires { e < 176 }
     ensures { result ≡ limit_in t.now e }
 {
     t[576 + e]
 }
 
 pub fn weight_at(t: &Tables, e: usize) -> u16
-    requires { (length t.now ≡ table_size) × (e < 176) }
+    requires { e < 176 }
     ensures { result ≡ weight_in t.now e }
 {
     t[752 + e]
 }
 
 pub fn due_at(t: &Tables, e: usize) -> u16
-    requires { (length t.now ≡ table_size) × (e < 176) }
+    requires { e < 176 }
     ensures { result ≡ due_in t.now e }
 {
     t[928 + e]
 }
 
 pub fn rest_at(t: &Tables, e: usize) -> u16
-    requires { (length t.now ≡ table_size) × (e < 176) }
+    requires { e < 176 }
     ensures { result ≡ rest_in t.now e }
 {
     t[1104 + e]
 }
 
 pub fn last_at(t: &Tables, e: usize) -> usize
-    requires { (length t.now ≡ table_size) × (e < 176) }
+    requires { e < 176 }
     ensures { result ≡ last_in t.now e }
 {
-    place(t[1280 + e])
+    usize::from(t[1280 + e])
 }
 
 pub fn shared_at(t: &Tables, p: usize) -> bool
-    requires { (length t.now ≡ table_size) × (p < 11) }
+    requires { p < 11 }
     ensures { result ≡ eqb (shared_in t.now p) 1 }
 {
     t[p] == 1
 }
 
 pub fn following_at(t: &Tables, p: usize) -> u16
-    requires { (length t.now ≡ table_size) × (p < 11) }
+    requires { p < 11 }
     ensures { result ≡ following_in t.now p }
 {
     t[16 + p]
 }
 
 pub fn opposing_at(t: &Tables, p: usize) -> u16
-    requires { (length t.now ≡ table_size) × (p < 11) }
+    requires { p < 11 }
     ensures { result ≡ opposing_in t.now p }
 {
     t[32 + p]
@@ -107,7 +102,7 @@ pub fn leg_on(train: Train, p: usize) -> usize
     requires { Routed train × Uses train p }
     ensures { (result ≡ leg_on train p) × (result < legs_of train) }
 {
-    let o = train.origin as usize;
+    let o = usize::from(train.origin);
     if train.origin < train.destination {
         p + 1 - o
     } else {
@@ -144,16 +139,11 @@ fn rest_of(line: Line, i: usize, j: usize) -> u16
     requires { Runnable line × (i < line.traffic.train_count) × (j < legs line i) }
     ensures { result ≡ rest_of line i j }
 {
-    let traffic = line.traffic;
-    let train = traffic.trains[i];
+    let train = line.traffic.trains[i];
     let legs = legs_between(train.origin, train.destination);
-    let runs = train.runs;
-    let stops = train.stops;
     let mut rest: u16 = 0;
-    let mut k: usize = 0;
-    while k < j {
-        rest = rest + stops[legs - 2 - k] + runs[legs - 1 - k];
-        k = k + 1;
+    for k in 0..j {
+        rest += train.stops[legs - 2 - k] + train.runs[legs - 1 - k];
     }
     rest
 }
@@ -163,13 +153,12 @@ fn stop_after(line: Line, i: usize, k: usize) -> u16
     requires { Runnable line × (i < line.traffic.train_count) × (k < legs line i) }
     ensures { result ≡ stop_after line i k }
 {
-    let traffic = line.traffic;
-    let train = traffic.trains[i];
+    let train = line.traffic.trains[i];
     if k + 1 == legs_between(train.origin, train.destination) {
-        return 0;
+        0
+    } else {
+        train.stops[k]
     }
-    let stops = train.stops;
-    stops[k]
 }
 
 // The latest arrival after leg k of train i from which it still ends in time.
@@ -177,70 +166,48 @@ fn limit_of(line: Line, i: usize, k: usize) -> u16
     requires { Runnable line × (i < line.traffic.train_count) × (k < legs line i) }
     ensures { result ≡ limit_of line i k }
 {
-    let traffic = line.traffic;
-    let train = traffic.trains[i];
+    let train = line.traffic.trains[i];
     let rest = rest_of(
         line,
         i,
         legs_between(train.origin, train.destination) - 1 - k,
     );
-    if rest < train.latest {
-        train.latest - rest
-    } else {
-        0
-    }
+    train.latest.saturating_sub(rest)
 }
 
-// Entry e of table n of legs, where it is a leg of a train.
+// Entry e of table n of legs, where it is a leg of a train. The number is that of the layout, where the tables stand one after another (docs/DECISIONS.md).
+#[tactic(auto, using(crate::specs::LineTables::TablesLaws::entry_of))]
 fn leg_entry(n: usize, line: Line, dues: &[u16], e: usize) -> u16
     requires { Runnable line × Dues line dues.now × (n < 8) × (e < 176) × Leg line e }
     ensures { result ≡ leg_entry line n e }
 {
     let i = e % 16;
-    let traffic = line.traffic;
-    let train = traffic.trains[i];
+    let train = line.traffic.trains[i];
     let k = leg_on(train, e / 16);
-    if n == 0 {
-        let runs = train.runs;
-        return runs[k];
-    }
-    if n == 1 {
-        return stop_after(line, i, k);
-    }
-    if n == 2 {
-        return next_leg(train, k, e);
-    }
-    if n == 3 {
-        return limit_of(line, i, k);
-    }
     let after = legs_between(train.origin, train.destination) - 1 - k;
-    if n == 6 {
-        return rest_of(line, i, after);
+    match n {
+        0 => train.runs[k],
+        1 => stop_after(line, i, k),
+        2 => next_leg(train, k, e),
+        3 => limit_of(line, i, k),
+        4 | 5 if after > 0 => 0,
+        4 => train.weight,
+        5 => dues[i],
+        6 => rest_of(line, i, after),
+        _ => last_leg(train, e),
     }
-    if n == 7 {
-        return last_leg(train, e);
-    }
-    if after > 0 {
-        return 0;
-    }
-    if n == 4 {
-        return train.weight;
-    }
-    dues[i]
 }
 
-// Entry e of table n of legs, where it is no train's leg.
+// Entry e of table n of legs, where it is no train's leg. The number is that of the layout.
+#[tactic(auto, unfolding(crate::specs::LineTables::Tables::no_leg_value))]
 fn no_leg_entry(n: usize, e: usize) -> u16
     requires { e < 176 }
     ensures { result ≡ no_leg_value n e }
 {
-    if n == 2 {
-        return e as u16;
+    match n {
+        2 | 7 => e as u16,
+        _ => 0,
     }
-    if n == 7 {
-        return e as u16;
-    }
-    0
 }
 
 fn shared(kind: Kind) -> u16
@@ -248,23 +215,20 @@ fn shared(kind: Kind) -> u16
 {
     match kind {
         Kind::S => 0,
-        Kind::F => 1,
-        Kind::D => 1,
+        Kind::F | Kind::D => 1,
     }
 }
 
-// The entry of a segment in table n of segments.
+// The entry of a segment in table n of segments. The number is that of the layout.
+#[tactic(auto, unfolding(crate::specs::LineTables::Tables::segment_value))]
 fn segment_entry(n: usize, segment: Segment) -> u16
     ensures { result ≡ segment_value n segment }
 {
-    if n == 1 {
-        return segment.following;
+    match n {
+        1 => segment.following,
+        2 => segment.opposing,
+        _ => shared(segment.kind),
     }
-    if n == 2 {
-        return segment.opposing;
-    }
-    let kind = segment.kind;
-    shared(kind)
 }
 
 // The tables of segments, entry after entry, with the others yet to make.
@@ -272,19 +236,15 @@ fn segment_tables(line: Line) -> Tables
     requires { Runnable line }
     ensures { Begun (table_entry line) table_size 48 result }
 {
-    let segments = line.track.station_count as usize - 1;
+    let segments = usize::from(line.track.station_count) - 1;
     let mut table = [0u16; TABLE_SIZE];
-    let mut x: usize = 0;
-    while x < 48 {
+    for x in 0..48 {
         let p = x % 16;
-        let mut entry: u16 = 0;
-        if p < segments {
-            let track = line.track;
-            let segment = track.segments[p];
-            entry = segment_entry(x / 16, segment);
-        }
-        table[x] = entry;
-        x = x + 1;
+        table[x] = if p < segments {
+            segment_entry(x / 16, line.track.segments[p])
+        } else {
+            0
+        };
     }
     table
 }
@@ -298,16 +258,14 @@ pub fn tables_of(line: Line) -> Tables
     let floors = floors_of(line);
     let dues = dues_of(line, &floors);
     let mut table = segment_tables(line);
-    let mut x: usize = 48;
-    while x < TABLE_SIZE {
+    for x in 48..TABLE_SIZE {
         let n = (x - 48) / 176;
         let e = (x - 48) % 176;
-        let mut entry = no_leg_entry(n, e);
-        if ds[e] != 0 {
-            entry = leg_entry(n, line, &dues, e);
-        }
-        table[x] = entry;
-        x = x + 1;
+        table[x] = if ds[e] == 0 {
+            no_leg_entry(n, e)
+        } else {
+            leg_entry(n, line, &dues, e)
+        };
     }
     table
 }

@@ -1,6 +1,6 @@
 // The minutes of one leg as raising moves them: its departure, its arrival, and what they cost.
-ghost use Rattle.std.specs.Prelude.{◌≡◌, ◌⊎◌, true, false, ◌≤◌, ◌<◌, length};
-ghost use Rattle.orders.specs.LineTables.Tables.{table_size, weight_in};
+ghost use Rattle.std.specs.Prelude.{◌≡◌, ◌⊎◌, true, false, ◌≤◌, ◌<◌};
+ghost use Rattle.orders.specs.LineTables.Tables.{weight_in};
 ghost use Rattle.orders.specs.Raise.LegTimes.{Departs, Arrives, SourceRises, more_cost};
 
 use crate::tables::{Tables, due_at, weight_at};
@@ -13,10 +13,8 @@ pub fn departure_for(d: u16, v: u16, w: u16, run: u16) -> u16
     if r < v {
         r = v;
     }
-    if run < w {
-        if r < w - run {
-            r = w - run;
-        }
+    if run < w && r < w - run {
+        r = w - run;
     }
     r
 }
@@ -42,34 +40,19 @@ pub fn source_rises(src: usize, e: usize, d: u16, departure: u16, a: u16, arriva
     requires { e < 176 }
     ensures { SourceRises src e d departure a arrival result }
 {
-    if src == e {
-        return d < departure;
-    }
-    if src == 176 + e {
-        return a < arrival;
-    }
-    false
+    (src == e && d < departure) || (src == 176 + e && a < arrival)
 }
 
 // Whether a leg that departs at d and arrives at a must rise to v and w.
 pub fn rises(d: u16, v: u16, a: u16, w: u16) -> bool
     ensures { (result ≡ true → (d < v) ⊎ (a < w)) × (result ≡ false → (v ≤ d) × (w ≤ a)) }
 {
-    if d < v {
-        return true;
-    }
-    a < w
-}
-
-fn wide(x: u16) -> u32
-    ensures { result ≡ x }
-{
-    x as u32
+    d < v || a < w
 }
 
 // What it costs more that leg e arrives at `to` and not at `from`.
 pub fn more_cost(t: &Tables, e: usize, from: u16, to: u16) -> u32
-    requires { (length t.now ≡ table_size) × (e < 176) × (weight_in t.now e ≤ 99) × (from ≤ to) × (to ≤ 2879) }
+    requires { (e < 176) × (weight_in t.now e ≤ 99) × (from ≤ to) × (to ≤ 2879) }
     ensures { (result ≡ more_cost t.now e from to) × (result ≤ 285021) }
 {
     let weight = weight_at(t, e);
@@ -81,7 +64,7 @@ pub fn more_cost(t: &Tables, e: usize, from: u16, to: u16) -> u32
         return 0;
     }
     if from < due {
-        return wide(weight) * wide(to - due);
+        return u32::from(weight) * u32::from(to - due);
     }
-    wide(weight) * wide(to - from)
+    u32::from(weight) * u32::from(to - from)
 }

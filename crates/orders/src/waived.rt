@@ -8,17 +8,9 @@ use line::{Line, Time, Traffic, Train};
 fn waive_latest(train: Train) -> Train
     ensures { result ≡ waived_train train }
 {
-    let runs = train.runs;
-    let stops = train.stops;
-    let limits = Time::LIMITS;
     Train {
-        origin: train.origin,
-        destination: train.destination,
-        earliest: train.earliest,
-        latest: limits.max,
-        weight: train.weight,
-        runs,
-        stops,
+        latest: Time::LIMITS.max,
+        ..train
     }
 }
 
@@ -26,24 +18,15 @@ fn waive_latest(train: Train) -> Train
 pub fn waive_latests(line: Line) -> Line
     ensures { result ≡ waived line }
 {
-    let traffic = line.traffic;
-    let mut trains = traffic.trains;
-    let mut i: usize = 0;
-    while i < 12 {
-        let train = trains[i];
-        trains[i] = waive_latest(train);
-        i = i + 1;
+    let mut trains = line.traffic.trains;
+    for i in 0..12 {
+        trains[i] = waive_latest(trains[i]);
     }
-    let track = line.track;
-    let booked = line.booked;
-    let dues = line.dues;
     Line {
-        track,
         traffic: Traffic {
-            train_count: traffic.train_count,
             trains,
+            ..line.traffic
         },
-        booked,
-        dues,
+        ..line
     }
 }

@@ -1,24 +1,13 @@
 // Raising for a choice: the least minutes of a plan with one choice more, from those of the plan, and a first look whether there are any.
-ghost use Rattle.std.specs.Prelude.{◌≡◌, true, length};
+ghost use Rattle.std.specs.Prelude.{◌≡◌, true};
 ghost use Rattle.plans.specs.Clauses.Choosing.{CanRaise, Fails, RaisesChoice};
 
 use crate::ways::Way;
 use orders::prospects::{come_after_fails, follow_fails};
-use orders::raising::{DEAD, come_after, follow};
+use orders::raising::{come_after, follow};
 use orders::tables::Tables;
 
-pub fn copy_minutes(m: &[u16; 352], q: &mut [u16; 352])
-    requires { (length m.now ≡ 352) × (length q.old ≡ 352) }
-    ensures { q.new ≡ m.now }
-{
-    let mut e: usize = 0;
-    while e < 352 {
-        q[e] = m[e];
-        e = e + 1;
-    }
-}
-
-// The least minutes with the way's choice, marked already, at or above those in q, and what they cost; DEAD where none are in time for the cut.
+// The least minutes with the way's choice, marked already, at or above those in q, and what they cost; None where none are in time for the cut.
 pub fn raised(
     q: &mut [u16; 352],
     marks: &[u16; 368],
@@ -27,19 +16,18 @@ pub fn raised(
     way: Way,
     cost: u32,
     cut: u32,
-) -> u32
+) -> Option<u32>
     requires { CanRaise q.old marks.now t.now ds.now way cost cut }
     ensures { RaisesChoice q.old marks.now t.now ds.now way cost cut q.new result }
 {
     if cut < cost {
-        return DEAD;
+        return None;
     }
-    let leg = way.leg;
-    let second = way.second;
     if way.station {
-        return come_after(q, marks, t, ds, leg, second, cost, cut);
+        come_after(q, marks, t, ds, way.leg, way.second, cost, cut)
+    } else {
+        follow(q, marks, t, ds, way.leg, way.second, cost, cut)
     }
-    follow(q, marks, t, ds, leg, second, cost, cut)
 }
 
 // Whether it shows at a first look that there are none. A true answer is what counts: what is not seen here, raising finds.
@@ -58,10 +46,9 @@ pub fn fails(
     if cut < cost {
         return true;
     }
-    let leg = way.leg;
-    let second = way.second;
     if way.station {
-        return come_after_fails(m, marks, t, ds, leg, second, cost, cut);
+        come_after_fails(m, marks, t, ds, way.leg, way.second, cost, cut)
+    } else {
+        follow_fails(m, marks, t, ds, way.leg, way.second, cost, cut)
     }
-    follow_fails(m, marks, t, ds, leg, second, cost, cut)
 }

@@ -6,7 +6,7 @@ use crate::tally::NO_CUT;
 use crate::ways::Way;
 use orders::tables::Tables;
 
-// What the plan with the way's choice, marked already, costs, with its least minutes in q; DEAD exactly where it has none up to the last minute of all. The
+// What the plan with the way's choice, marked already, costs, with its least minutes in q; None exactly where it has none up to the last minute of all. The
 // tables are those of the line with every latest waived.
 pub fn way_cost(
     q: &mut [u16; 352],
@@ -15,7 +15,7 @@ pub fn way_cost(
     ds: &[u16; 176],
     way: Way,
     cost: u32,
-) -> u32
+) -> Option<u32>
     requires { CanCost q.old marks.now t.now ds.now way cost }
     ensures { CostsWay q.old marks.now t.now ds.now way cost q.new result }
 {

@@ -4,32 +4,26 @@ ghost use Rattle.plans.specs.Clauses.FoundBest.{found_of};
 
 use crate::tally::Tally;
 
-// Whether there is a timetable; the minutes and the weighted delay of the best, all 0 where there is none; and how many plans were taken up, cut off at
-// 4,294,967,295.
+// The minutes and the weighted delay of the best timetable.
 #[derive(Clone, Copy)]
-pub struct Found {
-    pub found: bool,
+pub struct Best {
     pub minutes: [u16; 352],
     pub delay: u32,
+}
+
+// The best timetable, where there is one, and how many plans were taken up, cut off at 4,294,967,295.
+#[derive(Clone, Copy)]
+pub struct Found {
+    pub best: Option<Best>,
     pub steps: u32,
 }
 
 // What was found by a search that ended with this tally and these minutes beside it.
-pub fn found_of(tally: Tally, best: [u16; 352]) -> Found
-    ensures { result ≡ found_of tally best }
+pub fn found_of(tally: Tally, minutes: [u16; 352]) -> Found
+    ensures { result ≡ found_of tally minutes }
 {
-    if !tally.found {
-        return Found {
-            found: false,
-            minutes: [0u16; 352],
-            delay: 0,
-            steps: tally.steps,
-        };
-    }
     Found {
-        found: true,
-        minutes: best,
-        delay: tally.delay,
+        best: tally.delay.map(|delay| Best { minutes, delay }),
         steps: tally.steps,
     }
 }

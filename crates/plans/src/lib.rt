@@ -4,6 +4,7 @@
 
 pub mod choosing;
 pub mod costing;
+pub mod day;
 pub mod found;
 pub mod ranking;
 pub mod tally;

@@ -1,5 +1,5 @@
 // The ways out of a conflict, by number.
-ghost use Rattle.std.specs.Prelude.{◌≡◌, false, ◌+◌, ◌*◌, ◌≤◌, ◌<◌, length};
+ghost use Rattle.std.specs.Prelude.{◌≡◌, ◌+◌, ◌*◌, ◌≤◌, ◌<◌, Some};
 ghost use Rattle.rules.specs.declared.conflicts.Conflict.{Conflict as SomeConflict};
 ghost use Rattle.orders.specs.Plan.Bits.{with_bit};
 ghost use Rattle.plans.specs.Conflict.Ways.{two_of, way_of, way_count};
@@ -8,18 +8,24 @@ ghost use Rattle.plans.specs.Clauses.WaysTold.{leg_out, InRange, TellsWay, Tells
 use orders::bits::{has_bit, next_bit};
 use rules::conflicts::{Conflict, SegmentConflict, StationConflict};
 
-// A way out, where there is one: the row of its mark and the train that the mark names, the leg of the train that goes first, and whether it is at a
-// station. `step` is how far on the next number is that may have a way.
+// A way out: the row of its mark and the train that the mark names, the leg of the train that goes first, and whether it is at a station, which
+// tells the two kinds of choice apart as `is_station` of the definitions does.
 #[derive(Clone, Copy)]
 pub struct Way {
-    pub some: bool,
-    pub step: usize,
     pub station: bool,
     pub row: usize,
     pub leg: usize,
     pub second: usize,
 }
 
+// The way out that a number has, if any, and how far on the next number is that may have one.
+#[derive(Clone, Copy)]
+pub struct WayOut {
+    pub way: Option<Way>,
+    pub step: usize,
+}
+
+#[tactic(auto, using(crate::proofs::Clauses::WaysToldLaws::bit_put))]
 pub fn with_bit(mask: u16, i: usize) -> u16
     requires { i < 16 }
     ensures { result ≡ with_bit i mask }
@@ -32,72 +38,46 @@ fn two_of(mask: u16, a: usize, b: usize) -> bool
     requires { (a < 16) × (b < 16) }
     ensures { result ≡ two_of mask a b }
 {
-    if !has_bit(mask, a) {
-        return false;
-    }
-    if !has_bit(mask, b) {
-        return false;
-    }
-    a != b
+    has_bit(mask, a) && has_bit(mask, b) && a != b
 }
 
 // The leg on which train a leaves its middle station s.
+#[tactic(auto, unfolding(crate::specs::Clauses::WaysTold::leg_out))]
 fn leg_out(ds: &[u16; 176], s: usize, a: usize) -> usize
-    requires { (length ds.now ≡ 176) × (1 ≤ s) × (s ≤ 10) × (a < 12) }
+    requires { (1 ≤ s) × (s ≤ 10) × (a < 12) }
     ensures { result ≡ leg_out ds.now s a }
 {
     if ds[16 * s + a] == 1 {
-        return 16 * s + a;
+        16 * s + a
+    } else {
+        16 * (s - 1) + a
     }
-    16 * (s - 1) + a
 }
 
 pub fn way_count(conflict: Conflict) -> usize
-    ensures { result ≡ way_count conflict }
+    ensures { result ≡ way_count (Some conflict) }
 {
     match conflict {
-        Conflict::Nothing => 0,
         Conflict::OnSegment(_) => 2,
         Conflict::AtStation(_) => 144,
     }
 }
 
-pub fn no_way(step: usize) -> Way
-    ensures { (result.some ≡ false) × (result.step ≡ step) }
-{
-    Way {
-        some: false,
-        step,
-        station: false,
-        row: 0,
-        leg: 0,
-        second: 0,
-    }
-}
-
 fn segment_way(x: SegmentConflict, w: usize) -> Way
     requires { InRange (SomeConflict.OnSegment x) }
-    ensures { TellsOnSegment x w result × (result.step ≡ 1) }
+    ensures { TellsOnSegment x w result }
 {
-    if w == 0 {
-        let e = 16 * x.segment + x.lower;
-        return Way {
-            some: true,
-            step: 1,
-            station: false,
-            row: e,
-            leg: e,
-            second: x.higher,
-        };
-    }
-    let e = 16 * x.segment + x.higher;
+    let (first, second) = if w == 0 {
+        (x.lower, x.higher)
+    } else {
+        (x.higher, x.lower)
+    };
+    let e = 16 * x.segment + first;
     Way {
-        some: true,
-        step: 1,
         station: false,
         row: e,
         leg: e,
-        second: x.lower,
+        second,
     }
 }
 
@@ -117,37 +97,39 @@ fn pair_step(mask: u16, a: usize, b: usize) -> usize
     144 - (12 * a + b)
 }
 
-fn station_way(x: StationConflict, ds: &[u16; 176], w: usize) -> Way
-    requires { InRange (SomeConflict.AtStation x) × (length ds.now ≡ 176) × (w < 144) }
-    ensures { TellsWay ds.now (way_of (SomeConflict.AtStation x) w) result × Steps (SomeConflict.AtStation x) w result }
+fn station_way(x: StationConflict, ds: &[u16; 176], w: usize) -> WayOut
+    requires { InRange (SomeConflict.AtStation x) × (w < 144) }
+    ensures { TellsWay ds.now (way_of (Some (SomeConflict.AtStation x)) w) result.way × Steps (Some (SomeConflict.AtStation x)) w result.step }
 {
-    let s = x.station;
     let a = w / 12;
     let b = w % 12;
     let step = pair_step(x.trains, a, b);
-    if two_of(x.trains, a, b) {
-        let row = 176 + (16 * s + a);
-        let leg = leg_out(ds, s, a);
-        return Way {
-            some: true,
-            step,
-            station: true,
-            row,
-            leg,
-            second: b,
-        };
+    if !two_of(x.trains, a, b) {
+        return WayOut { way: None, step };
     }
-    no_way(step)
+    let way = Way {
+        station: true,
+        row: 176 + (16 * x.station + a),
+        leg: leg_out(ds, x.station, a),
+        second: b,
+    };
+    WayOut {
+        way: Some(way),
+        step,
+    }
 }
 
 // Way w out of the conflict.
-pub fn way_of(conflict: Conflict, ds: &[u16; 176], w: usize) -> Way
-    requires { InRange conflict × (length ds.now ≡ 176) × (w < 144) }
-    ensures { TellsWay ds.now (way_of conflict w) result × Steps conflict w result }
+#[tactic(auto, using(crate::proofs::Clauses::WaysToldLaws::steps_one))]
+pub fn way_of(conflict: Conflict, ds: &[u16; 176], w: usize) -> WayOut
+    requires { InRange conflict × (w < 144) }
+    ensures { TellsWay ds.now (way_of (Some conflict) w) result.way × Steps (Some conflict) w result.step }
 {
     match conflict {
-        Conflict::Nothing => no_way(1),
-        Conflict::OnSegment(x) => segment_way(x, w),
+        Conflict::OnSegment(x) => WayOut {
+            way: Some(segment_way(x, w)),
+            step: 1,
+        },
         Conflict::AtStation(x) => station_way(x, ds, w),
     }
 }

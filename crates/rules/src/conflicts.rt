@@ -25,7 +25,6 @@ pub struct StationConflict {
 
 #[derive(Clone, Copy)]
 pub enum Conflict {
-    Nothing,
     OnSegment(SegmentConflict),
     AtStation(StationConflict),
 }
@@ -45,61 +44,44 @@ pub fn layout_of(line: Line) -> Layout
     let segments = line.track.segments;
     let tracks = line.track.tracks;
     Layout {
-        stations: line.track.station_count as usize,
-        trains: line.traffic.train_count as usize,
+        stations: usize::from(line.track.station_count),
+        trains: usize::from(line.traffic.train_count),
         segments,
         tracks,
     }
 }
 
 // The lowest segment with a conflict, and its lowest pair.
-fn segment_conflict(layout: Layout, ds: &[u16], m: &[u16]) -> Conflict
+fn segment_conflict(layout: Layout, ds: &[u16; 176], m: &[u16; 352]) -> Option<Conflict>
     requires { Scans layout ds.now m.now }
     ensures { result ≡ segment_conflict layout.segments ds.now m.now (layout.stations - 1) layout.trains }
 {
-    let segments = layout.segments;
-    let count = layout.stations - 1;
-    let n = layout.trains;
-    let mut p: usize = 0;
-    while p < count {
-        let g = segments[p];
-        let found = pair_on(g, ds, m, p, n);
-        let Conflict::Nothing = found else {
-            return found;
-        };
-        p = p + 1;
+    for p in 0..layout.stations - 1 {
+        if let Some(found) = pair_on(layout.segments[p], ds, m, p, layout.trains) {
+            return Some(found);
+        }
     }
-    Conflict::Nothing
+    None
 }
 
 // The lowest station with a conflict, its earliest minute and the lowest trains there.
-pub fn station_conflict(layout: Layout, ds: &[u16], m: &[u16]) -> Conflict
+pub fn station_conflict(layout: Layout, ds: &[u16; 176], m: &[u16; 352]) -> Option<Conflict>
     requires { Scans layout ds.now m.now }
     ensures { result ≡ station_conflict layout.tracks ds.now m.now layout.stations
         layout.trains }
 {
-    let tracks = layout.tracks;
-    let stations = layout.stations;
-    let n = layout.trains;
-    let mut s: usize = 1;
-    while s + 1 < stations {
-        let found = crowd_on(ds, m, s, tracks[s], n);
-        let Conflict::Nothing = found else {
-            return found;
-        };
-        s = s + 1;
+    for s in 1..layout.stations - 1 {
+        if let Some(found) = crowd_on(ds, m, s, layout.tracks[s], layout.trains) {
+            return Some(found);
+        }
     }
-    Conflict::Nothing
+    None
 }
 
 // The lowest conflict of the minutes of a line within the limits, by its layout and its table of directions.
-pub fn lowest_conflict(layout: Layout, ds: &[u16], m: &[u16]) -> Conflict
+pub fn lowest_conflict(layout: Layout, ds: &[u16; 176], m: &[u16; 352]) -> Option<Conflict>
     requires { Scans layout ds.now m.now }
     ensures { result ≡ conflict_in layout ds.now m.now }
 {
-    let found = segment_conflict(layout, ds, m);
-    let Conflict::Nothing = found else {
-        return found;
-    };
-    station_conflict(layout, ds, m)
+    segment_conflict(layout, ds, m).or_else(|| station_conflict(layout, ds, m))
 }

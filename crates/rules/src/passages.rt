@@ -1,5 +1,5 @@
 // Rule 14 on one segment: how trains go over it, whether one of two goes first, and the lowest pair of which neither does.
-ghost use Rattle.std.specs.Prelude.{◌≡◌, ◌<◌, ◌≤◌, length};
+ghost use Rattle.std.specs.Prelude.{◌≡◌, ◌<◌, ◌≤◌};
 ghost use Rattle.rules.specs.Statement.Minutes.{departs_on, arrives_on};
 ghost use Rattle.rules.specs.Conflict.Conflicts.{neither_first, passage, partner_of, pair_on};
 ghost use Rattle.rules.specs.Scan.Scanning.{RoomFor, Denies, BothDeny, neither_alone, keeps_behind, neither_behind};
@@ -8,21 +8,15 @@ use crate::conflicts::{Conflict, SegmentConflict};
 use crate::directions::way_on;
 use line::{Kind, Segment};
 
-pub fn wide(x: u16) -> u32
-    ensures { (result ≡ x) × (result < 65536) }
-{
-    x as u32
-}
-
-pub fn departs_on(m: &[u16], p: usize, i: usize) -> u16
-    requires { (length m.now ≡ 352) × (p < 11) × (i < 16) }
+pub fn departs_on(m: &[u16; 352], p: usize, i: usize) -> u16
+    requires { (p < 11) × (i < 16) }
     ensures { result ≡ departs_on m.now p i }
 {
     m[16 * p + i]
 }
 
-pub fn arrives_on(m: &[u16], p: usize, i: usize) -> u16
-    requires { (length m.now ≡ 352) × (p < 11) × (i < 16) }
+pub fn arrives_on(m: &[u16; 352], p: usize, i: usize) -> u16
+    requires { (p < 11) × (i < 16) }
     ensures { result ≡ arrives_on m.now p i }
 {
     m[176 + (16 * p + i)]
@@ -36,15 +30,9 @@ pub struct Passage {
     pub arrives: u16,
 }
 
-#[derive(Clone, Copy)]
-pub enum TrainFound {
-    Train(usize),
-    Nobody,
-}
-
-// How train i goes over segment p.
-pub fn passage_of(ds: &[u16], m: &[u16], p: usize, i: usize) -> Passage
-    requires { (length ds.now ≡ 176) × (length m.now ≡ 352) × (p < 11) × (i < 12) }
+// How train i goes over segment p. Directions and minutes come apart: the first are made once for a line, the others for each plan.
+pub fn passage_of(ds: &[u16; 176], m: &[u16; 352], p: usize, i: usize) -> Passage
+    requires { (p < 11) × (i < 12) }
     ensures { result ≡ passage ds.now m.now p i }
 {
     Passage {
@@ -58,7 +46,7 @@ pub fn passage_of(ds: &[u16], m: &[u16], p: usize, i: usize) -> Passage
 fn room(x: u16, gap: u16, y: u16) -> u32
     ensures { RoomFor x gap y result }
 {
-    std::num::wrapping_sub_u32(wide(y), wide(x) + wide(gap))
+    u32::from(y).wrapping_sub(u32::from(x) + u32::from(gap))
 }
 
 // Whether two answers have the highest bit. It is one test in place of two: which of two trains goes first is hard to foresee for a processor, that one of
@@ -66,7 +54,7 @@ fn room(x: u16, gap: u16, y: u16) -> u32
 fn both_deny(one: u32, other: u32) -> bool
     ensures { BothDeny one other result }
 {
-    (one & other) >= 2147483648
+    (one & other) >= 1 << 31
 }
 
 // Whether neither leaves the segment so long before the other enters it.
@@ -98,68 +86,56 @@ fn neither_behind(gap: u16, x: Passage, y: Passage) -> bool
 pub fn neither(g: Segment, x: Passage, y: Passage) -> bool
     ensures { result ≡ neither_first g x y }
 {
-    let kind = g.kind;
     let same = x.way == y.way;
-    match kind {
+    match g.kind {
         Kind::S => {
             let gap = if same { g.following } else { g.opposing };
             neither_alone(gap, x, y)
         }
-        Kind::F => {
-            if same {
-                neither_behind(g.following, x, y)
-            } else {
-                neither_alone(g.opposing, x, y)
-            }
-        }
-        Kind::D => {
-            if same {
-                neither_behind(g.following, x, y)
-            } else {
-                false
-            }
-        }
+        Kind::F if !same => neither_alone(g.opposing, x, y),
+        Kind::F => neither_behind(g.following, x, y),
+        Kind::D => same && neither_behind(g.following, x, y),
     }
 }
 
 // The lowest train above i that is in conflict with it on segment p.
-fn partner(g: Segment, ds: &[u16], m: &[u16], p: usize, i: usize, n: usize) -> TrainFound
-    requires { (length ds.now ≡ 176) × (length m.now ≡ 352) × (p < 11) × (i < n) × (n ≤ 12) }
+fn partner(
+    g: Segment,
+    ds: &[u16; 176],
+    m: &[u16; 352],
+    p: usize,
+    i: usize,
+    n: usize,
+) -> Option<usize>
+    requires { (p < 11) × (i < n) × (n ≤ 12) }
     ensures { result ≡ partner_of g ds.now m.now p n i }
 {
     let x = passage_of(ds, m, p, i);
     if x.way == 0 {
-        return TrainFound::Nobody;
+        return None;
     }
-    let mut j = i + 1;
-    while j < n {
+    for j in i + 1..n {
         let y = passage_of(ds, m, p, j);
-        if y.way != 0 {
-            if neither(g, x, y) {
-                return TrainFound::Train(j);
-            }
+        if y.way != 0 && neither(g, x, y) {
+            return Some(j);
         }
-        j = j + 1;
     }
-    TrainFound::Nobody
+    None
 }
 
 // The lowest pair in conflict on segment p.
-pub fn pair_on(g: Segment, ds: &[u16], m: &[u16], p: usize, n: usize) -> Conflict
-    requires { (length ds.now ≡ 176) × (length m.now ≡ 352) × (p < 11) × (n ≤ 12) }
+pub fn pair_on(g: Segment, ds: &[u16; 176], m: &[u16; 352], p: usize, n: usize) -> Option<Conflict>
+    requires { (p < 11) × (n ≤ 12) }
     ensures { result ≡ pair_on g ds.now m.now n p }
 {
-    let mut i: usize = 0;
-    while i < n {
-        let found = partner(g, ds, m, p, i, n);
-        if let TrainFound::Train(j) = found {
-            return Conflict::OnSegment(SegmentConflict {
+    for i in 0..n {
+        if let Some(j) = partner(g, ds, m, p, i, n) {
+            return Some(Conflict::OnSegment(SegmentConflict {
                 segment: p,
                 lower: i,
                 higher: j,
-            });
+            }));
         }
-        i = i + 1;
     }
-    Conflict::Nothing
+    None
 }

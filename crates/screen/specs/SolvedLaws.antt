@@ -1,15 +1,15 @@
 -- Demand 3 for what `gaugeviolet_solve` returns, number and value unpacked: 0 with the length of a text that passes the check with that file and is the best
 -- timetable's; 5 exactly when no timetable keeps every rule; 6 exactly where its text is longer than the lent bytes; else the file's own number and place.
-use Rattle.std.specs.Prelude.{ℕ, ◌≤◌, ◌<◌, ◌≡◌, List, ◌++◌, length, take, drop}
+use Rattle.std.specs.Prelude.{ℕ, ◌≤◌, ◌<◌, ◌≡◌, List, ◌++◌, Result, Ok, Err, length, take, drop}
 use Rattle.std.proofs.Common.{sym, ap, ◌∙◌, ⊎_elim, arith}
 use Rattle.text.specs.declared.Cursor.{Cursor}
-use Rattle.text.specs.declared.Written.{Written}
+use Rattle.text.specs.declared.Refusal.{Refusal}
 use Rattle.text.specs.Reading.Parsed.{Parsed}
+use Rattle.text.specs.Reading.Told.{refusal}
 use Rattle.line.specs.declared.Line.{Line}
 use Rattle.line.specs.File.{line_file}
 use Rattle.rules.specs.Statement.Rules.{Lawful}
 use Rattle.rules.specs.Statement.Delay.{Best}
-use Rattle.timetable.specs.declared.checking.Verdict.{Verdict}
 use Rattle.timetable.specs.Spell.{timetable_text}
 use Rattle.timetable.specs.Check.{check_of}
 use Rattle.timetable.specs.FitsLaws.{timetable_fits}
@@ -20,35 +20,35 @@ use Rattle.service.specs.PackingLaws.{Unpacks, packed_tells}
 use Rattle.screen.specs.Solved.{Solved}
 
 -- what solving answers can be packed
-bounded_packs : (r : Written) → AnswerBounded r → PacksWritten r
-bounded_packs (Written.Length n) h = omega arith
-bounded_packs (Written.Refused n p) h = omega (arith, h.1)
+bounded_packs : (r : Result ℕ Refusal) → AnswerBounded r → PacksWritten r
+bounded_packs (Ok n) h = omega arith
+bounded_packs (Err e) h = omega (arith, h.1)
 
-pub solving_packs : (file entry exit : List ℕ) (w : Written) → Solving file entry exit w → PacksWritten w
+pub solving_packs : (file entry exit : List ℕ) (w : Result ℕ Refusal) → Solving file entry exit w → PacksWritten w
 solving_packs file entry exit w s = bounded_packs w (answer_bounded file entry exit w s)
 
 -- ---- number and value are those of the answer
 
-written_tells : (w : Written) (r n p : ℕ) → r ≡ packed_written w → w ≡ Written.Refused n p → PacksWritten w → Unpacks r n p
+written_tells : (w : Result ℕ Refusal) (r n p : ℕ) → r ≡ packed_written w → w ≡ refusal n p → PacksWritten w → Unpacks r n p
 written_tells w r n p is e h = packed_tells r n p (is ∙ ap packed_written e) (rw e at h)
 
 -- number 0 is a length
-length_told : (w : Written) (r : ℕ) → r ≡ packed_written w → AnswerBounded w → number_in r ≡ 0 → w ≡ Written.Length (value_in r)
-length_told (Written.Length n) r is h zero =
+length_told : (w : Result ℕ Refusal) (r : ℕ) → r ≡ packed_written w → AnswerBounded w → number_in r ≡ 0 → w ≡ Ok (value_in r)
+length_told (Ok n) r is h zero =
     let told = packed_tells r 0 n is (omega arith) in
-    ap Written.Length (sym told.1)
-length_told (Written.Refused n p) r is h zero =
-    let told = packed_tells r n p is (omega (arith, h.1)) in
-    absurd (⊎_elim (λ b. omega (arith, told.0, b.0)) (λ e. omega (arith, told.0, e)) h.0)
+    ap Ok (sym told.1)
+length_told (Err e) r is h zero =
+    let told = packed_tells r e.number e.place is (omega (arith, h.1)) in
+    absurd (⊎_elim (λ b. omega (arith, told.0, b.0)) (λ k. omega (arith, told.0, k)) h.0)
 
 -- number 5 is that refusal
-five_told : (w : Written) (r : ℕ) → r ≡ packed_written w → AnswerBounded w → number_in r ≡ 5 → value_in r ≡ 0 → w ≡ Written.Refused 5 0
-five_told (Written.Length n) r is h five zero =
+five_told : (w : Result ℕ Refusal) (r : ℕ) → r ≡ packed_written w → AnswerBounded w → number_in r ≡ 5 → value_in r ≡ 0 → w ≡ refusal 5 0
+five_told (Ok n) r is h five zero =
     let told = packed_tells r 0 n is (omega arith) in
     absurd (omega (arith, told.0))
-five_told (Written.Refused n p) r is h five zero =
-    let told = packed_tells r n p is (omega (arith, h.1)) in
-    ap (λ (k : ℕ). Written.Refused k p) (sym told.0 ∙ five) ∙ ap (λ (k : ℕ). Written.Refused 5 k) (sym told.1 ∙ zero)
+five_told (Err e) r is h five zero =
+    let told = packed_tells r e.number e.place is (omega (arith, h.1)) in
+    ap (λ (k : ℕ). refusal {A = ℕ} k e.place) (sym told.0 ∙ five) ∙ ap (λ (k : ℕ). refusal {A = ℕ} 5 k) (sym told.1 ∙ zero)
 
 -- ---- the theorems
 
@@ -60,7 +60,7 @@ module _ (file entry exit : List ℕ) (r : ℕ) (s : Solved file entry exit r) w
   packs = bounded_packs s.written bounded
 
   -- what is printed passes the check with that file
-  pub screen_passes : number_in r ≡ 0 → check_of file (take (value_in r) exit) ≡ Verdict.Passed
+  pub screen_passes : number_in r ≡ 0 → check_of file (take (value_in r) exit) ≡ Ok tt
   screen_passes e = printed_passes file entry exit s.written s.solving (value_in r) (length_told s.written r s.answer bounded e)
 
   -- a refused file is told by its number and place, with every lent byte as before

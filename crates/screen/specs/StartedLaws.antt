@@ -1,10 +1,10 @@
 -- What `gaugeviolet_starts` returns says, number and place unpacked: the file's own number and place; 22 at 0 exactly where train, list and entries may not be
 -- asked of its line; else 0, with every entry filled in.
-use Rattle.std.specs.Prelude.{ℕ, ◌≡◌, List, length}
+use Rattle.std.specs.Prelude.{ℕ, ◌≡◌, List, Result, Ok, Err, length}
 use Rattle.std.proofs.Common.{ap, ◌∙◌, subst, arith}
 use Rattle.text.specs.declared.Cursor.{Cursor}
+use Rattle.text.specs.declared.Refusal.{Refusal}
 use Rattle.text.specs.Reading.Parsed.{Parsed}
-use Rattle.line.specs.declared.Answer.{Answer}
 use Rattle.line.specs.declared.Line.{Line}
 use Rattle.line.specs.File.{line_file}
 use Rattle.line.specs.PlaceLaws.{file_refusal}
@@ -16,9 +16,9 @@ use Rattle.starts.specs.OperationLaws.{refusal_bounded}
 use Rattle.screen.specs.Started.{Started}
 
 -- what is answered can be packed
-pub starts_packs : (file : List ℕ) (train : ℕ) (minutes entry exit : List ℕ) (a : Answer) → Starts file train minutes entry exit a → PacksAnswer a
-starts_packs file train minutes entry exit Answer.Accepted s = tt
-starts_packs file train minutes entry exit (Answer.Refused n p) s = omega (arith, refusal_bounded file train minutes entry exit n p s)
+pub starts_packs : (file : List ℕ) (train : ℕ) (minutes entry exit : List ℕ) (a : Result (Unit {0}) Refusal) → Starts file train minutes entry exit a → PacksAnswer a
+starts_packs file train minutes entry exit (Ok _) s = tt
+starts_packs file train minutes entry exit (Err e) s = omega (arith, refusal_bounded file train minutes entry exit e.number e.place s)
 
 module _ (file : List ℕ) (train : ℕ) (minutes entry exit : List ℕ) (r : ℕ) (s : Started file train minutes entry exit r) where
   -- a refused file is told by its number and place

@@ -1,15 +1,15 @@
 -- What export and import answer can be packed; and what the packed answer of each says, number and value unpacked: 0 with the length of the text, else the
 -- refusal with its place and every lent byte as before.
-use Rattle.std.specs.Prelude.{ℕ, ◌≤◌, ◌<◌, ◌≡◌, refl, List, ◌++◌, length, drop}
+use Rattle.std.specs.Prelude.{ℕ, ◌≤◌, ◌<◌, ◌≡◌, refl, List, ◌++◌, Result, length, drop}
 use Rattle.std.proofs.Common.{ap, ◌∙◌, arith}
-use Rattle.text.specs.declared.Written.{Written}
+use Rattle.text.specs.declared.Refusal.{Refusal}
 use Rattle.text.specs.Writing.Lend.{Spelling, Lent}
 use Rattle.text.specs.Writing.LendLaws.{lent_there, text_written, text_refused, refusal_lent}
 use Rattle.gtfs.proofs.BoundsLaws.{SpellingBounded}
 use Rattle.service.specs.Packing.{packed_written, PacksWritten, LentPacked}
 use Rattle.service.specs.PackingLaws.{Unpacks, packed_tells, text_packs, refusal_packs}
 
-pub bounded_packs : (what : Spelling) {entry exit : List ℕ} {w : Written} → SpellingBounded what → Lent what entry exit w → PacksWritten w
+pub bounded_packs : (what : Spelling) {entry exit : List ℕ} {w : Result ℕ Refusal} → SpellingBounded what → Lent what entry exit w → PacksWritten w
 bounded_packs (Spelling.text t) h lent = text_packs refl h lent
 bounded_packs (Spelling.refused n p) h lent = refusal_packs {n = n} {p = p} refl h.place lent
 

@@ -10,24 +10,24 @@ ghost use Rattle.gtfs.specs.Operations.{exporting, importing};
 ghost use Rattle.line.specs.File.{line_file, answered};
 ghost use Rattle.screen.specs.Solved.{Solved};
 ghost use Rattle.screen.specs.Started.{Started};
-ghost use Rattle.screen.specs.Walking.{walk_length};
-ghost use Rattle.service.specs.Packing.{packed_answer, packed_verdict, LentPacked};
+ghost use Rattle.screen.specs.Walking.{walk_of, walk_length};
+ghost use Rattle.service.specs.Packing.{packed_answer, LentPacked};
 ghost use Rattle.service.specs.Rewriting.{Rewritten};
 ghost use Rattle.timetable.specs.Check.{check_of};
 
 use gtfs::exporting::export;
 use gtfs::importing::import_lines;
-use line::Answer;
 use line::reading::read;
-use service::{pack, pack_answer, pack_written};
+use service::{pack_answer, pack_written};
 use solver::solving::solve;
 use starts::filling::starts;
+use text::Refusal;
 use walk::finding::best_of;
 
 // Reads a line file: 0, or its refusal.
 #[unsafe(no_mangle)]
 pub extern "C" fn gaugeviolet_read(file: &[u8]) -> u64
-    ensures { result ≡ packed_answer (answered (line_file file.now)).answer }
+    ensures { result ≡ packed_answer (answered (line_file file.now)) }
 {
     service::gaugeviolet_read(file)
 }
@@ -43,7 +43,7 @@ pub extern "C" fn gaugeviolet_rewrite(file: &[u8], out: &mut [u8]) -> u64
 // Checks a timetable's text against a line file: 0, or the number and place of its first fault.
 #[unsafe(no_mangle)]
 pub extern "C" fn gaugeviolet_check(file: &[u8], timetable: &[u8]) -> u64
-    ensures { result ≡ packed_verdict (check_of file.now timetable.now) }
+    ensures { result ≡ packed_answer (check_of file.now timetable.now) }
 {
     service::gaugeviolet_check(file, timetable)
 }
@@ -56,21 +56,20 @@ pub extern "C" fn gaugeviolet_solve(file: &[u8], out: &mut [u8]) -> u64
     pack_written(solve(file, out))
 }
 
+// How many plans the walk of a line file takes up.
+fn walked(file: &[u8]) -> Result<usize, Refusal>
+    ensures { result ≡ walk_of (answered (line_file file.now)) }
+{
+    let line = read(file)?;
+    Ok(best_of(line).steps as usize)
+}
+
 // The length of the walk that request K9 describes: how many plans it takes up for a line file, cut off at 4,294,967,295; or the file's refusal.
 #[unsafe(no_mangle)]
 pub extern "C" fn gaugeviolet_walk_length(file: &[u8]) -> u64
     ensures { result ≡ walk_length file.now }
 {
-    let result = read(file);
-    let answer = result.answer;
-    match answer {
-        Answer::Accepted => {
-            let line = result.line;
-            let walked = best_of(line);
-            pack(0, walked.steps as usize)
-        }
-        Answer::Refused(number, place) => pack(number, place),
-    }
+    pack_written(walked(file))
 }
 
 // Exports a timetable of a line file as the GTFS file stop_times.txt: the length of its text, written to the front of the lent bytes; or a refusal and no

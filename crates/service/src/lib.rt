@@ -3,52 +3,55 @@
 #![tactic(auto)]
 
 ghost use Rattle.std.specs.Prelude.{◌≡◌};
+ghost use Rattle.text.specs.Writing.Lend.{Lent};
 ghost use Rattle.line.specs.File.{line_file, answered};
-ghost use Rattle.service.specs.Packing.{packed, Packs, PacksAnswer, PacksWritten, packed_answer, packed_verdict, packed_written};
-ghost use Rattle.service.specs.Rewriting.{Rewritten};
+ghost use Rattle.service.specs.Packing.{packed, Packs, PacksAnswer, PacksWritten, packed_answer, packed_written};
+ghost use Rattle.service.specs.Rewriting.{rewriting, Rewritten};
 ghost use Rattle.timetable.specs.Check.{check_of};
 
-use line::Answer;
 use line::reading::read;
 use line::writing::write;
-use text::Written;
-use timetable::checking::{Verdict, check};
+use text::Refusal;
+use timetable::checking::check;
 
 pub fn pack(number: u8, value: usize) -> u64
     requires { Packs value }
     ensures { result ≡ packed number value }
 {
-    (number as u64) * 4294967296 + value as u64
+    u64::from(number) * 4294967296 + value as u64
 }
 
-pub fn pack_written(written: Written) -> u64
+pub fn pack_written(written: Result<usize, Refusal>) -> u64
     requires { PacksWritten written }
     ensures { result ≡ packed_written written }
 {
     match written {
-        Written::Length(length) => pack(0, length),
-        Written::Refused(number, place) => pack(number, place),
+        Ok(length) => pack(0, length),
+        Err(refusal) => pack(refusal.number, refusal.place),
     }
 }
 
-pub fn pack_answer(answer: Answer) -> u64
+// Whatever was accepted packs to 0, as a text of no bytes does.
+pub fn pack_answer<T: Copy>(answer: Result<T, Refusal>) -> u64
     requires { PacksAnswer answer }
     ensures { result ≡ packed_answer answer }
 {
-    match answer {
-        Answer::Accepted => 0,
-        Answer::Refused(number, place) => pack(number, place),
-    }
+    pack_written(answer.map(|_| 0))
 }
 
 // Reads a line file: 0, or its refusal.
 #[unsafe(no_mangle)]
 pub extern "C" fn gaugeviolet_read(file: &[u8]) -> u64
-    ensures { result ≡ packed_answer (answered (line_file file.now)).answer }
+    ensures { result ≡ packed_answer (answered (line_file file.now)) }
 {
-    let result = read(file);
-    let answer = result.answer;
-    pack_answer(answer)
+    pack_answer(read(file))
+}
+
+fn rewrite(file: &[u8], out: &mut [u8]) -> Result<usize, Refusal>
+    ensures { Lent (rewriting file.now) out.old out.new result }
+{
+    let line = read(file)?;
+    write(line, out)
 }
 
 // Reads a line file and writes its line out again: the length of its text, or a refusal and no byte changed.
@@ -56,25 +59,13 @@ pub extern "C" fn gaugeviolet_read(file: &[u8]) -> u64
 pub extern "C" fn gaugeviolet_rewrite(file: &[u8], out: &mut [u8]) -> u64
     ensures { Rewritten file.now out.old out.new result }
 {
-    let result = read(file);
-    let answer = result.answer;
-    match answer {
-        Answer::Accepted => {
-            let line = result.line;
-            pack_written(write(line, out))
-        }
-        Answer::Refused(number, place) => pack(number, place),
-    }
+    pack_written(rewrite(file, out))
 }
 
 // Checks a timetable's text against a line file: 0, or the number and place of its first fault.
 #[unsafe(no_mangle)]
 pub extern "C" fn gaugeviolet_check(file: &[u8], timetable: &[u8]) -> u64
-    ensures { result ≡ packed_verdict (check_of file.now timetable.now) }
+    ensures { result ≡ packed_answer (check_of file.now timetable.now) }
 {
-    let verdict = check(file, timetable);
-    match verdict {
-        Verdict::Passed => 0,
-        Verdict::Refused(number, place) => pack(number, place),
-    }
+    pack_answer(check(file, timetable))
 }

@@ -4,14 +4,14 @@
 
 ghost use Rattle.std.specs.Prelude.{◌≡◌};
 ghost use Rattle.line.specs.File.{line_file, answered};
-ghost use Rattle.service.specs.Packing.{packed_answer, packed_verdict};
+ghost use Rattle.service.specs.Packing.{packed_answer};
 ghost use Rattle.service.specs.Rewriting.{Rewritten};
 ghost use Rattle.timetable.specs.Check.{check_of};
 
 // Reads a line file: 0, or its refusal.
 #[unsafe(no_mangle)]
 pub extern "C" fn gaugeviolet_read(file: &[u8]) -> u64
-    ensures { result ≡ packed_answer (answered (line_file file.now)).answer }
+    ensures { result ≡ packed_answer (answered (line_file file.now)) }
 {
     service::gaugeviolet_read(file)
 }
@@ -27,7 +27,7 @@ pub extern "C" fn gaugeviolet_rewrite(file: &[u8], out: &mut [u8]) -> u64
 // Checks a timetable's text against a line file: 0, or the number and place of its first fault.
 #[unsafe(no_mangle)]
 pub extern "C" fn gaugeviolet_check(file: &[u8], timetable: &[u8]) -> u64
-    ensures { result ≡ packed_verdict (check_of file.now timetable.now) }
+    ensures { result ≡ packed_answer (check_of file.now timetable.now) }
 {
     service::gaugeviolet_check(file, timetable)
 }

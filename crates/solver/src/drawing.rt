@@ -14,10 +14,7 @@ pub fn drawn(x: usize) -> usize
 pub fn varied(x: u32, row: usize, place: usize) -> u32
     ensures { x < 4294967295 → result < 4294967295 }
 {
-    if row == 0 {
-        return x;
-    }
-    if x > 100000000 {
+    if row == 0 || x > 100000000 {
         return x;
     }
     let share = drawn(row % 65536 + place % 65536) / 16 % 16;

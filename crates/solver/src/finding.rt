@@ -1,26 +1,20 @@
 // The best timetable of a line. A good one is looked for first, by searches that end at a limit of plans and by searches around the best so far: the better
 // it is, the more ways are dead in the search that then goes on to its end. Where none is found soon, short searches that choose otherwise each time look for
 // one.
-ghost use Rattle.std.specs.Prelude.{◌≡◌};
+ghost use Rattle.std.specs.Prelude.{◌≡◌, None};
 ghost use Rattle.line.specs.Within.{Within, Arrays};
-ghost use Rattle.plans.specs.Clauses.FoundBest.{Finds};
-ghost use Rattle.solver.specs.Search.Finding.{CanFind, MayImprove, Searches};
+ghost use Rattle.solver.specs.Search.Finding.{CanFind, FindsBest, MayImprove, Searches};
 
 use crate::drawing::drawn;
 use crate::neighbourhood::keep_orders;
-use crate::search::{NO_LIMIT, take_up};
+use crate::search::take_up;
 use crate::selecting::{Hint, first_hint};
 use line::Line;
-use orders::first::first_minutes;
-use orders::raising::DEAD;
-use orders::tables::{Tables, tables_of};
-use plans::choosing::copy_minutes;
-use plans::found::{Found, found_of};
-use plans::ranking::key_of;
+use orders::first::{FirstPlan, first_minutes};
+use plans::day::Day;
+use plans::found::{Best, found_of};
 use plans::tally::{Tally, cut_of};
 use plans::ways::with_bit;
-use rules::conflicts::{Layout, layout_of};
-use rules::directions::directions_of;
 
 // The limits of plans and the numbers of neighbourhoods are tuned on busy days (docs/DECISIONS.md); what is found depends on none of them.
 const FIRST_LIMIT: u32 = 1000;
@@ -45,85 +39,66 @@ const LAST_NEAR: usize = 400;
 
 // The same best so far, and no plan counted yet.
 fn afresh(tally: Tally) -> Tally
-    ensures { (result.found ≡ tally.found) × (result.delay ≡ tally.delay) × (result.steps ≡ 0) }
+    ensures { (result.delay ≡ tally.delay) × (result.steps ≡ 0) }
 {
-    Tally {
-        found: tally.found,
-        delay: tally.delay,
-        steps: 0,
-    }
+    Tally { steps: 0, ..tally }
 }
 
-// Searches the plan without choices, whose least minutes are m and cost this, up to a limit of plans.
+// Searches the plan without choices up to a limit of plans.
 fn search_within(
-    m: &[u16; 352],
+    first: &FirstPlan,
     best: &mut [u16; 352],
-    t: &Tables,
-    ds: &[u16; 176],
-    key: &[u16; 132],
-    layout: Layout,
-    cost: u32,
+    day: &Day,
     hint: Hint,
-    limit: u32,
+    limit: Option<u32>,
     tally: Tally,
 ) -> Tally
-    requires { CanFind m.now best.old t.now ds.now key.now layout cost tally }
-    ensures { Searches m.now best.old t.now ds.now key.now layout cost limit tally
-        best.new result }
+    requires { CanFind first.now best.old day.now tally }
+    ensures { Searches first.now best.old day.now limit tally best.new result }
 {
+    let m = &first.minutes;
     let mut marks = [0u16; 368];
-    let b = afresh(tally);
     take_up(
-        m, m, &mut marks, best, t, ds, key, layout, cost, hint, limit, b,
+        m,
+        m,
+        &mut marks,
+        best,
+        day,
+        first.cost,
+        hint,
+        limit,
+        afresh(tally),
     )
 }
 
 // Searches around the best so far: the plan in which all trains but the free ones keep its orders.
 fn search_around(
-    m: &[u16; 352],
+    first: &FirstPlan,
     best: &mut [u16; 352],
-    t: &Tables,
-    ds: &[u16; 176],
-    key: &[u16; 132],
-    layout: Layout,
-    cost: u32,
+    day: &Day,
     free: u16,
     tally: Tally,
 ) -> Tally
-    requires { CanFind m.now best.old t.now ds.now key.now layout cost tally }
-    ensures { MayImprove m.now best.old t.now ds.now key.now layout cost tally
+    requires { CanFind first.now best.old day.now tally }
+    ensures { MayImprove first.now best.old day.now tally
         best.new result }
 {
     let b = afresh(tally);
     let mut marks = [0u16; 368];
-    let mut q = [0u16; 352];
-    copy_minutes(m, &mut q);
-    let c = keep_orders(
-        &mut q,
-        &mut marks,
-        best,
-        t,
-        ds,
-        layout,
-        free,
-        cost,
-        cut_of(b),
-    );
-    if c == DEAD {
+    let mut q = first.minutes;
+    let Some(c) = keep_orders(&mut q, &mut marks, best, day, free, first.cost, cut_of(b)) else {
         return b;
-    }
+    };
+    let hint = first_hint(false, 0, first.cost);
     take_up(
         &q,
-        m,
+        &first.minutes,
         &mut marks,
         best,
-        t,
-        ds,
-        key,
-        layout,
+        day,
         c,
-        first_hint(false, 0, cost),
-        NEAR_LIMIT,
+        hint,
+        Some(NEAR_LIMIT),
         b,
     )
 }
@@ -132,163 +107,109 @@ fn search_around(
 fn free_trains(number: usize) -> u16 {
     let mut x = drawn(number);
     let mut mask: u16 = 0;
-    let mut left: usize = 6;
-    while left > 0 {
+    for _ in 0..6 {
         x = drawn(x);
         mask = with_bit(mask, x / 16 % 12);
-        left = left - 1;
     }
     mask
 }
 
 // Searches around the best so far, if there is one, with other trains free each time: those of the numbers from `number` up to `end`.
 fn search_near(
-    m: &[u16; 352],
+    first: &FirstPlan,
     best: &mut [u16; 352],
-    t: &Tables,
-    ds: &[u16; 176],
-    key: &[u16; 132],
-    layout: Layout,
-    cost: u32,
+    day: &Day,
     number: usize,
     end: usize,
     tally: Tally,
 ) -> Tally
-    requires { CanFind m.now best.old t.now ds.now key.now layout cost tally }
-    ensures { MayImprove m.now best.old t.now ds.now key.now layout cost tally
+    requires { CanFind first.now best.old day.now tally }
+    ensures { MayImprove first.now best.old day.now tally
         best.new result }
 {
     let mut b = tally;
-    if !b.found {
+    if b.delay.is_none() {
         return b;
     }
-    let mut k = number;
-    while k < end {
-        b = search_around(m, best, t, ds, key, layout, cost, free_trains(k), b);
-        k = k + 1;
+    for k in number..end {
+        b = search_around(first, best, day, free_trains(k), b);
     }
     b
 }
 
 // Until there is a timetable: short searches whose scores and prices are varied by drawn numbers, others each time.
-fn search_anew(
-    m: &[u16; 352],
-    best: &mut [u16; 352],
-    t: &Tables,
-    ds: &[u16; 176],
-    key: &[u16; 132],
-    layout: Layout,
-    cost: u32,
-    tally: Tally,
-) -> Tally
-    requires { CanFind m.now best.old t.now ds.now key.now layout cost tally }
-    ensures { MayImprove m.now best.old t.now ds.now key.now layout cost tally
+fn search_anew(first: &FirstPlan, best: &mut [u16; 352], day: &Day, tally: Tally) -> Tally
+    requires { CanFind first.now best.old day.now tally }
+    ensures { MayImprove first.now best.old day.now tally
         best.new result }
 {
     let mut b = tally;
-    let mut k: usize = 0;
-    while k < ANEW_MOST {
-        if b.found {
+    for k in 0..ANEW_MOST {
+        if b.delay.is_some() {
             return b;
         }
-        k = k + 1;
-        let hint = first_hint(false, drawn(k) + 1, cost);
-        b = search_within(m, best, t, ds, key, layout, cost, hint, ANEW_LIMIT, b);
+        let hint = first_hint(false, drawn(k + 1) + 1, first.cost);
+        b = search_within(first, best, day, hint, Some(ANEW_LIMIT), b);
     }
     b
 }
 
 // How many plans to take up once more in the same order: few where a timetable is found, as searches around it come next.
 fn again_limit(tally: Tally) -> u32 {
-    if tally.found {
-        return 1;
+    if tally.delay.is_some() {
+        1
+    } else {
+        AGAIN_LIMIT
     }
-    AGAIN_LIMIT
 }
 
 // Searches the plan without choices to its end. Where a search comes to its end below its limit, that is it.
-fn search_whole(
-    m: &[u16; 352],
-    best: &mut [u16; 352],
-    t: &Tables,
-    ds: &[u16; 176],
-    key: &[u16; 132],
-    layout: Layout,
-    cost: u32,
-    tally: Tally,
-) -> Tally
-    requires { CanFind m.now best.old t.now ds.now key.now layout cost tally }
-    ensures { Searches m.now best.old t.now ds.now key.now layout cost 4294967295 tally
+fn search_whole(first: &FirstPlan, best: &mut [u16; 352], day: &Day, tally: Tally) -> Tally
+    requires { CanFind first.now best.old day.now tally }
+    ensures { Searches first.now best.old day.now None tally
         best.new result }
 {
-    let short = first_hint(false, 0, cost);
-    let first = search_within(m, best, t, ds, key, layout, cost, short, FIRST_LIMIT, tally);
-    if first.steps < FIRST_LIMIT {
-        return first;
+    let short = first_hint(false, 0, first.cost);
+    let once = search_within(first, best, day, short, Some(FIRST_LIMIT), tally);
+    if once.steps < FIRST_LIMIT {
+        return once;
     }
-    let limit = again_limit(first);
-    let again = search_within(m, best, t, ds, key, layout, cost, short, limit, first);
+    let limit = again_limit(once);
+    let again = search_within(first, best, day, short, Some(limit), once);
     if again.steps < limit {
         return again;
     }
-    let some = search_anew(m, best, t, ds, key, layout, cost, again);
-    let near = search_near(m, best, t, ds, key, layout, cost, 0, FIRST_NEAR, some);
-    let second = search_within(m, best, t, ds, key, layout, cost, short, SECOND_LIMIT, near);
+    let some = search_anew(first, best, day, again);
+    let near = search_near(first, best, day, 0, FIRST_NEAR, some);
+    let second = search_within(first, best, day, short, Some(SECOND_LIMIT), near);
     if second.steps < SECOND_LIMIT {
         return second;
     }
-    let nearer = search_near(
-        m,
-        best,
-        t,
-        ds,
-        key,
-        layout,
-        cost,
-        FIRST_NEAR,
-        SECOND_NEAR,
-        second,
-    );
-    let long = first_hint(true, 0, cost);
-    let third = search_within(m, best, t, ds, key, layout, cost, long, THIRD_LIMIT, nearer);
+    let nearer = search_near(first, best, day, FIRST_NEAR, SECOND_NEAR, second);
+    let long = first_hint(true, 0, first.cost);
+    let third = search_within(first, best, day, long, Some(THIRD_LIMIT), nearer);
     if third.steps < THIRD_LIMIT {
         return third;
     }
-    let last = search_near(
-        m,
-        best,
-        t,
-        ds,
-        key,
-        layout,
-        cost,
-        SECOND_NEAR,
-        LAST_NEAR,
-        third,
-    );
-    search_within(m, best, t, ds, key, layout, cost, long, NO_LIMIT, last)
+    let last = search_near(first, best, day, SECOND_NEAR, LAST_NEAR, third);
+    search_within(first, best, day, long, None, last)
 }
 
-// Finds the best timetable of a line within the limits; how many plans that took is not told.
-pub fn best_timetable(line: Line) -> Found
+// The best timetable of a line within the limits, if there is one.
+pub fn best_timetable(line: Line) -> Option<Best>
     requires { Within line × Arrays line }
-    ensures { Finds line result × (result.steps ≡ 0) }
+    ensures { FindsBest line result }
 {
     let first = first_minutes(line);
+    if !first.in_time {
+        return None;
+    }
     let none = Tally {
-        found: false,
-        delay: 0,
+        delay: None,
         steps: 0,
     };
+    let day = Day::of(line);
     let mut best = [0u16; 352];
-    if !first.in_time {
-        return found_of(none, best);
-    }
-    let minutes = first.minutes;
-    let t = tables_of(line);
-    let ds = directions_of(line);
-    let key = key_of(line);
-    let layout = layout_of(line);
-    let whole = search_whole(&minutes, &mut best, &t, &ds, &key, layout, first.cost, none);
-    found_of(afresh(whole), best)
+    let whole = search_whole(&first, &mut best, &day, none);
+    found_of(whole, best).best
 }

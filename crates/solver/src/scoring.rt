@@ -1,28 +1,20 @@
 // The score of a conflict by the prices of its ways out: the higher it is, the more the plans cost that settle the conflict, and the fewer they are.
-ghost use Rattle.std.specs.Prelude.{◌≡◌, ◌≤◌, length};
+ghost use Rattle.std.specs.Prelude.{◌≤◌};
 ghost use Rattle.solver.specs.Selection.Pricing.{CanPriceWays, Scores};
 
-use crate::pricing::{price, way_price};
-use orders::raising::DEAD;
-use orders::tables::Tables;
-use plans::ways::way_of;
+use crate::pricing::way_price;
+use plans::day::Day;
+use plans::ways::{way_count, way_of};
 use rules::conflicts::Conflict;
 
 // The highest score: at most one way out is alive, so the conflict is settled at once.
 pub const AT_ONCE: u32 = 4294967295;
 
-// One more than what price x is above the cost, and at most 60,000, so that a product of two fits.
-fn rise(cost: u32, x: u32) -> u32
+// One more than what a price is above the cost, and at most 60,000, so that a product of two fits.
+fn rise(cost: u32, price: u32) -> u32
     ensures { (1 ≤ result) × (result ≤ 60000) }
 {
-    if x <= cost {
-        return 1;
-    }
-    let r = x - cost;
-    if r < 60000 {
-        return r + 1;
-    }
-    60000
+    price.saturating_sub(cost).min(59999) + 1
 }
 
 // Of the ways priced so far: how many are alive, and the two lowest prices.
@@ -33,6 +25,13 @@ pub struct Alive {
     pub second: u32,
 }
 
+// No way is alive: both minima begin above every price.
+const NONE_ALIVE: Alive = Alive {
+    ways: 0,
+    least: 4294967295,
+    second: 4294967295,
+};
+
 // The score of a conflict by its ways that are alive. One is added, so that it is never 0.
 fn score(cost: u32, alive: Alive) -> u32
     ensures { 1 ≤ result }
@@ -40,100 +39,60 @@ fn score(cost: u32, alive: Alive) -> u32
     if alive.ways < 2 {
         return AT_ONCE;
     }
-    let a = rise(cost, alive.least);
-    let b = rise(cost, alive.second);
-    let product = a * b;
-    if alive.ways == 2 {
-        return product + 1;
-    }
-    let share = product / (alive.ways - 1);
-    share + 1
+    let product = rise(cost, alive.least) * rise(cost, alive.second);
+    product / (alive.ways - 1) + 1
 }
 
-// No way is alive.
-fn none_alive() -> Alive {
-    Alive {
-        ways: 0,
-        least: DEAD,
-        second: DEAD,
-    }
-}
-
-// One way more is priced, at x. A conflict has at most 144.
-fn with_price(alive: Alive, x: u32) -> Alive {
-    if x == DEAD {
+// One way more is priced; a dead one has no price.
+fn with_price(alive: Alive, price: Option<u32>) -> Alive {
+    let Some(price) = price else {
         return alive;
-    }
-    if alive.ways >= 144 {
-        return alive;
-    }
-    let ways = alive.ways + 1;
-    let least = alive.least;
-    if x < least {
-        return Alive {
-            ways,
-            least: x,
-            second: least,
-        };
-    }
-    let second = alive.second;
-    if x < second {
-        return Alive {
-            ways,
-            least,
-            second: x,
-        };
-    }
+    };
     Alive {
-        ways,
-        least,
-        second,
+        ways: alive.ways.saturating_add(1),
+        least: alive.least.min(price),
+        second: alive.second.min(alive.least.max(price)),
     }
 }
 
-// The score of a conflict by the prices of its first n ways.
-pub fn score_of(prices: &[u32; 144], n: usize, cost: u32) -> u32
-    requires { (length prices.now ≡ 144) × (n ≤ 144) }
+// The score of a conflict by the prices of its ways.
+pub fn score_of(prices: &[Option<u32>], cost: u32) -> u32
     ensures { 1 ≤ result }
 {
-    let mut alive = none_alive();
-    let mut w: usize = 0;
-    while w < n {
-        alive = with_price(alive, price(prices[w]));
-        w = w + 1;
+    let mut alive = NONE_ALIVE;
+    for &price in prices {
+        alive = with_price(alive, price);
     }
     score(cost, alive)
 }
 
-// The score of a conflict by the prices of its n ways, which are held no longer than for that. Of two ways the second is not priced where the first is
+// The score of a conflict by the prices of its ways, which are held no longer than for that. Of two ways the second is not priced where the first is
 // dead. The marks are as before.
 pub fn way_score(
     m: &[u16; 352],
     marks: &mut [u16; 368],
-    t: &Tables,
-    ds: &[u16; 176],
+    day: &Day,
     cost: u32,
     cut: u32,
     conflict: Conflict,
-    n: usize,
 ) -> u32
-    requires { CanPriceWays m.now marks.old t.now ds.now cost cut conflict n }
+    requires { CanPriceWays m.now marks.old day.now cost conflict }
     ensures { Scores marks.old marks.new result }
 {
-    let mut alive = none_alive();
+    let mut alive = NONE_ALIVE;
+    let n = way_count(conflict);
     let mut w: usize = 0;
+    // The number goes on by the step of its way, which a `for` cannot do.
     while w < n {
-        let way = way_of(conflict, ds, w);
-        if way.some {
-            let x = way_price(m, marks, t, ds, way, cost, cut);
-            if x == DEAD {
-                if n == 2 {
-                    return AT_ONCE;
-                }
+        let out = way_of(conflict, &day.ds, w);
+        if let Some(way) = out.way {
+            let price = way_price(m, marks, day, way, cost, cut);
+            if price.is_none() && n == 2 {
+                return AT_ONCE;
             }
-            alive = with_price(alive, x);
+            alive = with_price(alive, price);
         }
-        w = w + way.step;
+        w += out.step;
     }
     score(cost, alive)
 }

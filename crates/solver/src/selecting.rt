@@ -1,6 +1,6 @@
 // Which conflict is settled next: that of the highest score. The scan goes once around the places of the line, first the segments and then the stations,
 // and may miss a conflict; where it finds none, the lowest conflict decides whether there is one.
-ghost use Rattle.std.specs.Prelude.{◌≡◌, true, ◌+◌, ◌≤◌, ◌<◌, length};
+ghost use Rattle.std.specs.Prelude.{◌≡◌, true, ◌+◌, ◌≤◌, ◌<◌};
 ghost use Rattle.rules.specs.Conflict.Conflicts.{clash};
 ghost use Rattle.solver.specs.Selection.Selecting.{KnownReal, CanScore, HigherScored, CanScoreOn, ScoresOn, CanSelect, FindsReal, ChoosesOne};
 
@@ -8,9 +8,9 @@ use crate::drawing::{drawn, varied};
 use crate::scoring::{AT_ONCE, way_score};
 use line::Segment;
 use orders::bits::next_bit;
-use orders::tables::Tables;
-use plans::ways::{way_count, with_bit};
-use rules::conflicts::{Conflict, Layout, SegmentConflict, lowest_conflict};
+use plans::day::Day;
+use plans::ways::with_bit;
+use rules::conflicts::{Conflict, SegmentConflict, lowest_conflict};
 use rules::passages::{neither, passage_of};
 use rules::stations::crowd_on;
 
@@ -33,17 +33,22 @@ pub struct Hint {
     pub first: u32,
 }
 
-// A conflict and its score.
+// A conflict and its score, which is 0 where there is none.
 #[derive(Clone, Copy)]
 pub struct Scored {
-    pub conflict: Conflict,
+    pub conflict: Option<Conflict>,
     pub score: u32,
 }
+
+pub const NOTHING: Scored = Scored {
+    conflict: None,
+    score: 0,
+};
 
 // The highest scored conflict of a scan, and a hint for the next one.
 #[derive(Clone, Copy)]
 pub struct Selected {
-    pub conflict: Conflict,
+    pub conflict: Option<Conflict>,
     pub score: u32,
     pub hint: Hint,
 }
@@ -65,25 +70,19 @@ fn hint_from(hint: Hint, start: usize, look: u32) -> Hint {
     Hint {
         start,
         look,
-        long: hint.long,
         ahead: false,
-        row: hint.row,
-        first: hint.first,
+        ..hint
     }
 }
 
 // The row of drawn numbers of the next plan; none stays none.
 fn next_row(row: usize) -> usize {
-    if row == 0 {
-        return 0;
-    }
-    drawn(row) + 1
+    if row == 0 { 0 } else { drawn(row) + 1 }
 }
 
 // The lowest train of a conflict.
 fn lowest_train(x: Conflict) -> usize {
     match x {
-        Conflict::Nothing => 12,
         Conflict::OnSegment(pair) => pair.lower,
         Conflict::AtStation(crowd) => next_bit(crowd.trains, 0),
     }
@@ -97,57 +96,45 @@ fn settled_before(
     score: u32,
     x: Conflict,
     old_score: u32,
-    old: Conflict,
+    old: Option<Conflict>,
 ) -> bool {
-    if cost < cut {
+    if cost < cut || score > AT_NO_COST {
         return score > old_score;
     }
-    if score > AT_NO_COST {
-        return score > old_score;
-    }
-    if old_score > AT_NO_COST {
-        return false;
-    }
-    lowest_train(x) < lowest_train(old)
+    old_score <= AT_NO_COST && lowest_train(x) < old.map_or(12, |c| lowest_train(c))
 }
 
 // The higher scored of conflict x and the old one. The marks are as before.
 fn higher_scored(
     m: &[u16; 352],
     marks: &mut [u16; 368],
-    t: &Tables,
-    ds: &[u16; 176],
+    day: &Day,
     cost: u32,
     cut: u32,
     x: Conflict,
     old: Scored,
 ) -> Scored
-    requires { CanScore m.now marks.old t.now ds.now cost cut x }
+    requires { CanScore m.now marks.old day.now cost x }
     ensures { HigherScored marks.old x old marks.new result }
 {
-    let n = way_count(x);
-    let score = way_score(m, marks, t, ds, cost, cut, x, n);
-    let held = old.conflict;
-    if !settled_before(cost, cut, score, x, old.score, held) {
+    let score = way_score(m, marks, day, cost, cut, x);
+    if !settled_before(cost, cut, score, x, old.score, old.conflict) {
         return old;
     }
-    Scored { conflict: x, score }
+    Scored {
+        conflict: Some(x),
+        score,
+    }
 }
 
 // Whether trains i and j are in conflict on segment p, which is g. Only a true answer is promised.
-fn in_conflict(g: Segment, ds: &[u16; 176], m: &[u16; 352], p: usize, i: usize, j: usize) -> bool
-    requires { (length ds.now ≡ 176) × (length m.now ≡ 352) × (p < 11) × (i < 12) × (j < 12) }
-    ensures { result ≡ true → clash g ds.now m.now p i j ≡ true }
+fn in_conflict(g: Segment, day: &Day, m: &[u16; 352], p: usize, i: usize, j: usize) -> bool
+    requires { (p < 11) × (i < 12) × (j < 12) }
+    ensures { result ≡ true → clash g day.now.ds m.now p i j ≡ true }
 {
-    if j <= i {
-        return false;
-    }
-    let x = passage_of(ds, m, p, i);
-    if x.way == 0 {
-        return false;
-    }
-    let y = passage_of(ds, m, p, j);
-    if y.way == 0 {
+    let x = passage_of(&day.ds, m, p, i);
+    let y = passage_of(&day.ds, m, p, j);
+    if j <= i || x.way == 0 || y.way == 0 {
         return false;
     }
     neither(g, x, y)
@@ -157,8 +144,7 @@ fn in_conflict(g: Segment, ds: &[u16; 176], m: &[u16; 352], p: usize, i: usize, 
 fn with_pair(
     m: &[u16; 352],
     marks: &mut [u16; 368],
-    t: &Tables,
-    ds: &[u16; 176],
+    day: &Day,
     cost: u32,
     cut: u32,
     g: Segment,
@@ -168,10 +154,10 @@ fn with_pair(
     j: usize,
     old: Scored,
 ) -> Scored
-    requires { CanScoreOn m.now marks.old t.now ds.now cost cut g n p × (i < n) × (j < n) }
-    ensures { ScoresOn m.now marks.old ds.now g n p old marks.new result }
+    requires { CanScoreOn m.now marks.old day.now cost g n p × (i < n) × (j < n) }
+    ensures { ScoresOn m.now marks.old day.now g n p old marks.new result }
 {
-    if !in_conflict(g, ds, m, p, i, j) {
+    if !in_conflict(g, day, m, p, i, j) {
         return old;
     }
     let x = SegmentConflict {
@@ -179,57 +165,27 @@ fn with_pair(
         lower: i,
         higher: j,
     };
-    higher_scored(m, marks, t, ds, cost, cut, Conflict::OnSegment(x), old)
-}
-
-// The wider of the segment's two gaps.
-fn wider_gap(g: Segment) -> u16 {
-    if g.following < g.opposing {
-        return g.opposing;
-    }
-    g.following
-}
-
-// The minute a gap after x, where that fits.
-fn gap_after(x: u16, gap: u16) -> u16 {
-    if x < 32768 {
-        if gap < 32768 {
-            return x + gap;
-        }
-    }
-    x
-}
-
-// The minute a gap before x, or 0.
-fn gap_before(x: u16, gap: u16) -> u16 {
-    if gap < x {
-        return x - gap;
-    }
-    0
+    higher_scored(m, marks, day, cost, cut, Conflict::OnSegment(x), old)
 }
 
 // The trains that are on segment p within train i's gap. Some may be missed: what the scan misses, the lowest conflict finds. A train arrives at minute 0
 // only where it does not use the segment. Both minutes are read before either is compared, so that all trains are compared at once.
 fn near(m: &[u16; 352], p: usize, i: usize, gap: u16) -> u16
-    requires { (length m.now ≡ 352) × (p < 11) × (i < 12) }
+    requires { (p < 11) × (i < 12) }
 {
     let arrival = m[176 + (16 * p + i)];
     if arrival == 0 {
         return 0;
     }
-    let after = gap_after(arrival, gap);
-    let before = gap_before(m[16 * p + i], gap);
+    let after = arrival.saturating_add(gap);
+    let before = m[16 * p + i].saturating_sub(gap);
     let mut mask: u16 = 0;
-    let mut j: usize = 0;
-    while j < 12 {
+    for j in 0..12 {
         let departs = m[16 * p + j];
         let arrives = m[176 + (16 * p + j)];
-        if departs < after {
-            if arrives > before {
-                mask = with_bit(mask, j);
-            }
+        if departs < after && arrives > before {
+            mask = with_bit(mask, j);
         }
-        j = j + 1;
     }
     mask
 }
@@ -238,8 +194,7 @@ fn near(m: &[u16; 352], p: usize, i: usize, gap: u16) -> u16
 fn with_train(
     m: &[u16; 352],
     marks: &mut [u16; 368],
-    t: &Tables,
-    ds: &[u16; 176],
+    day: &Day,
     cost: u32,
     cut: u32,
     g: Segment,
@@ -248,14 +203,15 @@ fn with_train(
     i: usize,
     old: Scored,
 ) -> Scored
-    requires { CanScoreOn m.now marks.old t.now ds.now cost cut g n p × (i < n) }
-    ensures { ScoresOn m.now marks.old ds.now g n p old marks.new result }
+    requires { CanScoreOn m.now marks.old day.now cost g n p × (i < n) }
+    ensures { ScoresOn m.now marks.old day.now g n p old marks.new result }
 {
-    let mask = near(m, p, i, wider_gap(g));
+    let mask = near(m, p, i, g.following.max(g.opposing));
     let mut b = old;
+    // Over the near trains alone: a `for` over all twelve would test each.
     let mut j = next_bit(mask, i + 1);
     while j < n {
-        b = with_pair(m, marks, t, ds, cost, cut, g, n, p, i, j, b);
+        b = with_pair(m, marks, day, cost, cut, g, n, p, i, j, b);
         if b.score == AT_ONCE {
             return b;
         }
@@ -268,8 +224,7 @@ fn with_train(
 fn with_segment(
     m: &[u16; 352],
     marks: &mut [u16; 368],
-    t: &Tables,
-    ds: &[u16; 176],
+    day: &Day,
     cost: u32,
     cut: u32,
     g: Segment,
@@ -277,17 +232,15 @@ fn with_segment(
     p: usize,
     old: Scored,
 ) -> Scored
-    requires { CanScoreOn m.now marks.old t.now ds.now cost cut g n p }
-    ensures { ScoresOn m.now marks.old ds.now g n p old marks.new result }
+    requires { CanScoreOn m.now marks.old day.now cost g n p }
+    ensures { ScoresOn m.now marks.old day.now g n p old marks.new result }
 {
     let mut b = old;
-    let mut i: usize = 0;
-    while i < n {
-        b = with_train(m, marks, t, ds, cost, cut, g, n, p, i, b);
+    for i in 0..n {
+        b = with_train(m, marks, day, cost, cut, g, n, p, i, b);
         if b.score == AT_ONCE {
             return b;
         }
-        i = i + 1;
     }
     b
 }
@@ -296,24 +249,20 @@ fn with_segment(
 fn with_station(
     m: &[u16; 352],
     marks: &mut [u16; 368],
-    t: &Tables,
-    ds: &[u16; 176],
-    layout: Layout,
+    day: &Day,
     cost: u32,
     cut: u32,
     s: usize,
     old: Scored,
 ) -> Scored
-    requires { CanSelect m.now marks.old t.now ds.now layout cost cut × (1 ≤ s) × (s + 1 < layout.stations)
-        × KnownReal m.now ds.now layout old.conflict }
-    ensures { FindsReal m.now marks.old ds.now layout marks.new result.conflict }
+    requires { CanSelect m.now marks.old day.now cost × (1 ≤ s) × (s + 1 < day.now.layout.stations)
+        × KnownReal m.now day.now old.conflict }
+    ensures { FindsReal m.now marks.old day.now marks.new result.conflict }
 {
-    let tracks = layout.tracks;
-    let x = crowd_on(ds, m, s, tracks[s], layout.trains);
-    if way_count(x) == 0 {
+    let Some(x) = crowd_on(&day.ds, m, s, day.layout.tracks[s], day.layout.trains) else {
         return old;
-    }
-    higher_scored(m, marks, t, ds, cost, cut, x, old)
+    };
+    higher_scored(m, marks, day, cost, cut, x, old)
 }
 
 // The higher scored of the old conflict and those at a place. With `count` segments the places below `count` are the segments, and place `count` + s is
@@ -321,31 +270,25 @@ fn with_station(
 pub fn with_place(
     m: &[u16; 352],
     marks: &mut [u16; 368],
-    t: &Tables,
-    ds: &[u16; 176],
-    layout: Layout,
+    day: &Day,
     cost: u32,
     cut: u32,
     place: usize,
     old: Scored,
 ) -> Scored
-    requires { CanSelect m.now marks.old t.now ds.now layout cost cut × KnownReal m.now ds.now layout old.conflict }
-    ensures { FindsReal m.now marks.old ds.now layout marks.new result.conflict }
+    requires { CanSelect m.now marks.old day.now cost × KnownReal m.now day.now old.conflict }
+    ensures { FindsReal m.now marks.old day.now marks.new result.conflict }
 {
-    let count = layout.stations - 1;
+    let count = day.layout.stations - 1;
     if place < count {
-        let segments = layout.segments;
-        let g = segments[place];
-        return with_segment(m, marks, t, ds, cost, cut, g, layout.trains, place, old);
+        let g = day.layout.segments[place];
+        return with_segment(m, marks, day, cost, cut, g, day.layout.trains, place, old);
     }
     let s = place - count;
-    if s == 0 {
+    if s == 0 || s >= count {
         return old;
     }
-    if s >= count {
-        return old;
-    }
-    with_station(m, marks, t, ds, layout, cost, cut, s, old)
+    with_station(m, marks, day, cost, cut, s, old)
 }
 
 // The place, or 0 where it is past the last of so many.
@@ -353,39 +296,31 @@ fn around(place: usize, places: usize) -> usize
     requires { 0 < places }
     ensures { result < places }
 {
-    if place < places {
-        return place;
-    }
-    0
+    if place < places { place } else { 0 }
 }
 
-// Whether a train departs at another minute than before on segment p.
+// Whether a train departs at another minute than before on segment p: all sixteen are compared at once, as in `same_row` of the walk.
 fn row_changed(m: &[u16; 352], former: &[u16; 352], p: usize) -> bool
-    requires { (length m.now ≡ 352) × (length former.now ≡ 352) × (p < 11) }
+    requires { p < 11 }
 {
     let mut changed = false;
-    let mut i: usize = 0;
-    while i < 16 {
+    for i in 0..16 {
         if m[16 * p + i] != former[16 * p + i] {
             changed = true;
         }
-        i = i + 1;
     }
     changed
 }
 
 // The places to look at: as before, and each segment whose minutes changed with the stations at its ends.
 fn places_to_look(m: &[u16; 352], former: &[u16; 352], count: usize, look: u32) -> u32
-    requires { (length m.now ≡ 352) × (length former.now ≡ 352) × (count ≤ 11) }
+    requires { count ≤ 11 }
 {
     let mut places = look;
-    let mut p: usize = 0;
-    while p < count {
+    for p in 0..count {
         if row_changed(m, former, p) {
-            places = places | (1 << p);
-            places = places | (3 << (count + p));
+            places |= 1 << p | 3 << (count + p);
         }
-        p = p + 1;
     }
     places
 }
@@ -402,43 +337,33 @@ fn found_score(score: u32, row: usize, place: usize) -> u32 {
 fn select_at(
     m: &[u16; 352],
     marks: &mut [u16; 368],
-    t: &Tables,
-    ds: &[u16; 176],
-    layout: Layout,
+    day: &Day,
     cost: u32,
     cut: u32,
     place: usize,
     old: Selected,
 ) -> Selected
-    requires { CanSelect m.now marks.old t.now ds.now layout cost cut × KnownReal m.now ds.now layout old.conflict × (place < 24) }
-    ensures { FindsReal m.now marks.old ds.now layout marks.new result.conflict }
+    requires { CanSelect m.now marks.old day.now cost × KnownReal m.now day.now old.conflict × (place < 24) }
+    ensures { FindsReal m.now marks.old day.now marks.new result.conflict }
 {
     let hint = old.hint;
     if (hint.look >> place) % 2 == 0 {
         return old;
     }
-    let none = Scored {
-        conflict: Conflict::Nothing,
-        score: 0,
-    };
-    let found = with_place(m, marks, t, ds, layout, cost, cut, place, none);
-    let conflict = found.conflict;
-    if way_count(conflict) == 0 {
+    let found = with_place(m, marks, day, cost, cut, place, NOTHING);
+    let Some(conflict) = found.conflict else {
         let look = hint.look & (EVERYWHERE - (1 << place));
-        let held = old.conflict;
         return Selected {
-            conflict: held,
-            score: old.score,
             hint: hint_from(hint, hint.start, look),
+            ..old
         };
-    }
+    };
     let score = found_score(found.score, hint.row, place);
-    let held = old.conflict;
-    if !settled_before(cost, cut, score, conflict, old.score, held) {
+    if !settled_before(cost, cut, score, conflict, old.score, old.conflict) {
         return old;
     }
     Selected {
-        conflict,
+        conflict: Some(conflict),
         score,
         hint: hint_from(hint, place, hint.look),
     }
@@ -448,32 +373,28 @@ fn select_at(
 fn highest_scored(
     m: &[u16; 352],
     marks: &mut [u16; 368],
-    t: &Tables,
-    ds: &[u16; 176],
-    layout: Layout,
+    day: &Day,
     cost: u32,
     cut: u32,
     hint: Hint,
 ) -> Selected
-    requires { CanSelect m.now marks.old t.now ds.now layout cost cut }
-    ensures { FindsReal m.now marks.old ds.now layout marks.new result.conflict }
+    requires { CanSelect m.now marks.old day.now cost }
+    ensures { FindsReal m.now marks.old day.now marks.new result.conflict }
 {
-    let count = layout.stations - 1;
+    let count = day.layout.stations - 1;
     let places = count + count;
     let mut p = around(hint.start, places);
     let mut b = Selected {
-        conflict: Conflict::Nothing,
+        conflict: None,
         score: 0,
         hint,
     };
-    let mut left = places;
-    while left > 0 {
-        b = select_at(m, marks, t, ds, layout, cost, cut, p, b);
+    for _ in 0..places {
+        b = select_at(m, marks, day, cost, cut, p, b);
         if b.score == AT_ONCE {
             return b;
         }
         p = around(p + 1, places);
-        left = left - 1;
     }
     b
 }
@@ -483,33 +404,26 @@ pub fn select_conflict(
     m: &[u16; 352],
     former: &[u16; 352],
     marks: &mut [u16; 368],
-    t: &Tables,
-    ds: &[u16; 176],
-    layout: Layout,
+    day: &Day,
     cost: u32,
     cut: u32,
     hint: Hint,
 ) -> Selected
-    requires { CanSelect m.now marks.old t.now ds.now layout cost cut × (length former.now ≡ 352) }
-    ensures { ChoosesOne m.now marks.old ds.now layout marks.new result.conflict }
+    requires { CanSelect m.now marks.old day.now cost }
+    ensures { ChoosesOne m.now marks.old day.now marks.new result.conflict }
 {
     let next = Hint {
-        start: hint.start,
-        look: places_to_look(m, former, layout.stations - 1, hint.look),
-        long: hint.long,
+        look: places_to_look(m, former, day.layout.stations - 1, hint.look),
         ahead: false,
         row: next_row(hint.row),
-        first: hint.first,
+        ..hint
     };
-    let b = highest_scored(m, marks, t, ds, layout, cost, cut, next);
-    let conflict = b.conflict;
-    let n = way_count(conflict);
-    if n > 0 {
+    let b = highest_scored(m, marks, day, cost, cut, next);
+    if b.conflict.is_some() {
         return b;
     }
-    let lowest = lowest_conflict(layout, ds, m);
     Selected {
-        conflict: lowest,
+        conflict: lowest_conflict(day.layout, &day.ds, m),
         score: 0,
         hint: first_hint(hint.long, hint.row, hint.first),
     }

@@ -1,10 +1,9 @@
 -- Whether a list may be asked is decided by tests; and the tests of the code, minute by minute.
-use Rattle.std.specs.Prelude.{ℕ, ◌+◌, ◌-◌, ◌≤◌, ◌<◌, Bool, ◌&&◌, true, false, ◌≡◌, List, leb, ltb, length, get_or}
+use Rattle.std.specs.Prelude.{ℕ, ◌+◌, ◌-◌, ◌≤◌, ◌<◌, Bool, ◌&&◌, true, false, ◌≡◌, List, Option, Some, None, is_some, leb, ltb, length, get_or}
 use Rattle.std.proofs.Common.{true≢false, sym, ◌∙◌, subst, arith}
 use Rattle.std.proofs.lemmas.Bool.{false≢true}
 use Rattle.std.proofs.Math.Decide.{dec_lt}
 use Rattle.finite.specs.Below.{all}
-use Rattle.text.specs.declared.Bounded.{Bounded}
 use Rattle.text.specs.Reading.Limits.{bounded_of}
 use Rattle.text.proofs.Reading.ParsedLaws.{bounded_within, bounded_fits}
 use Rattle.finite.specs.Decide.{Decides}
@@ -48,15 +47,24 @@ pub tells_no : {P : Type 0} → (P → ⊥) → Decides P false
 tells_no n = record { yea = λ e. absurd (false≢true e); nay = λ _. n }
 
 -- a number built in its limits, or refused
-module _ {b : Bounded} (lo hi n : ℕ) (built : b ≡ bounded_of lo hi n) where
-  pub built_in : {v : ℕ} → b ≡ Bounded.Within v → (lo ≤ n) × (n ≤ hi)
+module _ {b : Option ℕ} (lo hi n : ℕ) (built : b ≡ bounded_of lo hi n) where
+  pub built_in : {v : ℕ} → b ≡ Some v → (lo ≤ n) × (n ≤ hi)
   built_in {v} is = let w = bounded_within lo hi n v (sym built ∙ is) in (w.low, w.high)
 
-  pub built_not : b ≡ Bounded.Outside → (lo ≤ n) × (n ≤ hi) → ⊥
-  built_not is h =
-      let e : Bounded.Outside ≡ Bounded.Within n = sym is ∙ built ∙ bounded_fits lo hi n h.0 h.1 in
-      let z : ◌≡◌ {A = ℕ} 0 1 = cc in
-      omega arith
+  pub built_not : b ≡ None → (lo ≤ n) × (n ≤ hi) → ⊥
+  built_not is h = let e : None ≡ Some n = sym is ∙ built ∙ bounded_fits lo hi n h.0 h.1 in cc
+
+-- so whether it was built decides whether it is in them
+pub decides_built : (lo hi n : ℕ) (b : Option ℕ) → b ≡ bounded_of lo hi n → (r : Bool) → r ≡ is_some b → Decides ((lo ≤ n) × (n ≤ hi)) r
+decides_built lo hi n b built r r-is = subst (Decides ((lo ≤ n) × (n ≤ hi))) (sym r-is) (go b built)
+  where
+    go : (b : Option ℕ) → b ≡ bounded_of lo hi n → Decides ((lo ≤ n) × (n ≤ hi)) (is_some b)
+    go (Some v) built = let w = bounded_within lo hi n v (sym built) in tells_yes (w.low, w.high)
+    go None built = tells_no (λ h. let e : None ≡ Some n = built ∙ bounded_fits lo hi n h.0 h.1 in cc)
+
+-- the same where nothing is below the limits
+pub decides_high : (hi n : ℕ) (b : Option ℕ) → b ≡ bounded_of 0 hi n → (r : Bool) → r ≡ is_some b → Decides (n ≤ hi) r
+decides_high hi n b built r r-is = let d = decides_built 0 hi n b built r r-is in record { yea = λ e. (d.yea e).1; nay = λ e h. d.nay e (omega arith, h) }
 
 -- one minute more, which is after the one before it
 module _ (minutes : List ℕ) (k : ℕ) (some : 1 ≤ k) where

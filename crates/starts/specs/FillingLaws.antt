@@ -1,5 +1,5 @@
 -- The entries filled in one after the other: with the first of them the loop starts, then one more each time, and all.
-use Rattle.std.specs.Prelude.{ℕ, ◌+◌, ◌-◌, ◌≤◌, ◌<◌, ◌≡◌, refl, List, length, get_or, set}
+use Rattle.std.specs.Prelude.{ℕ, ◌+◌, ◌-◌, ◌≤◌, ◌<◌, ◌≡◌, refl, List, Option, length, get_or, set}
 use Rattle.std.proofs.Common.{sym, ◌∙◌, subst, arith, length-set, get_or-set_same, get_or-set_other}
 use Rattle.std.proofs.Math.Path.{subst⁻¹}
 use Rattle.std.proofs.Math.Decide.{dec_lt}
@@ -11,7 +11,7 @@ use Rattle.line.specs.RoundTripLaws.{accepts_read}
 use Rattle.line.specs.Starting.{starting}
 use Rattle.line.specs.StartingLaws.{starting_within, starting_arrays, starting_again, starting_accepted}
 use Rattle.rules.proofs.StatementLaws.StartingLaws.{earliest_starting}
-use Rattle.starts.specs.declared.knowing.Known.{Known}
+use Rattle.plans.specs.declared.found.Best.{Best}
 use Rattle.starts.specs.Asking.{Asked}
 use Rattle.starts.specs.Operation.{altered_file, Tells, Filled}
 use Rattle.starts.specs.Knowing.{FromFile, Knows, entry_of, Follows, Filling}
@@ -59,7 +59,7 @@ module _ (l : Line) (from : FromFile l) (i : ℕ) (minutes entry : List ℕ) (as
         subst⁻¹ (λ (x : Line). Within x × Arrays x) is (starting_within _ day l i limits, starting_arrays _ day l i arrays)
 
     -- its entry
-    told_at : (known : Known) → Knows line known → Tells (altered_file l (i + 1) (get_or minutes k 0)) (entry_of known)
+    told_at : (known : Option Best) → Knows line known → Tells (altered_file l (i + 1) (get_or minutes k 0)) (entry_of known)
     told_at known knows =
         let index : i + 1 - 1 ≡ i = omega arith in
         rw index
@@ -68,7 +68,7 @@ module _ (l : Line) (from : FromFile l) (i : ℕ) (minutes entry : List ℕ) (as
 
   -- ---- the entry of minute k, after those before it
 
-  stored : (now : List ℕ) (k e : ℕ) (known : Known) (line : Line) → k < length minutes → length now ≡ length entry → line ≡ line_at k → Knows line known →
+  stored : (now : List ℕ) (k e : ℕ) (known : Option Best) (line : Line) → k < length minutes → length now ≡ length entry → line ≡ line_at k → Knows line known →
       e ≡ entry_of known → EachBelow k (λ j. Tells (altered_file l (i + 1) (get_or minutes j 0)) (get_or now j 0)) →
       ((j : ℕ) → k ≤ j → get_or now j 0 ≡ get_or entry j 0) → Filling l i minutes entry (set now k e) (k + 1) line known
   stored now k e known line b size is knows told before kept =
@@ -87,7 +87,7 @@ module _ (l : Line) (from : FromFile l) (i : ℕ) (minutes entry : List ℕ) (as
         knows = knows;
       }
 
-  pub filling_first : (known : Known) (line : Line) → line ≡ line_at 0 → Knows line known → get_or entry 0 0 ≡ entry_of known →
+  pub filling_first : (known : Option Best) (line : Line) → line ≡ line_at 0 → Knows line known → get_or entry 0 0 ≡ entry_of known →
       Filling l i minutes entry entry 1 line known
   filling_first known line is knows told =
       record {
@@ -101,8 +101,8 @@ module _ (l : Line) (from : FromFile l) (i : ℕ) (minutes entry : List ℕ) (as
         knows = knows;
       }
 
-  module _ (now : List ℕ) (k : ℕ) (before : Line) (known : Known) (f : Filling l i minutes entry now k before known) where
-    pub filling_more : k < length minutes → (e : ℕ) (next : Known) (line : Line) → line ≡ line_at k → Knows line next → e ≡ entry_of next →
+  module _ (now : List ℕ) (k : ℕ) (before : Line) (known : Option Best) (f : Filling l i minutes entry now k before known) where
+    pub filling_more : k < length minutes → (e : ℕ) (next : Option Best) (line : Line) → line ≡ line_at k → Knows line next → e ≡ entry_of next →
         Filling l i minutes entry (set now k e) (k + 1) line next
     filling_more b e next line is knows told = stored now k e next line b f.size is knows told f.told f.kept
 

@@ -1,18 +1,19 @@
 -- Laws of the operation: the altered file is accepted and differs from the line's text in one field; and nothing is left free, for of each file, train, list and
 -- lent entries there is at most one answer with one content.
-use Rattle.std.specs.Prelude.{ℕ, ◌+◌, ◌-◌, ◌≤◌, ◌≡◌, refl, List, length, get_or}
+use Rattle.std.specs.Prelude.{ℕ, ◌+◌, ◌-◌, ◌≤◌, ◌≡◌, refl, List, Result, Ok, Err, length, get_or}
 use Rattle.std.proofs.Common.{sym, ap, ◌∙◌, subst, arith, ext_get_or, length-take-le}
 use Rattle.std.proofs.Math.Decide.{dec_lt}
 use Rattle.finite.specs.DecideLaws.{by_test}
+use Rattle.text.specs.declared.Refusal.{Refusal}
 use Rattle.text.specs.Reading.Parsed.{Parsed}
-use Rattle.line.specs.declared.Answer.{Answer}
+use Rattle.text.specs.Reading.Told.{refusal}
 use Rattle.line.specs.declared.Line.{Line}
-use Rattle.line.specs.declared.ReadLine.{ReadLine}
 use Rattle.line.specs.File.{line_file, answered}
 use Rattle.line.specs.PlaceLaws.{file_refusal}
 use Rattle.line.specs.Record.{no_train, trains_of}
 use Rattle.line.specs.RoundTripLaws.{Accepts, accepts_read}
 use Rattle.line.specs.Starting.{starting}
+use Rattle.timetable.specs.AnsweredLaws.{answered_got, answered_bad}
 use Rattle.line.specs.StartingLaws.{OneField, starting_accepted, one_field}
 use Rattle.starts.specs.Asking.{Asked}
 use Rattle.starts.specs.AskingLaws.{decides_asked}
@@ -51,7 +52,7 @@ module _ (file : List ℕ) (l : Line) (accepted : Accepts file l) (train : ℕ) 
         | no h ↦ x.kept k (omega arith) ∙ sym (y.kept k (omega arith))
       ]
 
-pub starts_only : (file : List ℕ) (train : ℕ) (minutes entry : List ℕ) {exit exit' : List ℕ} {r r' : Answer} →
+pub starts_only : (file : List ℕ) (train : ℕ) (minutes entry : List ℕ) {exit exit' : List ℕ} {r r' : Result (Unit {0}) Refusal} →
     Starts file train minutes entry exit r → Starts file train minutes entry exit' r' → (r ≡ r') × (exit ≡ exit')
 starts_only file train minutes entry {exit} {exit'} {r} {r'} x y = go (line_file file) refl x y
   where
@@ -70,57 +71,49 @@ starts_only file train minutes entry {exit} {exit'} {r} {r'} x y = go (line_file
 
 -- ---- a place is that of the file's own refusal, or 0
 
-pub refusal_bounded : (file : List ℕ) (train : ℕ) (minutes entry exit : List ℕ) (n p : ℕ) → Starts file train minutes entry exit (Answer.Refused n p) → p ≤ 4097
+pub refusal_bounded : (file : List ℕ) (train : ℕ) (minutes entry exit : List ℕ) (n p : ℕ) → Starts file train minutes entry exit (refusal n p) → p ≤ 4097
 refusal_bounded file train minutes entry exit n p s = go (line_file file) refl s
   where
-    place_is : {m q : ℕ} → Answer.Refused n p ≡ Answer.Refused m q → p ≡ q
-    place_is e = cc
+    place_is : {m q : ℕ} → ◌≡◌ {A = Result (Unit {0}) Refusal} (refusal n p) (refusal m q) → p ≡ q
+    place_is {m} {q} e =
+        let same : ◌≡◌ {A = Refusal} (record { number = n; place = p }) (record { number = m; place = q }) = cc in ap (λ (x : Refusal). x.place) same
 
-    go : (a : Parsed Line) → line_file file ≡ a → StartsAs a train minutes entry exit (Answer.Refused n p) → p ≤ 4097
+    go : (a : Parsed Line) → line_file file ≡ a → StartsAs a train minutes entry exit (refusal n p) → p ≤ 4097
     go (Parsed.bad m q) e x = omega (arith, place_is x.0, (file_refusal file m q e).place)
     go (Parsed.got l c) e x =
         by_test (decides_asked l.traffic.train_count train minutes (length entry))
-        (λ asked. let z : ◌≡◌ {A = ℕ} 0 1 = refused_not (x.asked asked).0 in absurd (omega arith))
+        (λ asked. absurd (refused_not (x.asked asked).0))
         (λ not. omega (arith, place_is (x.other not).0))
       where
-        refused_not : Answer.Refused n p ≡ Answer.Accepted → ◌≡◌ {A = ℕ} 0 1
+        refused_not : ◌≡◌ {A = Result (Unit {0}) Refusal} (refusal n p) (Ok tt) → ⊥
         refused_not e = cc
 
 -- ---- of a line, for the code
 
 module _ (l : Line) (train : ℕ) (minutes entry : List ℕ) where
-  pub line_refused : (Asked l.traffic.train_count train minutes (length entry) → ⊥) → LineStarts l train minutes entry entry (Answer.Refused 22 0)
+  pub line_refused : (Asked l.traffic.train_count train minutes (length entry) → ⊥) → LineStarts l train minutes entry entry (refusal 22 0)
   line_refused not = record { asked = λ a. absurd (not a); other = λ _. (refl, refl) }
 
   -- filled in for the train by its index
   pub line_filled : {exit : List ℕ} → Asked l.traffic.train_count train minutes (length entry) → Filled l (train - 1 + 1) minutes entry exit →
-      LineStarts l train minutes entry exit Answer.Accepted
+      LineStarts l train minutes entry exit (Ok tt)
   line_filled {exit} a f =
       let number : train - 1 + 1 ≡ train = omega (arith, a.there.0) in
       record { asked = λ _. (refl, subst (λ (t : ℕ). Filled l t minutes entry exit) number f); other = λ not. absurd (not a) }
 
--- ---- by the answer of the reading, which the code gives as x
+-- ---- by the answer of the reading
 
-starts_refused : (a : Parsed Line) (n p train : ℕ) (minutes entry : List ℕ) → (answered a).answer ≡ Answer.Refused n p →
-    StartsAs a train minutes entry entry (Answer.Refused n p)
-starts_refused (Parsed.got l c) n p train minutes entry e = let z : ◌≡◌ {A = ℕ} 0 1 = cc in absurd (omega arith)
-starts_refused (Parsed.bad m q) n p train minutes entry e = (sym e, refl)
+module _ (file : List ℕ) (train : ℕ) (minutes : List ℕ) where
+  pub file_refused : (entry : List ℕ) {e : Refusal} → ◌≡◌ {A = Result Line Refusal} (Err e) (answered (line_file file)) →
+      Starts file train minutes entry entry (Err e)
+  file_refused entry {e} is =
+      subst (λ (x : Parsed Line). StartsAs x train minutes entry entry (Err e)) (sym (answered_bad (line_file file) is)) (refl, refl)
 
-starts_line : (a : Parsed Line) (train : ℕ) (minutes entry exit : List ℕ) (r : Answer) → (answered a).answer ≡ Answer.Accepted →
-    LineStarts (answered a).line train minutes entry exit r → StartsAs a train minutes entry exit r
-starts_line (Parsed.got l c) train minutes entry exit r e h = h
-starts_line (Parsed.bad n p) train minutes entry exit r e h = let z : ◌≡◌ {A = ℕ} 0 1 = cc in absurd (omega arith)
-
-module _ (file : List ℕ) (train : ℕ) (minutes : List ℕ) {x : ReadLine} (read : x ≡ answered (line_file file)) where
-  pub file_refused : (entry : List ℕ) {n p : ℕ} → x.answer ≡ Answer.Refused n p → Starts file train minutes entry entry (Answer.Refused n p)
-  file_refused entry {n} {p} e = starts_refused (line_file file) n p train minutes entry (sym (ap (λ (y : ReadLine). y.answer) read) ∙ e)
-
-  pub file_accepted : x.answer ≡ Answer.Accepted → {entry exit : List ℕ} {r : Answer} → LineStarts x.line train minutes entry exit r →
-      Starts file train minutes entry exit r
-  file_accepted e {entry} {exit} {r} h =
-      starts_line (line_file file) train minutes entry exit r (sym (ap (λ (y : ReadLine). y.answer) read) ∙ e)
-      (subst (λ (y : ReadLine). LineStarts y.line train minutes entry exit r) read h)
+  pub file_accepted : {l : Line} → ◌≡◌ {A = Result Line Refusal} (Ok l) (answered (line_file file)) → {entry exit : List ℕ} {r : Result (Unit {0}) Refusal} →
+      LineStarts l train minutes entry exit r → Starts file train minutes entry exit r
+  file_accepted is {entry} {exit} {r} h =
+      subst (λ (x : Parsed Line). StartsAs x train minutes entry exit r) (sym (answered_got (line_file file) is).got) h
 
 -- its line was read from the file
-pub file_line : (file : List ℕ) {x : ReadLine} → x ≡ answered (line_file file) → x.answer ≡ Answer.Accepted → FromFile x.line
-file_line file {x} read e = record { file = file; accepted = sym read ∙ (λ k. record { answer = e k; line = x.line }) }
+pub file_line : (file : List ℕ) {l : Line} → ◌≡◌ {A = Result Line Refusal} (Ok l) (answered (line_file file)) → FromFile l
+file_line file is = record { file = file; accepted = sym is }

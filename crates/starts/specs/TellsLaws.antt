@@ -1,14 +1,14 @@
 -- What is known of a line gives the entry of its file: the total of any timetable of least delay is that of the best, which solving prints. And an entry can be
 -- no other.
-use Rattle.std.specs.Prelude.{ℕ, ◌≤◌, ◌<◌, ◌≡◌, refl, Bool, true, false, cond, List, length, take, replicate}
+use Rattle.std.specs.Prelude.{ℕ, ◌≤◌, ◌<◌, ◌≡◌, refl, List, Option, Some, None, Ok, length, take, replicate}
 use Rattle.std.proofs.Common.{sym, ap, ◌∙◌, ⊎_elim, mul-le-mul_right, arith}
 use Rattle.std.proofs.lemmas.List.{length-replicate}
 use Rattle.text.specs.declared.Cursor.{Cursor}
-use Rattle.text.specs.declared.Written.{Written}
 use Rattle.text.specs.Writing.Digits.{digits}
 use Rattle.text.specs.Writing.DigitsLaws.{digits_only}
 use Rattle.text.specs.Places.LastLine.{last_line}
 use Rattle.text.specs.Reading.Parsed.{Parsed}
+use Rattle.text.specs.Reading.Told.{refusal}
 use Rattle.line.specs.declared.Line.{Line}
 use Rattle.line.specs.File.{line_file}
 use Rattle.line.specs.Within.{Within, Arrays}
@@ -21,8 +21,8 @@ use Rattle.rules.specs.Check.RulesLaws.{cost-most}
 use Rattle.timetable.specs.TotalLaws.{total_last}
 use Rattle.solver.specs.Promise.Solving.{Solving}
 use Rattle.solver.specs.Promise.Demand.{decided, printed_best, five_only, five_then, room_printed, solution}
-use Rattle.starts.specs.declared.knowing.Known.{Known}
-use Rattle.starts.specs.Operation.{no_timetable, Tells}
+use Rattle.plans.specs.declared.found.Best.{Best}
+use Rattle.starts.specs.Operation.{Tells}
 use Rattle.starts.specs.Knowing.{Knows, entry_of}
 
 -- a total has at most seven digits
@@ -44,32 +44,28 @@ module _ (file : List ℕ) (l : Line) (accepted : Accepts file l) where
 
   -- ---- the total of what is printed
 
-  module _ (known : Known) (k : Knows l known) where
-    printed_total : known.found ≡ true → (entry exit : List ℕ) (n : ℕ) → Solving file entry exit (Written.Length n) →
-        (known.total < 10000000) × (last_line (take n exit) ≡ digits known.total)
-    printed_total there entry exit n s =
-        let p = printed_best file entry exit (Written.Length n) s l end got n refl in
-        let same = least_only l p.minutes known.minutes (best_least l limits arrays p.minutes p.best) (k.least there) in
-        let is : weighted_delay l p.minutes ≡ known.total = same ∙ sym (k.total_is there) in (
+  module _ (known : Best) (k : Knows l (Some known)) where
+    printed_total : (entry exit : List ℕ) (n : ℕ) → Solving file entry exit (Ok n) →
+        (known.delay < 10000000) × (last_line (take n exit) ≡ digits known.delay)
+    printed_total entry exit n s =
+        let p = printed_best file entry exit (Ok n) s l end got n refl in
+        let same = least_only l p.minutes known.minutes (best_least l limits arrays p.minutes p.best) (k.least known refl) in
+        let is : weighted_delay l p.minutes ≡ known.delay = same ∙ sym (k.delay_is known refl) in (
           omega (arith, is, total_small l limits p.minutes p.best.lawful),
           ap last_line p.text ∙ total_last l p.minutes ∙ ap digits is,
         )
 
-    pub knows_tells : Tells file (entry_of known)
-    knows_tells = go known.found refl
-      where
-        go : (b : Bool) → known.found ≡ b → Tells file (cond b known.total no_timetable)
-        go true e =
-            record {
-              printed = printed_total e;
-              none = λ entry exit s. absurd (five_only file entry exit (Written.Refused 5 0) s l end got refl known.minutes (k.least e).lawful);
-            }
-        go false e =
-            record {
-              printed = λ entry exit n s.
-                  absurd (k.none e _ (printed_best file entry exit (Written.Length n) s l end got n refl).best.lawful);
-              none = λ entry exit s. refl;
-            }
+  pub knows_tells : (known : Option Best) → Knows l known → Tells file (entry_of known)
+  knows_tells (Some known) k =
+      record {
+        printed = printed_total known k;
+        none = λ entry exit s. absurd (five_only file entry exit (refusal 5 0) s l end got refl known.minutes (k.least known refl).lawful);
+      }
+  knows_tells None k =
+      record {
+        printed = λ entry exit n s. absurd (k.none refl _ (printed_best file entry exit (Ok n) s l end got n refl).best.lawful);
+        none = λ entry exit s. refl;
+      }
 
   -- ---- no other entry
 

@@ -4,7 +4,6 @@ ghost use Rattle.finite.specs.Decide.{Decides};
 ghost use Rattle.starts.specs.Asking.{Rising, AllTimes, Asked};
 
 use line::{Time, Train};
-use text::Bounded;
 
 // The most minutes of a list.
 pub const MOST_MINUTES: usize = 24;
@@ -13,12 +12,10 @@ pub const MOST_MINUTES: usize = 24;
 fn rises(minutes: &[u16]) -> bool
     ensures { Decides (Rising minutes.now) result }
 {
-    let mut k: usize = 1;
-    while k < minutes.len() {
+    for k in 1..minutes.len() {
         if minutes[k] <= minutes[k - 1] {
             return false;
         }
-        k = k + 1;
     }
     true
 }
@@ -27,22 +24,17 @@ fn rises(minutes: &[u16]) -> bool
 fn is_time(minute: u16) -> bool
     ensures { Decides (minute ≤ 2879) result }
 {
-    let Bounded::Within(_) = Time::value(minute as u32) else {
-        return false;
-    };
-    true
+    Time::value(u32::from(minute)).is_some()
 }
 
 // Each minute is of the two days.
 fn all_times(minutes: &[u16]) -> bool
     ensures { Decides (AllTimes minutes.now) result }
 {
-    let mut k: usize = 0;
-    while k < minutes.len() {
-        if !is_time(minutes[k]) {
+    for &minute in minutes {
+        if !is_time(minute) {
             return false;
         }
-        k = k + 1;
     }
     true
 }
@@ -52,23 +44,11 @@ pub fn may_ask(trains: u16, train: u32, minutes: &[u16], entries: usize) -> bool
     ensures { Decides (Asked trains train minutes.now entries) result }
 {
     let count = minutes.len();
-    if count == 0 {
+    if count == 0 || count > MOST_MINUTES || count > entries {
         return false;
     }
-    if count > MOST_MINUTES {
+    if !rises(minutes) || !all_times(minutes) {
         return false;
     }
-    if !rises(minutes) {
-        return false;
-    }
-    if !all_times(minutes) {
-        return false;
-    }
-    if entries < count {
-        return false;
-    }
-    let Bounded::Within(_) = Train::value(train, trains) else {
-        return false;
-    };
-    true
+    Train::value(train, trains).is_some()
 }

@@ -2,3 +2,4 @@
 pub mod ParsedLaws
 pub mod FixedLaws
 pub mod ToldLaws
+pub mod HandedLaws

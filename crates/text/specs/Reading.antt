@@ -7,5 +7,6 @@ pub mod Limits
 pub mod Parsed
 pub mod Fixed
 pub mod Told
+pub mod ChoiceLaws
 pub mod BytesLaws
 pub mod NumbersLaws

@@ -1,7 +1,8 @@
-// Fields of a text: the byte at a cursor, a number and the byte after it; and fields written into a lent buffer.
+// Fields of a text: the byte at a cursor, a number and the byte after it; and fields written into a buffer.
 #![tactic(auto)]
 
-ghost use Rattle.std.specs.Prelude.{◌≡◌, ◌∷◌, [], ◌+◌, ◌-◌, ◌≤◌, ◌<◌, length, take};
+ghost use Rattle.std.specs.Fmt.{decimal};
+ghost use Rattle.std.specs.Prelude.{◌≡◌, ◌∷◌, [], ◌+◌, ◌-◌, ◌≤◌, ◌<◌, length, take, ◌++◌, codes, Some};
 ghost use Rattle.text.specs.Reading.Bytes.{byte_at, digit_of, past_of};
 ghost use Rattle.text.specs.Places.Lines.{Counted};
 ghost use Rattle.text.specs.Reading.Numbers.{number_at, field_at};
@@ -10,53 +11,43 @@ ghost use Rattle.text.specs.Writing.Splice.{Put};
 ghost use Rattle.text.specs.Reading.Limits.{bounded_of};
 ghost use Rattle.text.specs.Reading.Parsed.{limited, ranged_at};
 ghost use Rattle.text.specs.Reading.Fixed.{text_at, pair_field_at, paired_at};
-ghost use Rattle.text.specs.Reading.Told.{told_field, told_ending, ending_of};
+ghost use Rattle.text.specs.Reading.Told.{told, told_byte, told_ending};
 ghost use Rattle.text.specs.Writing.Lend.{Spelling, Lent};
+
+use std::error::Error;
+use std::fmt;
+
+pub mod writer;
 
 pub const LINE_FEED: u8 = 10;
 
 pub const SPACE: u8 = 32;
-// What stands past the last byte: no byte.
-const END: u32 = 256;
 
-// The reading position, and the line that it stands on, from 1.
+// The reading position, and the line that it stands on, from 1. That there are no more lines than bytes (`Counted`) is asked for and no part of the type, as
+// laws of the definitions (`begins_line`) speak of cursors at any place.
 #[derive(Clone, Copy)]
 pub struct Cursor {
     pub at: usize,
     pub line: usize,
 }
 
-#[derive(Clone, Copy)]
-pub enum Digit {
-    Worth(u32),
-    Other,
+// A refusal: its number in the papers, and its place, which is a line of the file or 0. The number is no enum: every theorem on a refusal (`file_refusal`,
+// `text_refusal`, `check_refused`) concludes about the number that the papers give it.
+#[derive(Clone, Copy, Debug, PartialEq, Eq)]
+pub struct Refusal {
+    pub number: u8,
+    pub place: usize,
 }
 
-#[derive(Clone, Copy)]
-pub enum Number {
-    Value(u32, Cursor),
-    Malformed,
+impl fmt::Display for Refusal {
+    ghost output = { λ r. Some (codes "refused " ++ decimal r.number ++ 32 ∷ decimal r.place) };
+
+    fn fmt<W: fmt::Write>(&self, f: &mut fmt::Formatter<W>) -> fmt::Result {
+        write!(f, "refused {} {}", self.number, self.place)
+    }
 }
 
-#[derive(Clone, Copy)]
-pub enum Step {
-    Next(Cursor),
-    Wrong,
-}
-
-// A number and the byte after it.
-#[derive(Clone, Copy)]
-pub enum NumberField {
-    Value(u32, Cursor),
-    Malformed,
-}
-
-// A number within the limits of its type, or outside them.
-#[derive(Clone, Copy)]
-pub enum Bounded {
-    Within(u16),
-    Outside,
-}
+impl Error for Refusal {}
 
 // The limits of a type, both included.
 #[derive(Clone, Copy)]
@@ -80,17 +71,15 @@ impl Limits {
         Limits { min: 0, max: n }
     }
 
-    // Builds the value n of the type, or refuses.
-    pub fn value(self, n: u32) -> Bounded
+    // The value n of the type, or none where n is outside the limits.
+    #[tactic(auto, unfolding(crate::specs::Reading::Limits::bounded_of))]
+    pub fn value(self, n: u32) -> Option<u16>
         ensures { result ≡ bounded_of self.min self.max n }
     {
-        if n < self.min as u32 {
-            return Bounded::Outside;
+        if n < u32::from(self.min) || u32::from(self.max) < n {
+            return None;
         }
-        if n > self.max as u32 {
-            return Bounded::Outside;
-        }
-        Bounded::Within(n as u16)
+        Some(n as u16)
     }
 }
 
@@ -101,125 +90,86 @@ pub struct Faults {
     pub range: u8,
 }
 
-// A number field within its limits, or the refusal with its place.
-#[derive(Clone, Copy)]
-pub enum Field {
-    Value(u16, Cursor),
-    Refused(u8, usize),
-}
-
-// How a part of a file ends: past its last byte, or refused.
-#[derive(Clone, Copy)]
-pub enum Ending {
-    Done(Cursor),
-    Refused(u8, usize),
-}
-
-// The answer of an operation that writes: the length of the text, or the refusal with its place.
-#[derive(Clone, Copy)]
-pub enum Written {
-    Length(usize),
-    Refused(u8, usize),
-}
-
-fn wide(b: u8) -> u32
-    ensures { result ≡ b }
+// What a byte is worth as a decimal digit. With `is_ascii_digit` a number takes 1.3 times as long to read.
+#[tactic(auto, unfolding(crate::specs::Reading::Bytes::digit_of))]
+fn digit_of(b: Option<u8>) -> Option<u32>
+    ensures { result ≡ digit_of (told_byte b) }
 {
-    b as u32
-}
-
-fn digit_of(b: u32) -> Digit
-    ensures { result ≡ digit_of b }
-{
-    if b < 48 {
-        return Digit::Other;
-    }
-    if 57 < b {
-        return Digit::Other;
-    }
-    Digit::Worth(b - 48)
+    let d = u32::from(b?).wrapping_sub(48);
+    (d < 10).then_some(d)
 }
 
 impl Cursor {
-    // The byte here, or END.
-    pub fn byte(self, s: &[u8]) -> u32
-        ensures { result ≡ byte_at s.now self }
+    // The byte here; past the end there is none.
+    pub fn byte(self, s: &[u8]) -> Option<u8>
+        ensures { told_byte result ≡ byte_at s.now self }
     {
-        let at = self.at;
-        if at < s.len() { wide(s[at]) } else { END }
+        s.get(self.at).copied()
     }
 
-    // Past the byte b; past a line feed it is the next line.
-    pub fn past(self, s: &[u8], b: u8) -> Step
+    // Past the byte b, if it is here; past a line feed it is the next line.
+    #[tactic(auto, unfolding(crate::specs::Reading::Bytes::past_of))]
+    pub fn past(self, s: &[u8], b: u8) -> Option<Cursor>
         requires { Counted self }
         ensures { result ≡ past_of s.now self b }
     {
-        if self.byte(s) != wide(b) {
-            return Step::Wrong;
+        if self.byte(s)? != b {
+            return None;
         }
-        if b == LINE_FEED {
-            return Step::Next(Cursor {
-                at: self.at + 1,
-                line: self.line + 1,
-            });
-        }
-        Step::Next(Cursor {
+        let line = if b == LINE_FEED {
+            self.line + 1
+        } else {
+            self.line
+        };
+        Some(Cursor {
             at: self.at + 1,
-            line: self.line,
+            line,
         })
     }
 
     // A number of one to `most` digits, with no leading zero.
-    fn number_to(self, s: &[u8], most: usize) -> Number
+    #[tactic(auto, using(crate::specs::Reading::BytesLaws::digit_small, crate::specs::Reading::BytesLaws::digit_inside), unfolding(crate::specs::Reading::Numbers::number_at))]
+    fn number_to(self, s: &[u8], most: usize) -> Option<(u32, Cursor)>
         requires { (1 ≤ most) × (most ≤ 7) }
         ensures { result ≡ number_at most s.now self }
     {
-        let Digit::Worth(first) = digit_of(self.byte(s)) else {
-            return Number::Malformed;
-        };
+        let mut value = digit_of(self.byte(s))?;
         let mut next = Cursor {
             at: self.at + 1,
-            line: self.line,
+            ..self
         };
-        if first == 0 {
-            return Number::Value(0, next);
+        if value == 0 {
+            return Some((0, next));
         }
-        let mut value = first;
-        let mut left = most - 1;
-        while left > 0 {
-            let Digit::Worth(d) = digit_of(next.byte(s)) else {
+        for _ in 1..most {
+            let Some(d) = digit_of(next.byte(s)) else {
                 break;
             };
             value = value * 10 + d;
-            next.at = next.at + 1;
-            left = left - 1;
+            next.at += 1;
         }
-        Number::Value(value, next)
+        Some((value, next))
     }
 
     // A number of one to four digits.
-    pub fn number(self, s: &[u8]) -> Number
+    pub fn number(self, s: &[u8]) -> Option<(u32, Cursor)>
         ensures { result ≡ number_at 4 s.now self }
     {
         self.number_to(s, 4)
     }
 
     // A number of one to `most` digits and the byte b after it.
-    fn field_to(self, s: &[u8], most: usize, b: u8) -> NumberField
+    #[tactic(auto, using(crate::proofs::Places::LinesLaws::number_counted), unfolding(crate::specs::Reading::Numbers::field_at))]
+    fn field_to(self, s: &[u8], most: usize, b: u8) -> Option<(u32, Cursor)>
         requires { (1 ≤ most) × (most ≤ 7) × Counted self }
         ensures { result ≡ field_at most s.now self b }
     {
-        let Number::Value(n, after) = self.number_to(s, most) else {
-            return NumberField::Malformed;
-        };
-        let Step::Next(next) = after.past(s, b) else {
-            return NumberField::Malformed;
-        };
-        NumberField::Value(n, next)
+        let (n, after) = self.number_to(s, most)?;
+        Some((n, after.past(s, b)?))
     }
 
     // A number of one to four digits and the byte b after it.
-    pub fn number_field(self, s: &[u8], b: u8) -> NumberField
+    pub fn number_field(self, s: &[u8], b: u8) -> Option<(u32, Cursor)>
         requires { Counted self }
         ensures { result ≡ field_at 4 s.now self b }
     {
@@ -227,7 +177,7 @@ impl Cursor {
     }
 
     // A number of one to seven digits and the byte b after it.
-    pub fn long_number_field(self, s: &[u8], b: u8) -> NumberField
+    pub fn long_number_field(self, s: &[u8], b: u8) -> Option<(u32, Cursor)>
         requires { Counted self }
         ensures { result ≡ field_at 7 s.now self b }
     {
@@ -236,89 +186,100 @@ impl Cursor {
 
     // A number of one to four digits within its limits, with the byte b after it: form, byte after, then range. A fault's place is the line on
     // which the field began.
-    pub fn ranged(self, s: &[u8], b: u8, limits: Limits, faults: Faults) -> Field
+    #[tactic(auto, unfolding(crate::specs::Reading::Parsed::ranged_at))]
+    pub fn ranged(
+        self,
+        s: &[u8],
+        b: u8,
+        limits: Limits,
+        faults: Faults,
+    ) -> Result<(u16, Cursor), Refusal>
         requires { Counted self }
-        ensures { told_field result ≡ ranged_at faults.form faults.range limits.min limits.max b s.now self }
+        ensures { told result ≡ ranged_at faults.form faults.range limits.min limits.max b s.now self }
     {
         limited(self.number_field(s, b), self.line, limits, faults)
     }
 
     // A number of exactly two digits and the byte b after it.
-    fn pair_field(self, s: &[u8], b: u8) -> NumberField
+    #[tactic(auto, using(crate::specs::Reading::BytesLaws::digit_small, crate::specs::Reading::BytesLaws::digit_inside), unfolding(crate::specs::Reading::Fixed::pair_at, crate::specs::Reading::Fixed::pair_field_at))]
+    fn pair_field(self, s: &[u8], b: u8) -> Option<(u32, Cursor)>
         requires { Counted self }
         ensures { result ≡ pair_field_at s.now self b }
     {
-        let Digit::Worth(tens) = digit_of(self.byte(s)) else {
-            return NumberField::Malformed;
-        };
+        let tens = digit_of(self.byte(s))?;
         let second = Cursor {
             at: self.at + 1,
-            line: self.line,
+            ..self
         };
-        let Digit::Worth(units) = digit_of(second.byte(s)) else {
-            return NumberField::Malformed;
-        };
+        let units = digit_of(second.byte(s))?;
         let after = Cursor {
-            at: second.at + 1,
-            line: second.line,
+            at: self.at + 2,
+            ..self
         };
-        let Step::Next(next) = after.past(s, b) else {
-            return NumberField::Malformed;
-        };
-        NumberField::Value(tens * 10 + units, next)
+        Some((tens * 10 + units, after.past(s, b)?))
     }
 
     // A number of exactly two digits within its limits, with the byte b after it; refused as `ranged` is.
-    pub fn paired(self, s: &[u8], b: u8, limits: Limits, faults: Faults) -> Field
+    #[tactic(auto, unfolding(crate::specs::Reading::Fixed::paired_at))]
+    pub fn paired(
+        self,
+        s: &[u8],
+        b: u8,
+        limits: Limits,
+        faults: Faults,
+    ) -> Result<(u16, Cursor), Refusal>
         requires { Counted self }
-        ensures { told_field result ≡ paired_at faults.form faults.range limits.min limits.max b s.now self }
+        ensures { told result ≡ paired_at faults.form faults.range limits.min limits.max b s.now self }
     {
         limited(self.pair_field(s, b), self.line, limits, faults)
     }
 
     // Past each byte of a text; refused by the number `form` on the line on which it should begin.
-    pub fn past_text(self, s: &[u8], text: &[u8], form: u8) -> Ending
+    #[tactic(auto, unfolding(crate::specs::Reading::Fixed::text_at))]
+    pub fn past_text(self, s: &[u8], text: &[u8], form: u8) -> Result<Cursor, Refusal>
         requires { Counted self }
         ensures { told_ending result tt ≡ text_at form text.now s.now self }
     {
-        let count = text.len();
         let mut cursor = self;
-        let mut i: usize = 0;
-        while i < count {
-            let Step::Next(next) = cursor.past(s, text[i]) else {
-                return Ending::Refused(form, self.line);
+        for b in text {
+            let Some(next) = cursor.past(s, *b) else {
+                return Err(Refusal {
+                    number: form,
+                    place: self.line,
+                });
             };
             cursor = next;
-            i = i + 1;
         }
-        Ending::Done(cursor)
+        Ok(cursor)
     }
 }
 
 // A field within its limits, which began on this line: its form and the byte after it were looked at, its range is now.
-fn limited(field: NumberField, line: usize, limits: Limits, faults: Faults) -> Field
-    ensures { told_field result ≡ limited faults.form faults.range limits.min limits.max line field }
+fn limited(
+    field: Option<(u32, Cursor)>,
+    line: usize,
+    limits: Limits,
+    faults: Faults,
+) -> Result<(u16, Cursor), Refusal>
+    ensures { told result ≡ limited faults.form faults.range limits.min limits.max line field }
 {
-    let NumberField::Value(n, next) = field else {
-        return Field::Refused(faults.form, line);
+    let Some((n, next)) = field else {
+        return Err(Refusal {
+            number: faults.form,
+            place: line,
+        });
     };
-    let Bounded::Within(v) = limits.value(n) else {
-        return Field::Refused(faults.range, line);
+    let Some(v) = limits.value(n) else {
+        return Err(Refusal {
+            number: faults.range,
+            place: line,
+        });
     };
-    Field::Value(v, next)
+    Ok((v, next))
 }
 
-// How the reading of a field ended: after its value, or refused.
-pub fn ending_of(field: Field) -> Ending
-    ensures { result ≡ ending_of field }
-{
-    match field {
-        Field::Value(_, next) => Ending::Done(next),
-        Field::Refused(number, place) => Ending::Refused(number, place),
-    }
-}
-
-// The byte b at position `at`; answers the position after it.
+// The byte b at position `at`; answers the position after it. It and the four below are the steps of a `Writer`, over its buffer and count: the laws of `Put`
+// (specs/Writing/SpliceLaws) speak of bytes and a position.
 pub fn put_byte(out: &mut [u8], at: usize, b: u8) -> usize
     requires { at < length out.old }
     ensures { Put out.old out.new at (b ∷ []) result }
@@ -328,6 +289,7 @@ pub fn put_byte(out: &mut [u8], at: usize, b: u8) -> usize
 }
 
 // The digits of n from position `at` on; answers the position after them.
+#[tactic(auto, using(crate::specs::Writing::DigitsLaws::digits_one, crate::specs::Writing::DigitsLaws::length_one, crate::specs::Writing::DigitsLaws::length_more))]
 pub fn put_number(out: &mut [u8], at: usize, n: u32) -> usize
     requires { (at + length (digits n) ≤ length out.old) × (n < 10000000) }
     ensures { Put out.old out.new at (digits n) result }
@@ -340,6 +302,7 @@ pub fn put_number(out: &mut [u8], at: usize, n: u32) -> usize
 }
 
 // The digits of n and the byte b after them.
+#[tactic(auto, using(crate::specs::Writing::DigitsLaws::length_field))]
 pub fn put_field(out: &mut [u8], at: usize, n: u32, b: u8) -> usize
     requires { (at + length (field_text n b) ≤ length out.old) × (n < 10000000) }
     ensures { Put out.old out.new at (field_text n b) result }
@@ -362,23 +325,20 @@ pub fn put_text(out: &mut [u8], at: usize, text: &[u8]) -> usize
     requires { at + length text.now ≤ length out.old }
     ensures { Put out.old out.new at text.now result }
 {
-    let count = text.len();
-    let mut i: usize = 0;
-    while i < count {
-        out[at + i] = text[i];
-        i = i + 1;
-    }
-    at + count
+    let end = at + text.len();
+    out[at..end].copy_from_slice(text);
+    end
 }
 
 // A text, copied into the lent bytes if it fits; refused by 6, and nothing changed, if it does not.
-pub fn lend_text(text: &[u8], out: &mut [u8]) -> Written
+pub fn lend_text(text: &[u8], out: &mut [u8]) -> Result<usize, Refusal>
     ensures { Lent (Spelling.text text.now) out.old out.new result }
 {
-    let count = text.len();
-    if out.len() < count {
-        return Written::Refused(6, 0);
+    if out.len() < text.len() {
+        return Err(Refusal {
+            number: 6,
+            place: 0,
+        });
     }
-    put_text(out, 0, text);
-    Written::Length(count)
+    Ok(put_text(out, 0, text))
 }

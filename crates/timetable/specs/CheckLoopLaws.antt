@@ -1,35 +1,31 @@
 -- Laws of the check of lists and total as its loops and returns go.
-use Rattle.std.specs.Prelude.{ℕ, zero, suc, ◌+◌, ◌<◌, ◌≤◌, true, false, List, [], ◌∷◌, map, length, get_or, take}
+use Rattle.std.specs.Prelude.{ℕ, zero, suc, ◌+◌, ◌<◌, ◌≤◌, true, false, List, [], ◌∷◌, Result, Ok, Err, map, length, get_or, take}
 use Rattle.std.proofs.Math.Path.{◌≡◌, refl, sym, ap}
-use Rattle.std.proofs.Common.{◌∙◌, arith, eq-eqb, ne_eqb, length-take, get_or-take}
-use Rattle.std.proofs.Math.Bool.{not}
+use Rattle.std.proofs.Common.{◌∙◌, arith, eq-eqb, ne_eqb, length-take, get_or-take, ext_get_or}
+use Rattle.std.proofs.Math.Bool.{Bool, not}
+use Rattle.std.proofs.lemmas.Bool.{false≢true}
 use Rattle.std.proofs.lemmas.List.{length-map}
 use Rattle.std.proofs.Math.ListN.{get_or-map}
-use Rattle.text.specs.declared.Cursor.{Cursor}
-use Rattle.text.specs.declared.Ending.{Ending}
-use Rattle.text.specs.Reading.Told.{told_ending}
+use Rattle.text.specs.declared.Refusal.{Refusal}
+use Rattle.text.specs.Reading.Told.{refusal}
 use Rattle.finite.specs.Decide.{Decides}
-use Rattle.finite.specs.DecideLaws.{decides_and, decides_eq, decides_as}
+use Rattle.finite.specs.DecideLaws.{decides_and, decides_eq, decides_as, is_true, is_false}
 use Rattle.finite.specs.Below.{EachBelow}
 use Rattle.finite.specs.LoopLaws.{decides_all, first_found, first_none}
 use Rattle.text.specs.Reading.Parsed.{Parsed}
-use Rattle.line.specs.declared.Answer.{Answer}
 use Rattle.line.specs.declared.Line.{Line}
-use Rattle.line.specs.declared.ReadLine.{ReadLine}
 use Rattle.line.specs.File.{line_file, answered}
 use Rattle.line.specs.Within.{Within}
 use Rattle.line.specs.RoundTripLaws.{accepted_read}
-use Rattle.rules.specs.declared.rules.Breach.{Breach}
 use Rattle.rules.specs.declared.orders.OrderList.{OrderList}
 use Rattle.rules.specs.Lists.Orders.{list_count, order_lists, listed}
 use Rattle.rules.specs.Statement.Delay.{weighted_delay}
 use Rattle.rules.specs.Check.Breaches.{breach_of}
-use Rattle.rules.specs.Check.BreachesLaws.{breach_first, breach_later}
 use Rattle.timetable.specs.Reading.{Rest, Timetable, timetable_file}
 use Rattle.timetable.specs.Spell.{numbers}
-use Rattle.timetable.specs.Told.{named}
-use Rattle.timetable.specs.declared.checking.Verdict.{Verdict}
-use Rattle.timetable.specs.Check.{same_list, at_list, lists_breach, rest_breach, timetable_breach, verdict_of, judged, checked, check_of}
+use Rattle.timetable.specs.Told.{named, named_first}
+use Rattle.timetable.specs.AnsweredLaws.{answered_got, answered_bad}
+use Rattle.timetable.specs.Check.{same_list, at_list, lists_breach, rest_breach, timetable_breach, judged, checked, check_of}
 
 -- ---- one list
 
@@ -72,6 +68,30 @@ decides_same o q =
     ))
     (decides_matches (named o) (listed q))
 
+-- the numbers of some trains are those of others exactly where the trains are the same
+decides_numbers : (xs ys : List ℕ) → Decides (xs ≡ ys) (same_list (numbers xs) ys)
+decides_numbers xs ys =
+    decides_as
+    (λ h.
+    let size : length xs ≡ length ys = sym (length-map xs (λ i. i + 1)) ∙ h.0 in
+    ext_get_or 0 xs ys size (λ j b. omega (arith, h.1 j (omega (arith, size, b)), number_at xs j b)))
+    (λ e. (length-map xs (λ i. i + 1) ∙ ap length e, λ j b. number_at xs j (omega (arith, b, ap length e)) ∙ ap (λ (zs : List ℕ). get_or zs j 0 + 1) e))
+    (decides_matches (numbers xs) ys)
+
+-- a comparison of the trains of a list that was read with those of the right one
+pub same_told : (o q : OrderList) (b : Bool) → (b ≡ true → listed o ≡ listed q) → (listed o ≡ listed q → b ≡ true) → b ≡ same_list (named o) (listed q)
+same_told o q true yea nay = sym (is_true (decides_numbers (listed o) (listed q)) (yea refl))
+same_told o q false yea nay = sym (is_false (decides_numbers (listed o) (listed q)) (λ e. false≢true (nay e)))
+
+-- as many entries as a list has are the list
+pub front_listed : (o : OrderList) {n : ℕ} → n ≡ length (listed o) → take n o.trains ≡ listed o
+front_listed o e = rw e (go o.count o.trains)
+  where
+    go : (n : ℕ) (xs : List ℕ) → take (length (take n xs)) xs ≡ take n xs
+    go zero xs = refl
+    go (suc n) [] = refl
+    go (suc n) (x ∷ xs) = ap (λ (ys : List ℕ). x ∷ ys) (go n xs)
+
 -- ---- all of them
 
 -- what stands past the last list
@@ -95,82 +115,65 @@ module _ (read own : List (List ℕ)) where
   Right k = same_list (get_or read k []) (get_or own k []) ≡ true
 
   pub wrong_at : (k : ℕ) → k < length own → same_list (get_or read k []) (get_or own k []) ≡ false → EachBelow k Right →
-      Breach.Rule 16 (k + 1) ≡ lists_breach read own
+      refusal 16 (k + 1) ≡ lists_breach read own
   unfolding lists_breach
   wrong_at k h e r = ap at_list (sym (first_found _ _ k h (ap not e) (λ j s. ap not (r j s))))
 
-  pub wrong_none : EachBelow (length own) Right → Breach.None ≡ lists_breach read own
+  pub wrong_none : EachBelow (length own) Right → Ok tt ≡ lists_breach read own
   unfolding lists_breach
   wrong_none r = ap at_list (sym (first_none _ _ (λ j s. ap not (r j s))))
 
 -- ---- lists and total
 
 -- the lists that the code was given, against its own, which are n
-pub lists_told : (l : Line) (m : List ℕ) (xs : List OrderList) {n : ℕ} {own : List (List ℕ)} {b : Breach} → own ≡ order_lists l m → n ≡ list_count l →
-    b ≡ lists_breach (map named (take n xs)) own → b ≡ lists_breach (map named (take (list_count l) xs)) (order_lists l m)
+pub lists_told : (l : Line) (m : List ℕ) (xs : List OrderList) {n : ℕ} {own : List (List ℕ)} {b : Result (Unit {0}) Refusal} → own ≡ order_lists l m →
+    n ≡ list_count l → b ≡ lists_breach (named_first n xs) own → b ≡ lists_breach (named_first (list_count l) xs) (order_lists l m)
 lists_told l m xs own n b = b ∙ rw (own, n) refl
 
-module _ (l : Line) (m : List ℕ) (r : Rest) {b : Breach} (lists : b ≡ lists_breach r.lists (order_lists l m)) where
-  pub rest_list : {n p : ℕ} → b ≡ Breach.Rule n p → b ≡ rest_breach l m r
+module _ (l : Line) (m : List ℕ) (r : Rest) where
+  pub rest_list : {e : Refusal} → Err e ≡ lists_breach r.lists (order_lists l m) → Err e ≡ rest_breach l m r
   unfolding rest_breach
-  rest_list e = breach_first _ lists e
+  rest_list told = rw (← told) refl
 
-  module _ (none : b ≡ Breach.None) {w : ℕ} (delay : w ≡ weighted_delay l m) where
-    pub rest_none : r.total ≡ w → Breach.None ≡ rest_breach l m r
+  module _ (lists : Ok tt ≡ lists_breach r.lists (order_lists l m)) {w : ℕ} (delay : w ≡ weighted_delay l m) where
+    pub rest_none : r.total ≡ w → Ok tt ≡ rest_breach l m r
     unfolding rest_breach
-    rest_none e = breach_later lists none (rw (eq-eqb r.total (weighted_delay l m) (e ∙ delay)) refl)
+    rest_none e = rw (← lists, eq-eqb r.total (weighted_delay l m) (e ∙ delay)) refl
 
-    pub rest_total : (r.total ≡ w → ⊥) → Breach.Rule 17 0 ≡ rest_breach l m r
+    pub rest_total : (r.total ≡ w → ⊥) → refusal 17 0 ≡ rest_breach l m r
     unfolding rest_breach
-    rest_total e = breach_later lists none (rw (ne_eqb r.total (weighted_delay l m) (λ q. e (q ∙ sym delay))) refl)
+    rest_total e = rw (← lists, ne_eqb r.total (weighted_delay l m) (λ q. e (q ∙ sym delay))) refl
 
 -- ---- the whole
 
+module _ (l : Line) (t : Timetable) where
+  pub breach_rule : {e : Refusal} → Err e ≡ breach_of l t.minutes → Err e ≡ timetable_breach l t
+  unfolding timetable_breach
+  breach_rule told = rw (← told) refl
+
+  pub breach_rest : Ok tt ≡ breach_of l t.minutes → rest_breach l t.minutes t.rest ≡ timetable_breach l t
+  unfolding timetable_breach
+  breach_rest told = rw (← told) refl
+
+-- a text that was refused, or read
 module _ (l : Line) (s : List ℕ) where
-  -- a text that was refused
-  pub judged_refused : (t : Timetable) {e : Ending} {n p : ℕ} → told_ending e t ≡ timetable_file l s → e ≡ Ending.Refused n p →
-      Verdict.Refused n p ≡ judged l (timetable_file l s)
-  judged_refused t told is = ap (judged l) (ap (λ (k : Ending). told_ending k t) (sym is) ∙ told)
+  pub judged_refused : {e : Refusal} → Err e ≡ answered (timetable_file l s) → Err e ≡ judged l (timetable_file l s)
+  judged_refused told = sym (ap (judged l) (answered_bad (timetable_file l s) told))
 
-  -- a text that was read
-  pub judged_read : (t : Timetable) {e : Ending} {v : Verdict} {c : Cursor} → told_ending e t ≡ timetable_file l s → e ≡ Ending.Done c →
-      v ≡ verdict_of (timetable_breach l t) → v ≡ judged l (timetable_file l s)
-  judged_read t told is v = v ∙ ap (judged l) (ap (λ (k : Ending). told_ending k t) (sym is) ∙ told)
-
-module _ (l : Line) (t : Timetable) {b : Breach} (rules : b ≡ breach_of l t.minutes) where
-  pub breach_rule : {n p : ℕ} → b ≡ Breach.Rule n p → b ≡ timetable_breach l t
-  unfolding timetable_breach
-  breach_rule e = breach_first _ rules e
-
-  pub breach_rest : {x : Breach} → b ≡ Breach.None → x ≡ rest_breach l t.minutes t.rest → x ≡ timetable_breach l t
-  unfolding timetable_breach
-  breach_rest e h = breach_later rules e h
+  pub judged_read : {t : Timetable} → Ok t ≡ answered (timetable_file l s) → timetable_breach l t ≡ judged l (timetable_file l s)
+  judged_read told = sym (ap (judged l) (answered_got (timetable_file l s) told).got)
 
 -- ---- the file
 
 -- the line of an accepted file
-pub file_within : (file : List ℕ) {r : ReadLine} → r ≡ answered (line_file file) → r.answer ≡ Answer.Accepted → Within r.line
-file_within file told is = (accepted_read file told is).limits
+pub file_within : (file : List ℕ) {l : Line} → Ok l ≡ answered (line_file file) → Within l
+file_within file told = (accepted_read file told).limits
 
--- what was read of a file, which the code answers with r
-module _ (file s : List ℕ) {r : ReadLine} (told : r ≡ answered (line_file file)) where
-  pub file_refused : {n p : ℕ} → r.answer ≡ Answer.Refused n p → Verdict.Refused n p ≡ check_of file s
+module _ (file s : List ℕ) where
+  pub file_refused : {e : Refusal} → Err e ≡ answered (line_file file) → Err e ≡ check_of file s
   unfolding check_of
-  file_refused {n} {p} is = go (line_file file) (sym (ap (λ (x : ReadLine). x.answer) told) ∙ is)
-    where
-      go : (a : Parsed Line) → (answered a).answer ≡ Answer.Refused n p → Verdict.Refused n p ≡ checked a s
-      go (Parsed.got l c) e = let z : ◌≡◌ {A = ℕ} 0 1 = cc in absurd (omega arith)
-      go (Parsed.bad m q) e =
-          let number : m ≡ n = cc in
-          let place : q ≡ p = cc in
-          rw (number, place) refl
+  file_refused told = sym (ap (λ (a : Parsed Line). checked a s) (answered_bad (line_file file) told))
 
-  pub file_accepted : {v : Verdict} → r.answer ≡ Answer.Accepted → v ≡ judged r.line (timetable_file r.line s) → v ≡ check_of file s
+  pub file_accepted : {l : Line} → Ok l ≡ answered (line_file file) → judged l (timetable_file l s) ≡ check_of file s
   unfolding check_of
-  file_accepted is h =
-      h ∙ ap (λ (l : Line). judged l (timetable_file l s)) (ap (λ (x : ReadLine). x.line) told)
-      ∙ go (line_file file) (sym (ap (λ (x : ReadLine). x.answer) told) ∙ is)
-    where
-      go : (a : Parsed Line) → (answered a).answer ≡ Answer.Accepted → judged (answered a).line (timetable_file (answered a).line s) ≡ checked a s
-      go (Parsed.got l c) e = refl
-      go (Parsed.bad m q) e = let z : ◌≡◌ {A = ℕ} 0 1 = cc in absurd (omega arith)
+  file_accepted told = sym (ap (λ (a : Parsed Line). checked a s) (answered_got (line_file file) told).got)

@@ -8,6 +8,7 @@ use Rattle.std.proofs.Math.Bool.{not}
 use Rattle.std.proofs.Math.Option.{Option, some, none}
 use mathlib.Core.List.{List, [], ◌∷◌, ◌++◌, append_assoc}
 use native.Mathlib.Omega.{arith}
+use Rattle.text.specs.Reading.Told.{refusal}
 use Rattle.text.specs.Writing.Digits.{digits, field_text}
 use Rattle.finite.specs.Below.{first, IsFirst}
 use Rattle.finite.specs.LoopLaws.{first_is}
@@ -15,10 +16,10 @@ use Rattle.text.specs.Places.Lines.{feeds}
 use Rattle.text.specs.Places.FeedsLaws.{feeds-append, feeds-digits, Begins}
 use Rattle.line.specs.declared.Train.{Train}
 use Rattle.line.specs.declared.Line.{Line}
-use Rattle.line.specs.declared.writing.Fault.{Fault}
 use Rattle.line.specs.Within.{Within}
 use Rattle.line.specs.RunnableLaws.{within_runnable}
 use Rattle.line.specs.Spell.{field}
+use Rattle.line.specs.Writing.{Checked, on_fault}
 use Rattle.rules.specs.Statement.Paths.{train, legs}
 use Rattle.rules.specs.Check.Tests.{departure_of, arrival_of}
 use Rattle.rules.specs.Statement.Delay.{weighted_delay}
@@ -90,12 +91,12 @@ module _ (l : Line) (m : List ℕ) where
       pub wrong : not (times_right (train l i) m i) ≡ true
       pub begins : Begins (timetable_text l m) (legs_text (legs l i) (train l i) m i 0) p
 
-    pub minutes_fault_begins : (n p : ℕ) → minutes_fault l m ≡ Fault.At n p → LateTrain p
+    pub minutes_fault_begins : (n p : ℕ) → minutes_fault l m ≡ refusal n p → LateTrain p
     unfolding minutes_fault
     minutes_fault_begins n p e = go (first (λ i. not (times_right (train l i) m i)) l.traffic.train_count) (first_is _ l.traffic.train_count) e
       where
-        go : (o : Option ℕ) → IsFirst (λ i. not (times_right (train l i) m i)) l.traffic.train_count o → on_line o ≡ Fault.At n p → LateTrain p
+        go : (o : Option ℕ) → IsFirst (λ i. not (times_right (train l i) m i)) l.traffic.train_count o → on_line o ≡ refusal n p → LateTrain p
         go none h f = let z : ◌≡◌ {A = ℕ} 0 1 = cc in absurd (omega arith)
         go (some i) h f =
-            let q : i + 2 ≡ p = cc in
+            let q : i + 2 ≡ p = ap (λ (x : Checked). on_fault x 0 (λ m k. k)) f in
             record { i = i; wrong = h.1; begins = rw q at (train_begins i h.0) }

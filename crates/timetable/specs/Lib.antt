@@ -2,6 +2,7 @@
 pub mod Reading
 pub mod Spell
 pub mod Told
+pub mod AnsweredLaws
 pub mod ReadingLaws
 pub mod ListLaws
 pub mod RestLaws

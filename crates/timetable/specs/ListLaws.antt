@@ -1,13 +1,10 @@
 -- Laws of reading an order list's line: each way out of its own count, and its trains, whose numbers are stored by index.
-use Rattle.std.specs.Prelude.{ℕ, ◌+◌, ◌-◌, ◌<◌, ◌≤◌, ◌≡◌, cond, List, [], ◌∷◌, ◌++◌, eqb, length, set, take}
+use Rattle.std.specs.Prelude.{ℕ, ◌+◌, ◌-◌, ◌<◌, ◌≤◌, ◌≡◌, cond, List, [], ◌∷◌, ◌++◌, Option, Some, None, eqb, length, set, take}
 use Rattle.std.proofs.Math.Path.{refl, ap}
 use Rattle.std.proofs.Common.{sym, ◌∙◌, arith, eq-eqb, ne_eqb}
 use Rattle.text.specs.Elements.PaddedLaws.{stored_more}
 use Rattle.text.specs.declared.Cursor.{Cursor}
-use Rattle.text.specs.declared.Number.{Number}
-use Rattle.text.specs.declared.Step.{Step}
-use Rattle.text.specs.declared.Bounded.{Bounded}
-use Rattle.text.specs.Reading.Choice.{on_number, on_step, on_bounded}
+use Rattle.text.specs.Reading.Choice.{on_some}
 use Rattle.text.specs.Reading.Bytes.{past_of}
 use Rattle.text.specs.Reading.Numbers.{number_at}
 use Rattle.text.specs.Reading.Limits.{bounded_of}
@@ -27,26 +24,26 @@ pub byte_some : (v b : ℕ) → (v ≡ 0 → ⊥) → b ≡ 32 → b ≡ cond (e
 byte_some v b e h = rw (ne_eqb v 0 e) h
 
 module _ (n : ℕ) (s : List ℕ) (c : Cursor) where
-  pub own_malformed : number_at 4 s c ≡ Number.Malformed → own_count_at n s c ≡ Parsed.bad 8 c.line
+  pub own_malformed : number_at 4 s c ≡ None → own_count_at n s c ≡ Parsed.bad 8 c.line
   unfolding own_count_at
   own_malformed e = simp e
 
   -- v is read, and b is the byte that belongs after it
-  module _ {v b : ℕ} {after : Cursor} (number : number_at 4 s c ≡ Number.Value v after) (byte : b ≡ cond (eqb v 0) 10 32) where
-    pub own_unended : past_of s after b ≡ Step.Wrong → own_count_at n s c ≡ Parsed.bad 8 c.line
+  module _ {v b : ℕ} {after : Cursor} (number : number_at 4 s c ≡ Some (v, after)) (byte : b ≡ cond (eqb v 0) 10 32) where
+    pub own_unended : past_of s after b ≡ None → own_count_at n s c ≡ Parsed.bad 8 c.line
     unfolding own_count_at
     own_unended e =
         let past = ap (λ (k : ℕ). past_of s after k) (sym byte) ∙ e in
         simp (number, past)
 
-    module _ {next : Cursor} (e : past_of s after b ≡ Step.Next next) where
-      pub own_over : bounded_of 0 n v ≡ Bounded.Outside → own_count_at n s c ≡ Parsed.bad 9 c.line
+    module _ {next : Cursor} (e : past_of s after b ≡ Some next) where
+      pub own_over : bounded_of 0 n v ≡ None → own_count_at n s c ≡ Parsed.bad 9 c.line
       unfolding own_count_at
       own_over o =
           let past = ap (λ (k : ℕ). past_of s after k) (sym byte) ∙ e in
           simp (number, past, o)
 
-      pub own_value : {w : ℕ} → bounded_of 0 n v ≡ Bounded.Within w → own_count_at n s c ≡ Parsed.got w next
+      pub own_value : {w : ℕ} → bounded_of 0 n v ≡ Some w → own_count_at n s c ≡ Parsed.got w next
       unfolding own_count_at
       own_value o =
           let past = ap (λ (k : ℕ). past_of s after k) (sym byte) ∙ e in
@@ -57,21 +54,21 @@ pub own_within : (n : ℕ) (s : List ℕ) (c : Cursor) (v : ℕ) (next : Cursor)
 unfolding own_count_at
 own_within n s c v next e = number (number_at 4 s c) e
   where
-    bounded : (m : ℕ) (x : Cursor) (a : Bounded) → bounded_of 0 n m ≡ a → on_bounded a (λ w. Parsed.got w x) (Parsed.bad 9 c.line) ≡ Parsed.got v next → v ≤ n
-    bounded m x Bounded.Outside o g = let z : ◌≡◌ {A = ℕ} 0 1 = cc in absurd (omega arith)
-    bounded m x (Bounded.Within w) o g =
+    bounded : (m : ℕ) (x : Cursor) (a : Option ℕ) → bounded_of 0 n m ≡ a → on_some a (λ w. Parsed.got w x) (Parsed.bad 9 c.line) ≡ Parsed.got v next → v ≤ n
+    bounded m x None o g = let z : ◌≡◌ {A = ℕ} 0 1 = cc in absurd (omega arith)
+    bounded m x (Some w) o g =
         let i = bounded_within 0 n m w o in
         let q : w ≡ v = cc in
         omega (arith, i.high, i.same)
 
-    step : (m : ℕ) (a : Step) → on_step a (λ x. on_bounded (bounded_of 0 n m) (λ w. Parsed.got w x) (Parsed.bad 9 c.line)) (Parsed.bad 8 c.line) ≡ Parsed.got v next → v ≤ n
-    step m (Step.Next x) g = bounded m x (bounded_of 0 n m) refl g
-    step m Step.Wrong g = let z : ◌≡◌ {A = ℕ} 0 1 = cc in absurd (omega arith)
+    step : (m : ℕ) (a : Option Cursor) → on_some a (λ x. on_some (bounded_of 0 n m) (λ w. Parsed.got w x) (Parsed.bad 9 c.line)) (Parsed.bad 8 c.line) ≡ Parsed.got v next → v ≤ n
+    step m (Some x) g = bounded m x (bounded_of 0 n m) refl g
+    step m None g = let z : ◌≡◌ {A = ℕ} 0 1 = cc in absurd (omega arith)
 
-    number : (a : Number) → on_number a (λ m after. on_step (past_of s after (cond (eqb m 0) 10 32))
-        (λ x. on_bounded (bounded_of 0 n m) (λ w. Parsed.got w x) (Parsed.bad 9 c.line)) (Parsed.bad 8 c.line)) (Parsed.bad 8 c.line) ≡ Parsed.got v next → v ≤ n
-    number (Number.Value m after) g = step m (past_of s after (cond (eqb m 0) 10 32)) g
-    number Number.Malformed g = let z : ◌≡◌ {A = ℕ} 0 1 = cc in absurd (omega arith)
+    number : (a : Option (ℕ × Cursor)) → on_some a (λ (m, after). on_some (past_of s after (cond (eqb m 0) 10 32))
+        (λ x. on_some (bounded_of 0 n m) (λ w. Parsed.got w x) (Parsed.bad 9 c.line)) (Parsed.bad 8 c.line)) (Parsed.bad 8 c.line) ≡ Parsed.got v next → v ≤ n
+    number (Some (m, after)) g = step m (past_of s after (cond (eqb m 0) 10 32)) g
+    number None g = let z : ◌≡◌ {A = ℕ} 0 1 = cc in absurd (omega arith)
 
 -- ---- the trains of a list
 

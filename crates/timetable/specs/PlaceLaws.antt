@@ -1,22 +1,17 @@
 -- Places: what going past a byte keeps, every part of the timetable's text keeps. So a refusal by 8 or 9 names the line on which the refused field
 -- began (`refused_on`): one more than the line feeds before it. So the number and the place of a refused text have their bounds (`text_refusal`).
 use Prim.Native.Nat.{ℕ, zero, suc, ◌+◌, ◌≤◌}
-use Rattle.std.specs.Prelude.{◌≡◌, cond, List, ltb, eqb, length, replicate}
+use Rattle.std.specs.Prelude.{◌≡◌, cond, List, Option, Some, None, ltb, eqb, length, replicate}
 use Rattle.std.proofs.Math.Path.{refl}
-use Rattle.std.proofs.Common.{sym, ap, ◌∙◌, arith}
+use Rattle.std.proofs.Common.{sym, ◌∙◌, arith}
 use Rattle.std.proofs.Math.Decide.{dec_le}
 use Rattle.text.specs.declared.Cursor.{Cursor}
-use Rattle.text.specs.declared.Number.{Number}
-use Rattle.text.specs.declared.Step.{Step}
-use Rattle.text.specs.declared.Bounded.{Bounded}
-use Rattle.text.specs.declared.NumberField.{NumberField}
-use Rattle.text.specs.declared.Field.{Field}
-use Rattle.text.specs.Reading.Choice.{on_number, on_step, on_field, on_bounded}
+use Rattle.text.specs.Reading.Choice.{on_some}
 use Rattle.text.specs.Reading.Bytes.{past_of}
 use Rattle.text.specs.Reading.Numbers.{number_at, field_at}
 use Rattle.text.specs.Reading.Limits.{bounded_of}
 use Rattle.text.specs.Reading.Parsed.{Parsed, lines}
-use Rattle.text.specs.Reading.Told.{told_field}
+use Rattle.text.specs.Reading.Told.{told}
 use Rattle.text.specs.Places.Lines.{LineAt, Counted, Stood, HoldsOn, AnyNumber, OnLine}
 use Rattle.text.proofs.Places.LinesLaws.{KeepsPassing, keeps_line, keeps_counted, line_first, stood_line, line_most, stands_got, stands_bad, stands_then, stands_test, past_keeps, number_keeps, field_keeps, stands_ranged, stands-many}
 use Rattle.line.specs.declared.Train.{Train}
@@ -71,21 +66,21 @@ module _ (s : List ℕ) (P : Cursor → Type 0) (k : KeepsPassing s P) (Q : ℕ 
   unfolding own_count_at
   stands_own n c h = number (number_at 4 s c) refl
     where
-      bounded : (next : Cursor) → P next → (a : Bounded) → HoldsOn P Q (on_bounded a (λ w. Parsed.got w next) (Parsed.bad 9 c.line))
-      bounded next w (Bounded.Within v) = w
-      bounded next w Bounded.Outside = record { cursor = c; keeps = h; line = refl; number = q.range }
+      bounded : (next : Cursor) → P next → (a : Option ℕ) → HoldsOn P Q (on_some a (λ w. Parsed.got w next) (Parsed.bad 9 c.line))
+      bounded next w (Some v) = w
+      bounded next w None = record { cursor = c; keeps = h; line = refl; number = q.range }
 
-      step : (v b : ℕ) (after : Cursor) → P after → (a : Step) → past_of s after b ≡ a →
-          HoldsOn P Q (on_step a (λ next. on_bounded (bounded_of 0 n v) (λ w. Parsed.got w next) (Parsed.bad 9 c.line)) (Parsed.bad 8 c.line))
-      step v b after w (Step.Next next) e = bounded next (past_keeps s P k after b next w e) (bounded_of 0 n v)
-      step v b after w Step.Wrong e = record { cursor = c; keeps = h; line = refl; number = q.form }
+      step : (v b : ℕ) (after : Cursor) → P after → (a : Option Cursor) → past_of s after b ≡ a →
+          HoldsOn P Q (on_some a (λ next. on_some (bounded_of 0 n v) (λ w. Parsed.got w next) (Parsed.bad 9 c.line)) (Parsed.bad 8 c.line))
+      step v b after w (Some next) e = bounded next (past_keeps s P k after b next w e) (bounded_of 0 n v)
+      step v b after w None e = record { cursor = c; keeps = h; line = refl; number = q.form }
 
-      number : (a : Number) → number_at 4 s c ≡ a → HoldsOn P Q (on_number a
-          (λ v after. on_step (past_of s after (cond (eqb v 0) 10 32))
-          (λ next. on_bounded (bounded_of 0 n v) (λ w. Parsed.got w next) (Parsed.bad 9 c.line)) (Parsed.bad 8 c.line)) (Parsed.bad 8 c.line))
-      number (Number.Value v after) e =
+      number : (a : Option (ℕ × Cursor)) → number_at 4 s c ≡ a → HoldsOn P Q (on_some a
+          (λ (v, after). on_some (past_of s after (cond (eqb v 0) 10 32))
+          (λ next. on_some (bounded_of 0 n v) (λ w. Parsed.got w next) (Parsed.bad 9 c.line)) (Parsed.bad 8 c.line)) (Parsed.bad 8 c.line))
+      number (Some (v, after)) e =
           step v (cond (eqb v 0) 10 32) after (number_keeps s P k 4 c v after h e) (past_of s after (cond (eqb v 0) 10 32)) refl
-      number Number.Malformed e = record { cursor = c; keeps = h; line = refl; number = q.form }
+      number None e = record { cursor = c; keeps = h; line = refl; number = q.form }
 
   pub stands-list : (n : ℕ) (c : Cursor) → P c → HoldsOn P Q (list_at n s c)
   unfolding list_at
@@ -100,9 +95,9 @@ module _ (s : List ℕ) (P : Cursor → Type 0) (k : KeepsPassing s P) (Q : ℕ 
   unfolding total_at
   stands_total c h = go (field_at 7 s c 10) refl
     where
-      go : (a : NumberField) → field_at 7 s c 10 ≡ a → HoldsOn P Q (on_field a (λ v next. Parsed.got v next) (Parsed.bad 8 c.line))
-      go (NumberField.Value v next) e = field_keeps s P k 7 c 10 v next h e
-      go NumberField.Malformed e = record { cursor = c; keeps = h; line = refl; number = q.form }
+      go : (a : Option (ℕ × Cursor)) → field_at 7 s c 10 ≡ a → HoldsOn P Q (on_some a (λ (v, next). Parsed.got v next) (Parsed.bad 8 c.line))
+      go (Some (v, next)) e = field_keeps s P k 7 c 10 v next h e
+      go None e = record { cursor = c; keeps = h; line = refl; number = q.form }
 
   stands_rest : (l : Line) (c : Cursor) → P c → HoldsOn P Q (rest_at l s c)
   unfolding rest_at
@@ -155,6 +150,6 @@ text_refusal l s n p e = elim (dec_le (length s) 4096) [
 -- ---- for the reader's code
 
 -- after a list's own count there are still no more lines than bytes
-pub own_counted : (n : ℕ) (s : List ℕ) {c : Cursor} {f : Field} {v : ℕ} {next : Cursor} → Counted c → told_field f ≡ own_count_at n s c → f ≡ Field.Value v next →
+pub own_counted : (n : ℕ) (s : List ℕ) {c : Cursor} {v : ℕ} {next : Cursor} → Counted c → Parsed.got v next ≡ own_count_at n s c →
     Counted next
-own_counted n s {c} h told is = stands_got Counted AnyNumber _ (stands_own s Counted (keeps_counted s) AnyNumber any_timetable_number n c h) (sym told ∙ ap told_field is)
+own_counted n s {c} h told = stands_got Counted AnyNumber _ (stands_own s Counted (keeps_counted s) AnyNumber any_timetable_number n c h) (sym told)

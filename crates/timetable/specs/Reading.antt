@@ -2,7 +2,7 @@
 -- range (9).
 use Rattle.std.specs.Prelude.{ℕ, zero, suc, ◌+◌, cond, List, length, set, replicate, ltb, eqb}
 use Rattle.text.specs.declared.Cursor.{Cursor}
-use Rattle.text.specs.Reading.Choice.{pick, on_number, on_step, on_field, on_bounded}
+use Rattle.text.specs.Reading.Choice.{pick, on_some}
 use Rattle.text.specs.Reading.Bytes.{past_of}
 use Rattle.text.specs.Reading.Numbers.{number_at, field_at}
 use Rattle.text.specs.Reading.Limits.{bounded_of}
@@ -51,9 +51,9 @@ minutes_at l s c = then_read (count_at l.traffic.train_count s c) (λ n c₁. tr
 -- a list's own count: a line feed after 0, a space after any other; "over the trains" is 9
 unfoldable pub own_count_at : ℕ → List ℕ → Cursor → Parsed ℕ
 own_count_at n s c =
-    on_number (number_at 4 s c)
-    (λ v after. on_step (past_of s after (cond (eqb v 0) 10 32))
-    (λ next. on_bounded (bounded_of 0 n v) (λ w. Parsed.got w next) (Parsed.bad 9 c.line))
+    on_some (number_at 4 s c)
+    (λ (v, after). on_some (past_of s after (cond (eqb v 0) 10 32))
+    (λ next. on_some (bounded_of 0 n v) (λ w. Parsed.got w next) (Parsed.bad 9 c.line))
     (Parsed.bad 8 c.line))
     (Parsed.bad 8 c.line)
 
@@ -68,7 +68,7 @@ list_at n s c = then_read (own_count_at n s c) (λ v c₁. many v (name_at n) s 
 -- ---- "Last, the total weighted delay": up to seven digits, no range
 
 unfoldable pub total_at : List ℕ → Cursor → Parsed ℕ
-total_at s c = on_field (field_at 7 s c 10) (λ v next. Parsed.got v next) (Parsed.bad 8 c.line)
+total_at s c = on_some (field_at 7 s c 10) (λ (v, next). Parsed.got v next) (Parsed.bad 8 c.line)
 
 -- lists and total
 pub record Rest : Type 0 where

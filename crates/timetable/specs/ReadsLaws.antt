@@ -1,12 +1,11 @@
 -- The text of a timetable is read as its minutes, lists and total: each field is read as its value, and stored into entries of its own.
 use Prim.Native.Nat.{ℕ, zero, suc, ◌+◌, ◌≤◌, ◌<◌}
-use Rattle.std.specs.Prelude.{◌≡◌, cond, true, false, eqb, length, replicate}
+use Rattle.std.specs.Prelude.{◌≡◌, cond, true, false, None, eqb, length, replicate}
 use Rattle.std.proofs.Math.Path.{refl}
 use Rattle.std.proofs.Common.{◌∙◌, arith, le-ltb}
 use mathlib.Core.List.{List, [], ◌∷◌, map-id}
 use Rattle.std.proofs.lemmas.List.{length-replicate}
 use Rattle.text.specs.declared.Cursor.{Cursor}
-use Rattle.text.specs.declared.Digit.{Digit}
 use Rattle.text.specs.Reading.Bytes.{from, digit_of}
 use Rattle.text.specs.Reading.BytesLaws.{from_skip, at_length, past_reads, space_ends, feed_ends}
 use Rattle.text.specs.Writing.Digits.{digits}
@@ -39,7 +38,7 @@ use Rattle.timetable.specs.Spell.{legs_text, trains_text, minutes_text, names_te
 use Rattle.timetable.specs.StoresLaws.{leg_stored, legs_stored, departure_stored, arrival_stored, trains_stored, earlier_stays}
 use Rattle.timetable.specs.SpeltLaws.{DaysAt}
 
-after_ends : (k : ℕ) → digit_of (after_field k) ≡ Digit.Other
+after_ends : (k : ℕ) → digit_of (after_field k) ≡ None
 after_ends zero = feed_ends
 after_ends (suc k) = space_ends
 
@@ -152,8 +151,8 @@ pub record ListWithin (n : ℕ) (xs : List ℕ) : Type 0 where
   pub few : length xs ≤ n
   pub numbers : Each (λ x. (1 ≤ x) × (x ≤ n)) xs
 
-own_ends : (v : ℕ) → digit_of (cond (eqb v 0) 10 32) ≡ Digit.Other
-own_ends v = elim (eqb v 0) as (λ b. digit_of (cond b 10 32) ≡ Digit.Other) [ true ↦ feed_ends | false ↦ space_ends ]
+own_ends : (v : ℕ) → digit_of (cond (eqb v 0) 10 32) ≡ None
+own_ends v = elim (eqb v 0) as (λ b. digit_of (cond b 10 32) ≡ None) [ true ↦ feed_ends | false ↦ space_ends ]
 
 module _ (n : ℕ) (small : n ≤ 12) (s : List ℕ) where
   own_reads : (c : Cursor) (v : ℕ) (rest : List ℕ) → v ≤ n → from s c ≡ field v (cond (eqb v 0) 10 32) rest → Reads (own_count_at n s c) v s rest

@@ -1,27 +1,27 @@
 -- What the check refuses it refuses by a number from 1 to 19, at a place of at most 4,097.
 use Prim.Native.Nat.{ℕ, ◌≤◌}
-use Rattle.std.specs.Prelude.{◌≡◌, refl, true, false, cond, List, [], eqb, get_or}
+use Rattle.std.specs.Prelude.{◌≡◌, refl, true, false, cond, List, [], Result, Ok, Err, eqb, get_or}
 use Rattle.std.proofs.Common.{ap, ⊎_elim, arith}
 use Rattle.std.proofs.Math.Bool.{Bool, not}
 use Rattle.std.proofs.Math.Option.{Option, some, none}
 use Rattle.std.proofs.Math.ListN.{length}
 use Rattle.finite.specs.Below.{first, IsFirst}
 use Rattle.finite.specs.LoopLaws.{first_is}
+use Rattle.text.specs.declared.Refusal.{Refusal}
 use Rattle.text.specs.Reading.Parsed.{Parsed}
+use Rattle.text.specs.Reading.Told.{refusal}
 use Rattle.line.specs.declared.Line.{Line}
 use Rattle.line.specs.File.{line_file, answered}
 use Rattle.line.specs.PlaceLaws.{file_refusal}
 use Rattle.line.specs.RoundTripLaws.{ReadFrom, accepts_read}
-use Rattle.rules.specs.declared.rules.Breach.{Breach}
 use Rattle.rules.specs.Statement.FirstBroken.{checked_order}
 use Rattle.rules.specs.Statement.Delay.{weighted_delay}
 use Rattle.rules.specs.Check.Breaches.{or_breach, breach_of}
 use Rattle.rules.proofs.Check.FirstBrokenLaws.{first_broken, broken_bounds}
 use Rattle.rules.specs.Lists.Orders.{order_lists}
 use Rattle.rules.specs.Lists.OrdersLaws.{lists_few, lists_count}
-use Rattle.timetable.specs.declared.checking.Verdict.{Verdict}
 use Rattle.timetable.specs.Reading.{Timetable, timetable_file}
-use Rattle.timetable.specs.Check.{same_list, at_list, lists_breach, total_breach, rest_breach, timetable_breach, verdict_of, judged, checked, check_of}
+use Rattle.timetable.specs.Check.{same_list, at_list, lists_breach, total_breach, rest_breach, timetable_breach, judged, checked, check_of}
 use Rattle.timetable.specs.PlaceLaws.{text_refusal}
 
 pub record CheckRefusal (n p : ℕ) : Type 0 where
@@ -30,19 +30,19 @@ pub record CheckRefusal (n p : ℕ) : Type 0 where
 
 -- ---- of a breach
 
-abbrev Bounded : Breach → Type 0
-Bounded Breach.None = Unit {0}
-Bounded (Breach.Rule n p) = CheckRefusal n p
+abbrev Bounded : Result (Unit {0}) Refusal → Type 0
+Bounded (Ok _) = Unit {0}
+Bounded (Err e) = CheckRefusal e.number e.place
 
-or_bounded : (a b : Breach) → Bounded a → Bounded b → Bounded (or_breach a b)
-or_bounded Breach.None b x y = y
-or_bounded (Breach.Rule n p) b x y = x
+or_bounded : (a b : Result (Unit {0}) Refusal) → Bounded a → Bounded b → Bounded (or_breach a b)
+or_bounded (Ok _) b x y = y
+or_bounded (Err e) b x y = x
 
 module _ (file : List ℕ) (l : Line) (r : ReadFrom file l) where
-  rules_bounded : (m : List ℕ) (b : Breach) → breach_of l m ≡ b → Bounded b
-  rules_bounded m Breach.None e = tt
-  rules_bounded m (Breach.Rule n p) e =
-      let x = broken_bounds l m r.limits checked_order n p (first_broken l r.limits r.arrays m n p e) in
+  rules_bounded : (m : List ℕ) (b : Result (Unit {0}) Refusal) → breach_of l m ≡ b → Bounded b
+  rules_bounded m (Ok _) e = tt
+  rules_bounded m (Err y) e =
+      let x = broken_bounds l m r.limits checked_order y.number y.place (first_broken l r.limits r.arrays m y.number y.place e) in
       record { number = (omega (arith, x.0), omega (arith, x.1)); place = omega (arith, x.3) }
 
   lists_bounded : (read own : List (List ℕ)) → length own ≤ 22 → Bounded (lists_breach read own)
@@ -59,7 +59,7 @@ module _ (file : List ℕ) (l : Line) (r : ReadFrom file l) where
   total_bounded : (a b : ℕ) → Bounded (total_breach a b)
   total_bounded a b = go (eqb a b)
     where
-      go : (c : Bool) → Bounded (cond c Breach.None (Breach.Rule 17 0))
+      go : (c : Bool) → Bounded (cond {A = Result (Unit {0}) Refusal} c (Ok tt) (refusal 17 0))
       go true = tt
       go false = record { number = (omega arith, omega arith); place = omega arith }
 
@@ -71,31 +71,23 @@ module _ (file : List ℕ) (l : Line) (r : ReadFrom file l) where
       (or_bounded (lists_breach t.rest.lists (order_lists l t.minutes)) _ (lists_bounded t.rest.lists (order_lists l t.minutes) few)
       (total_bounded t.rest.total (weighted_delay l t.minutes)))
 
--- ---- of a verdict
+-- ---- of a check
 
-abbrev VerdictBounded : Verdict → Type 0
-VerdictBounded Verdict.Passed = Unit {0}
-VerdictBounded (Verdict.Refused n p) = CheckRefusal n p
-
-verdict_bounded : (b : Breach) → Bounded b → VerdictBounded (verdict_of b)
-verdict_bounded Breach.None h = tt
-verdict_bounded (Breach.Rule n p) h = h
-
-judged_bounded : (file : List ℕ) (l : Line) → ReadFrom file l → (s : List ℕ) (x : Parsed Timetable) → timetable_file l s ≡ x → VerdictBounded (judged l x)
-judged_bounded file l r s (Parsed.got t c) e = verdict_bounded (timetable_breach l t) (timetable_bounded file l r t)
+judged_bounded : (file : List ℕ) (l : Line) → ReadFrom file l → (s : List ℕ) (x : Parsed Timetable) → timetable_file l s ≡ x → Bounded (judged l x)
+judged_bounded file l r s (Parsed.got t c) e = timetable_bounded file l r t
 judged_bounded file l r s (Parsed.bad n p) e =
     let x = text_refusal l s n p e in
     record { number = (omega (arith, x.number), omega (arith, x.number)); place = x.place }
 
-check_bounded : (file s : List ℕ) → VerdictBounded (check_of file s)
+check_bounded : (file s : List ℕ) → Bounded (check_of file s)
 unfolding check_of
 check_bounded file s = go (line_file file) refl
   where
-    go : (x : Parsed Line) → line_file file ≡ x → VerdictBounded (checked x s)
+    go : (x : Parsed Line) → line_file file ≡ x → Bounded (checked x s)
     go (Parsed.got l c) e = judged_bounded file l (accepts_read file l (ap answered e)) s (timetable_file l s) refl
     go (Parsed.bad n p) e =
         let x = file_refusal file n p e in
         record { number = ⊎_elim (λ y. (y.0, omega (arith, y.1))) (λ y. (omega (arith, y), omega (arith, y))) x.number; place = x.place }
 
-pub check_refusal : (file s : List ℕ) (n p : ℕ) → check_of file s ≡ Verdict.Refused n p → CheckRefusal n p
+pub check_refusal : (file s : List ℕ) (n p : ℕ) → check_of file s ≡ refusal n p → CheckRefusal n p
 check_refusal file s n p e = rw e at (check_bounded file s)

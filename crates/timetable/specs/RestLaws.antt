@@ -1,20 +1,19 @@
 -- Laws of reading the second part of a timetable's text, and of the whole: a step at a time.
-use Rattle.std.specs.Prelude.{ℕ, suc, ◌<◌, ◌≤◌, ◌≡◌, List, [], ◌∷◌, ◌++◌, length}
+use Rattle.std.specs.Prelude.{ℕ, suc, ◌<◌, ◌≤◌, ◌≡◌, List, [], ◌∷◌, ◌++◌, None, Some, Result, Ok, Err, length}
 use Rattle.std.proofs.Math.Path.{refl}
-use Rattle.std.proofs.Common.{sym, ap, subst, ◌∙◌, append-nil, append_assoc}
+use Rattle.std.proofs.Common.{sym, ap, ◌∙◌, append-nil, append_assoc}
 use borrow.Author.Tests.{lt-ltb, le-ltb}
 use Rattle.text.specs.declared.Cursor.{Cursor}
-use Rattle.text.specs.declared.Ending.{Ending}
-use Rattle.text.specs.declared.NumberField.{NumberField}
+use Rattle.text.specs.declared.Refusal.{Refusal}
 use Rattle.text.specs.Reading.Numbers.{field_at}
 use Rattle.text.specs.Reading.Parsed.{Parsed, then_read, map_parsed, many, lines}
 use Rattle.text.specs.Reading.Told.{told_ending}
 use Rattle.text.proofs.Reading.ParsedLaws.{many_done, many_step, many-stop}
 use Rattle.line.specs.declared.Line.{Line}
+use Rattle.line.specs.File.{answered}
 use Rattle.rules.specs.Lists.Orders.{list_count}
-use Rattle.timetable.specs.declared.reading.TimetablePart.{TimetablePart}
-use Rattle.timetable.specs.Told.{blank, BlankAt, Blank}
-use Rattle.timetable.specs.Reading.{count_at, list_at, total_at, Rest, rest_at, minutes_at, timetable_file}
+use Rattle.timetable.specs.AnsweredLaws.{answered_got, answered_bad}
+use Rattle.timetable.specs.Reading.{count_at, list_at, total_at, Rest, rest_at, minutes_at, Timetable, timetable_file}
 use Rattle.timetable.specs.ReadingLaws.{count_is}
 
 -- ---- parts in a row, after those read so far
@@ -65,11 +64,11 @@ module _ (l : Line) (s : List ℕ) (c : Cursor) {n : ℕ} (own : n ≡ list_coun
     rest_no_lists e = rw (counted count, is_count, in_rows e) refl
 
     module _ {ls : List (List ℕ)} {c₂ : Cursor} (lists : lines n (list_at l.traffic.train_count) s c₁ ≡ Parsed.got ls c₂) where
-      pub rest_no_total : field_at 7 s c₂ 10 ≡ NumberField.Malformed → rest_at l s c ≡ Parsed.bad 8 c₂.line
+      pub rest_no_total : field_at 7 s c₂ 10 ≡ None → rest_at l s c ≡ Parsed.bad 8 c₂.line
       unfolding rest_at total_at
       rest_no_total e = rw (counted count, is_count, in_rows lists, e) refl
 
-      module _ {total : ℕ} {c₃ : Cursor} (field : field_at 7 s c₂ 10 ≡ NumberField.Value total c₃) where
+      module _ {total : ℕ} {c₃ : Cursor} (field : field_at 7 s c₂ 10 ≡ Some (total, c₃)) where
         pub rest_more : c₃.at < length s → rest_at l s c ≡ Parsed.bad 8 c₃.line
         unfolding rest_at total_at
         rest_more h = rw (counted count, is_count, in_rows lists, field, lt-ltb c₃.at (length s) h) refl
@@ -81,9 +80,12 @@ module _ (l : Line) (s : List ℕ) (c : Cursor) {n : ℕ} (own : n ≡ list_coun
 -- ---- the whole text
 
 -- what a part tells, with its value turned into another
-pub told_map : {A B : Type 0} (f : A → B) (e : Ending) (x : A) → map_parsed f (told_ending e x) ≡ told_ending e (f x)
-told_map f (Ending.Done c) x = refl
-told_map f (Ending.Refused n p) x = refl
+pub told_map : {A B : Type 0} (f : A → B) (e : Result Cursor Refusal) (x : A) → map_parsed f (told_ending e x) ≡ told_ending e (f x)
+told_map f (Ok c) x = refl
+told_map f (Err r) x = refl
+
+abbrev pub with_rest : List ℕ → Rest → Timetable
+with_rest m r = record { minutes = m; rest = r }
 
 module _ (l : Line) (s : List ℕ) where
   pub file_long : 4096 < length s → timetable_file l s ≡ Parsed.bad 7 0
@@ -100,20 +102,14 @@ module _ (l : Line) (s : List ℕ) where
     unfolding timetable_file
     file_no_minutes e = rw (le-ltb 4096 (length s) h, e) refl
 
-    -- the rest as the code tells it
-    pub file_rest : {m : List ℕ} {c : Cursor} {r : Parsed Rest} → minutes_at l s (record { at = 0; line = 1 }) ≡ Parsed.got m c →
-        r ≡ rest_at l s c → timetable_file l s ≡ map_parsed (λ x. record { minutes = m; rest = x }) r
-    unfolding timetable_file
-    file_rest e f = rw (le-ltb 4096 (length s) h, e, f) refl
+    -- the minutes, and then what the rest is to its end
+    module _ {m : List ℕ} {c : Cursor} (minutes : minutes_at l s (record { at = 0; line = 1 }) ≡ Parsed.got m c) where
+      file_minutes : timetable_file l s ≡ map_parsed (with_rest m) (rest_at l s c)
+      unfolding timetable_file
+      file_minutes = rw (le-ltb 4096 (length s) h, minutes) refl
 
--- ---- refused, nothing is handed back
+      pub file_no_rest : {e : Refusal} → Err e ≡ answered (rest_at l s c) → Err e ≡ answered (timetable_file l s)
+      file_no_rest told = sym (ap answered (file_minutes ∙ ap (map_parsed (with_rest m)) (answered_bad (rest_at l s c) told)))
 
-blank_is : (e : Ending) → BlankAt e (blank e)
-blank_is (Ending.Done c) = tt
-blank_is (Ending.Refused n p) = refl
-
-pub blank_refused : (e : Ending) {t : TimetablePart} → t ≡ blank e → Blank t
-blank_refused e h = subst (λ (t : TimetablePart). Blank t) (sym h) (blank_is e)
-
-pub blank_read : (t : TimetablePart) {e : Ending} {c : Cursor} → e ≡ Ending.Done c → BlankAt e t
-blank_read t h = subst (λ (k : Ending). BlankAt k t) (sym h) tt
+      pub file_rest : {r : Rest} → Ok r ≡ answered (rest_at l s c) → Ok (with_rest m r) ≡ answered (timetable_file l s)
+      file_rest told = sym (ap answered (file_minutes ∙ ap (map_parsed (with_rest m)) (answered_got (rest_at l s c) told).got))

@@ -1,17 +1,13 @@
 -- What is read of a timetable's text is that text: each field that was read is its digits and the byte after it, and no later field is stored over the
 -- minutes of an earlier one.
 use Prim.Native.Nat.{ℕ, zero, suc, ◌+◌, ◌≤◌, ◌<◌}
-use Rattle.std.specs.Prelude.{◌≡◌, true, false, cond, ltb, eqb, length, get_or, replicate}
+use Rattle.std.specs.Prelude.{◌≡◌, true, false, cond, Option, Some, None, ltb, eqb, length, get_or, replicate}
 use Rattle.std.proofs.Math.Path.{refl, sym, ap}
 use Rattle.std.proofs.Common.{◌∙◌, arith, ltb-false, drop_of_length-le}
 use mathlib.Core.List.{List, [], ◌++◌}
 use Rattle.std.proofs.Math.ListN.{length-replicate}
 use Rattle.text.specs.declared.Cursor.{Cursor}
-use Rattle.text.specs.declared.Number.{Number}
-use Rattle.text.specs.declared.NumberField.{NumberField}
-use Rattle.text.specs.declared.Step.{Step}
-use Rattle.text.specs.declared.Bounded.{Bounded}
-use Rattle.text.specs.Reading.Choice.{on_field}
+use Rattle.text.specs.Reading.Choice.{on_some}
 use Rattle.text.specs.Reading.Bytes.{from, past_of}
 use Rattle.text.specs.Reading.BytesLaws.{past_spelt}
 use Rattle.text.specs.Reading.Numbers.{number_at, field_at}
@@ -156,21 +152,21 @@ own_byte_lem v = elim (eqb v 0) as (λ b. cond b 10 32 < 256) [ true ↦ omega a
 own_spelt : (n : ℕ) (s : List ℕ) (c : Cursor) (v : ℕ) (next : Cursor) → own_count_at n s c ≡ Parsed.got v next → from s c ≡ own_field v (from s next)
 own_spelt n s c v next e = number (number_at 4 s c) refl
   where
-    bounded : (m : ℕ) (after x : Cursor) → number_at 4 s c ≡ Number.Value m after → past_of s after (own_byte m) ≡ Step.Next x → (a : Bounded) →
+    bounded : (m : ℕ) (after x : Cursor) → number_at 4 s c ≡ Some (m, after) → past_of s after (own_byte m) ≡ Some x → (a : Option ℕ) →
         bounded_of 0 n m ≡ a → from s c ≡ own_field v (from s next)
-    bounded m after x f h Bounded.Outside o = let refused = sym (own_over n s c f refl h o) ∙ e in let z : ◌≡◌ {A = ℕ} 0 1 = cc in absurd (omega arith)
-    bounded m after x f h (Bounded.Within w) o =
+    bounded m after x f h None o = let refused = sym (own_over n s c f refl h o) ∙ e in let z : ◌≡◌ {A = ℕ} 0 1 = cc in absurd (omega arith)
+    bounded m after x f h (Some w) o =
         let past = past_spelt s after x (own_byte m) (own_byte_lem m) h in
         let text = number-spelt 4 (omega arith) (omega arith) s c after m f ∙ ap (λ (y : List ℕ). digits m ++ y) past in
         got_is (λ y end. from s c ≡ own_field y (from s end)) (sym (own_value n s c f refl h o) ∙ e) (rw (bounded_within 0 n m w o).same text)
 
-    step : (m : ℕ) (after : Cursor) → number_at 4 s c ≡ Number.Value m after → (a : Step) → past_of s after (own_byte m) ≡ a → from s c ≡ own_field v (from s next)
-    step m after f (Step.Next x) h = bounded m after x f h (bounded_of 0 n m) refl
-    step m after f Step.Wrong h = let refused = sym (own_unended n s c f refl h) ∙ e in let z : ◌≡◌ {A = ℕ} 0 1 = cc in absurd (omega arith)
+    step : (m : ℕ) (after : Cursor) → number_at 4 s c ≡ Some (m, after) → (a : Option Cursor) → past_of s after (own_byte m) ≡ a → from s c ≡ own_field v (from s next)
+    step m after f (Some x) h = bounded m after x f h (bounded_of 0 n m) refl
+    step m after f None h = let refused = sym (own_unended n s c f refl h) ∙ e in let z : ◌≡◌ {A = ℕ} 0 1 = cc in absurd (omega arith)
 
-    number : (a : Number) → number_at 4 s c ≡ a → from s c ≡ own_field v (from s next)
-    number (Number.Value m after) f = step m after f (past_of s after (own_byte m)) refl
-    number Number.Malformed f = let refused = sym (own_malformed n s c f) ∙ e in let z : ◌≡◌ {A = ℕ} 0 1 = cc in absurd (omega arith)
+    number : (a : Option (ℕ × Cursor)) → number_at 4 s c ≡ a → from s c ≡ own_field v (from s next)
+    number (Some (m, after)) f = step m after f (past_of s after (own_byte m)) refl
+    number None f = let refused = sym (own_malformed n s c f) ∙ e in let z : ◌≡◌ {A = ℕ} 0 1 = cc in absurd (omega arith)
 
 -- k trains of a list, each with as many after it as are left
 names-spelt : (n : ℕ) (s : List ℕ) (k : ℕ) (c : Cursor) (xs : List ℕ) (next : Cursor) → many k (name_at n) s c ≡ Parsed.got xs next →
@@ -208,12 +204,12 @@ total_spelt : (s : List ℕ) (c : Cursor) (v : ℕ) (next : Cursor) → total_at
 unfolding total_at
 total_spelt s c v next e = go (field_at 7 s c 10) refl e
   where
-    go : (a : NumberField) → field_at 7 s c 10 ≡ a → on_field a (λ m x. Parsed.got m x) (Parsed.bad 8 c.line) ≡ Parsed.got v next → from s c ≡ field v 10 (from s next)
-    go (NumberField.Value m x) f g =
+    go : (a : Option (ℕ × Cursor)) → field_at 7 s c 10 ≡ a → on_some a (λ (m, x). Parsed.got m x) (Parsed.bad 8 c.line) ≡ Parsed.got v next → from s c ≡ field v 10 (from s next)
+    go (Some (m, x)) f g =
         let q : m ≡ v = cc in
         let y : x ≡ next = cc in
         rw (q, y) at (field-spelt 7 (omega arith) (omega arith) s c x 10 m (omega arith) f)
-    go NumberField.Malformed f g = let z : ◌≡◌ {A = ℕ} 0 1 = cc in absurd (omega arith)
+    go None f g = let z : ◌≡◌ {A = ℕ} 0 1 = cc in absurd (omega arith)
 
 -- the second part of the text, and nothing after it
 record RestSpelt (l : Line) (s : List ℕ) (c : Cursor) (r : Rest) : Type 0 where

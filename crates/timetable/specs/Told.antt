@@ -1,10 +1,10 @@
 -- What the answers of the timetable's reader tell.
-use Rattle.std.specs.Prelude.{ℕ, ◌≡◌, List, map, take, replicate}
-use Rattle.text.specs.declared.Ending.{Ending}
+use Rattle.std.specs.Prelude.{ℕ, List, Result, Ok, Err, map, take}
+use Rattle.text.specs.declared.Refusal.{Refusal}
 use Rattle.line.specs.declared.Line.{Line}
 use Rattle.rules.specs.declared.orders.OrderList.{OrderList}
 use Rattle.rules.specs.Lists.Orders.{list_count, listed}
-use Rattle.timetable.specs.declared.reading.TimetablePart.{TimetablePart}
+use Rattle.timetable.specs.declared.reading.Timetable as code
 use Rattle.timetable.specs.Reading.{Rest, Timetable}
 use Rattle.timetable.specs.Spell.{numbers}
 
@@ -12,21 +12,23 @@ use Rattle.timetable.specs.Spell.{numbers}
 abbrev pub named : OrderList → List ℕ
 named o = numbers (listed o)
 
+-- of the first n lists
+abbrev pub named_first : ℕ → List OrderList → List (List ℕ)
+named_first n lists = map named (take n lists)
+
 -- the lists and the total, of a line
 abbrev pub rest_of : Line → List OrderList → ℕ → Rest
-rest_of l lists total = record { lists = map named (take (list_count l) lists); total = total }
+rest_of l lists total = record { lists = named_first (list_count l) lists; total = total }
 
-abbrev pub timetable_of : Line → TimetablePart → Timetable
+abbrev pub timetable_of : Line → code.Timetable → Timetable
 timetable_of l t = record { minutes = t.minutes; rest = rest_of l t.lists t.total }
 
--- nothing read
-abbrev pub blank : Ending → TimetablePart
-blank e = record { ending = e; minutes = replicate 352 0; lists = replicate 22 (record { count = 0; trains = replicate 12 0 }); total = 0 }
+-- the second part of a line's text
+abbrev pub rest_told : Line → Result (List OrderList × ℕ) Refusal → Result Rest Refusal
+rest_told l (Ok (lists, total)) = Ok (rest_of l lists total)
+rest_told l (Err r) = Err r
 
--- what the reader hands back where it refuses
-abbrev pub BlankAt : Ending → TimetablePart → Type 0
-BlankAt (Ending.Done c) t = Unit
-BlankAt (Ending.Refused n p) t = t ≡ blank (Ending.Refused n p)
-
-abbrev pub Blank : TimetablePart → Type 0
-Blank t = BlankAt t.ending t
+-- the whole text
+abbrev pub timetable_told : Line → Result code.Timetable Refusal → Result Timetable Refusal
+timetable_told l (Ok t) = Ok (timetable_of l t)
+timetable_told l (Err r) = Err r

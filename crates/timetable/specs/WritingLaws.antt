@@ -2,30 +2,29 @@
 -- written one after the other are the whole.
 use Prim.Native.Nat.{ℕ, zero, suc, ◌+◌, ◌-◌, ◌≤◌, ◌<◌}
 use Rattle.std.proofs.Math.Path.{◌≡◌, refl, sym, ap}
-use Rattle.std.proofs.Common.{◌∙◌, add-one, length-append, length-drop, length-take, drop-cons, get_or-take}
-use Rattle.std.specs.Prelude.{true, false, cond, eqb, length, get_or, drop}
+use Rattle.std.proofs.Common.{◌∙◌, ne_eqb, le-ltb, lt-ltb, le-leb, add-one, length-append, length-drop, length-take, drop-cons, get_or-take}
+use Rattle.std.specs.Prelude.{true, false, is_some, leb, Ok, Err, cond, eqb, length, get_or, drop, Option as Maybe, Some, None}
 use Rattle.std.proofs.Math.Bool.{not}
 use Rattle.std.proofs.Math.Option.{Option, some, none}
 use mathlib.Core.List.{List, [], ◌∷◌, ◌++◌, map, append_assoc}
 use Rattle.std.proofs.Math.Decide.{dec_le}
 use native.Mathlib.Omega.{arith}
-use Rattle.std.proofs.lemmas.Bool.{not-false}
+use Rattle.std.proofs.lemmas.Bool.{not-false, lt-leb}
 use Rattle.std.proofs.lemmas.List.{length-map}
 use Rattle.std.proofs.Math.Seq.{drop-length}
 use Rattle.finite.specs.Decide.{Decides}
 use Rattle.finite.specs.DecideLaws.{is_true, decides_and, decides_le}
 use Rattle.finite.specs.Below.{EachBelow}
 use Rattle.finite.specs.LoopLaws.{decides_all, first_found, first_none, none_first}
-use Rattle.text.specs.declared.Bounded.{Bounded}
+use Rattle.text.specs.declared.Refusal.{Refusal}
 use Rattle.text.specs.Reading.Limits.{bounded_of}
-use Rattle.text.proofs.Reading.ParsedLaws.{bounded_within, bounded_fits}
+use Rattle.text.specs.Reading.Told.{refusal}
 use Rattle.text.specs.Writing.Digits.{field_text}
 use Rattle.text.specs.Elements.EachThen.{each_then}
 use Rattle.text.specs.Writing.Lend.{Spelling}
-use Rattle.text.specs.Writing.SpliceLaws.{Putting, putting_room}
+use Rattle.text.specs.Writing.SpliceLaws.{part_fits, Putting, putting_room}
 use Rattle.line.specs.declared.Train.{Train}
 use Rattle.line.specs.declared.Line.{Line}
-use Rattle.line.specs.declared.writing.Fault.{Fault}
 use Rattle.line.specs.Record.{legs_of}
 use Rattle.line.specs.Within.{Within}
 use Rattle.line.specs.Spell.{field}
@@ -40,6 +39,7 @@ use Rattle.rules.specs.Statement.Rules.{InDays}
 use Rattle.rules.specs.Statement.Delay.{weighted_delay}
 use Rattle.rules.specs.declared.orders.OrderList.{OrderList}
 use Rattle.rules.specs.Lists.Orders.{list_count, listed}
+use Rattle.text.proofs.Reading.ParsedLaws.{bounded_within, bounded_fits}
 use Rattle.timetable.specs.Spell.{legs_text, trains_text, minutes_text, names_text, list_text, rest_text, numbers, list_numbers, timetable_text}
 use Rattle.timetable.specs.Writing.{times_right, on_line, minutes_fault, first_fault, spelling_of, spelling, lines_spelling}
 use Rattle.timetable.specs.CheckLoopLaws.{number_at}
@@ -48,16 +48,24 @@ use Rattle.timetable.specs.SpeltLaws.{DaysAt}
 -- ---- the times of a train, and the first train with a time that is too late
 
 -- a time that a call built, or refused
-pub time_built : (n : ℕ) {b : Bounded} {v : ℕ} → b ≡ bounded_of 0 2879 n → b ≡ Bounded.Within v → n ≤ 2879
+pub time_built : (n : ℕ) {b : Maybe ℕ} {v : ℕ} → b ≡ bounded_of 0 2879 n → b ≡ Some v → n ≤ 2879
 time_built n e h = (bounded_within 0 2879 n _ (sym e ∙ h)).high
 
-pub time_refused : (n : ℕ) {b : Bounded} → b ≡ bounded_of 0 2879 n → b ≡ Bounded.Outside → 2879 < n
+pub time_refused : (n : ℕ) {b : Maybe ℕ} → b ≡ bounded_of 0 2879 n → b ≡ None → 2879 < n
 time_refused n {b} e h = elim (dec_le n 2879) [
   | yes l ↦ (
-      let w : Bounded.Within n ≡ Bounded.Outside = sym (bounded_fits 0 2879 n (omega arith) l) ∙ sym e ∙ h in
+      let w : Some n ≡ None = sym (bounded_fits 0 2879 n (omega arith) l) ∙ sym e ∙ h in
       let z : ◌≡◌ {A = ℕ} 0 1 = cc in
       absurd (omega arith))
   | no f ↦ omega arith
+]
+
+-- a time is built exactly where it is at most 2,879
+pub time_is : (n : ℕ) → is_some (bounded_of 0 2879 n) ≡ leb n 2879
+unfolding bounded_of
+time_is n = elim (dec_le n 2879) [
+  | yes h ↦ simp (le-ltb n 0 (omega arith), le-ltb 2879 n h, le-leb n 2879 h)
+  | no h ↦ let late : 2879 < n = omega arith in simp (le-ltb n 0 (omega arith), lt-ltb 2879 n late, lt-leb n 2879 late)
 ]
 
 module _ (t : Train) (m : List ℕ) (i : ℕ) where
@@ -69,25 +77,25 @@ module _ (l : Line) (m : List ℕ) where
   abbrev pub Timed : ℕ → Type 0
   Timed i = times_right (train l i) m i ≡ true
 
-  pub late_at : (i : ℕ) → i < l.traffic.train_count → times_right (train l i) m i ≡ false → EachBelow i Timed → Fault.At 9 (i + 2) ≡ minutes_fault l m
+  pub late_at : (i : ℕ) → i < l.traffic.train_count → times_right (train l i) m i ≡ false → EachBelow i Timed → refusal 9 (i + 2) ≡ minutes_fault l m
   unfolding minutes_fault
   late_at i h e k = ap on_line (sym (first_found _ _ i h (ap not e) (λ j s. ap not (k j s))))
 
-  pub late_none : EachTrain l Timed → Fault.None ≡ minutes_fault l m
+  pub late_none : EachTrain l Timed → Ok tt ≡ minutes_fault l m
   unfolding minutes_fault
   late_none k = ap on_line (sym (first_none _ _ (λ j s. ap not (k j s))))
 
   -- minutes without a fault are of the two days
-  pub days_of : minutes_fault l m ≡ Fault.None → EachTrain l (InDays l m)
+  pub days_of : minutes_fault l m ≡ Ok tt → EachTrain l (InDays l m)
   unfolding minutes_fault
   days_of e i h = (decides_times (train l i) m i).yea (not-false _ (none_first _ _ (nobody _ e) i h))
     where
-      nobody : (o : Option ℕ) → on_line o ≡ Fault.None → o ≡ none
+      nobody : (o : Option ℕ) → on_line o ≡ Ok tt → o ≡ none
       nobody none g = refl
       nobody (some j) g = let z : ◌≡◌ {A = ℕ} 0 1 = cc in absurd (omega arith)
 
   -- and the other way
-  pub days_clean : EachTrain l (InDays l m) → minutes_fault l m ≡ Fault.None
+  pub days_clean : EachTrain l (InDays l m) → minutes_fault l m ≡ Ok tt
   days_clean h = sym (late_none (λ i b. is_true (decides_times (train l i) m i) (h i b)))
 
   -- no field is bad exactly when the line is within the limits and the minutes are of the two days
@@ -96,15 +104,15 @@ module _ (l : Line) (m : List ℕ) where
   tells_first = tells_then (fault_of l) (minutes_fault l m) (record { holds = within_of l; clean = fault_none l }) (record { holds = days_of; clean = days_clean })
 
   -- what there is to write, by the fault that was found
-  pub spelling_refused : (t : List ℕ) {n p : ℕ} → first_fault l m ≡ Fault.At n p → spelling_of l m t ≡ Spelling.refused n p
+  pub spelling_refused : (t : List ℕ) {e : Refusal} → first_fault l m ≡ Err e → spelling_of l m t ≡ Spelling.refused e.number e.place
   unfolding spelling_of
   spelling_refused t e = rw e refl
 
-  pub spelling_clean : (t : List ℕ) → first_fault l m ≡ Fault.None → spelling_of l m t ≡ Spelling.text t
+  pub spelling_clean : (t : List ℕ) → first_fault l m ≡ Ok tt → spelling_of l m t ≡ Spelling.text t
   unfolding spelling_of
   spelling_clean t e = rw e refl
 
-  pub spelling_text : fault_of l ≡ Fault.None → minutes_fault l m ≡ Fault.None → spelling l m ≡ Spelling.text (timetable_text l m)
+  pub spelling_text : fault_of l ≡ Ok tt → minutes_fault l m ≡ Ok tt → spelling l m ≡ Spelling.text (timetable_text l m)
   unfolding spelling
   spelling_text e g = spelling_clean _ (tells_first.clean (within_of l e, days_of g))
 
@@ -157,6 +165,12 @@ module _ (t : Train) (m : List ℕ) (i legs j : ℕ) where
       rw none refl
 
   -- both times of leg j fit where the whole does
+  pub leg_fits : (now : List ℕ) {whole : List ℕ} → now ++ legs_text (legs - j) t m i j [] ≡ whole → j < legs →
+      length now + (length (field_text (departure_of t m i j) 32) + length (field_text (arrival_of t m i j) (after_field (legs - (j + 1))))) ≤ length whole
+  leg_fits now left h =
+      rw length-append at (part_fits now leg (legs_text (legs - (j + 1)) t m i (j + 1) []) (ap (λ (x : List ℕ). now ++ x) (sym (next-leg h)) ∙ left))
+
+  -- the same of a buffer
   pub leg_room : {entry : List ℕ} {start : ℕ} {whole now : List ℕ} {at : ℕ} → Putting entry start whole now at (legs_text (legs - j) t m i j []) → j < legs →
       start + length whole ≤ length entry →
       at + (length (field_text (departure_of t m i j) 32) + length (field_text (arrival_of t m i j) (after_field (legs - (j + 1))))) ≤ length now
@@ -176,6 +190,12 @@ module _ (l : Line) (m : List ℕ) (n i : ℕ) where
   no_train_lem e =
       let none : n - i ≡ 0 = omega arith in
       rw none refl
+
+  pub train_fits : (now : List ℕ) {whole : List ℕ} → now ++ trains_text (n - i) l m i [] ≡ whole → i < n →
+      length now + length (legs_text (legs l i) (train l i) m i 0 []) ≤ length whole
+  train_fits now left h =
+      part_fits now (legs_text (legs l i) (train l i) m i 0 []) (trains_text (n - (i + 1)) l m (i + 1) [])
+      (ap (λ (x : List ℕ). now ++ x) (sym (next-train h)) ∙ left)
 
   pub train_room : {entry : List ℕ} {start : ℕ} {whole now : List ℕ} {at : ℕ} → Putting entry start whole now at (trains_text (n - i) l m i []) → i < n →
       start + length whole ≤ length entry → at + length (legs_text (legs l i) (train l i) m i 0 []) ≤ length now
@@ -215,22 +235,31 @@ module _ (o : OrderList) (n : ℕ) (size : n ≡ length (listed o)) where
     unfolding names_text
     no_name e = ap (λ (j : ℕ). names_text (drop j names) []) (e ∙ sym many) ∙ ap (λ (xs : List ℕ). names_text xs []) (drop-length names)
 
+    pub name_fits : (now : List ℕ) {whole : List ℕ} → now ++ names_text (drop k names) [] ≡ whole → k < n →
+        length now + length (field_text (get_or o.trains k 0 + 1) (after_field (n - (k + 1)))) ≤ length whole
+    name_fits now left h =
+        part_fits now (field_text (get_or o.trains k 0 + 1) (after_field (n - (k + 1)))) (names_text (drop (k + 1) names) [])
+        (ap (λ (x : List ℕ). now ++ x) (sym (next_name h)) ∙ left)
+
     pub name_room : {entry : List ℕ} {start : ℕ} {whole now : List ℕ} {at : ℕ} → Putting entry start whole now at (names_text (drop k names) []) → k < n →
         start + length whole ≤ length entry → at + length (field_text (get_or o.trains k 0 + 1) (after_field (n - (k + 1)))) ≤ length now
     name_room putting h fits =
         putting_room (field_text (get_or o.trains k 0 + 1) (after_field (n - (k + 1)))) (names_text (drop (k + 1) names) []) putting (next_name h) fits
 
-  -- the count, with the byte b after it, and then the numbers
-  module _ {b : ℕ} (byte : b ≡ cond (eqb n 0) 10 32) where
-    pub list-parts : list_text names [] ≡ field_text n b ++ names_text names []
-    unfolding list_text
-    list-parts =
-        ap (λ (x : ℕ). field x (cond (eqb x 0) 10 32) (names_text names [])) many
-        ∙ ap (λ (x : ℕ). field n x (names_text names [])) (sym byte)
-        ∙ (simp append_assoc)
+  -- the count, with a space after it where numbers follow, and then the numbers
+  pub list-parts : list_text names [] ≡ field_text n (after_field n) ++ names_text names []
+  unfolding list_text
+  list-parts =
+      ap (λ (x : ℕ). field x (cond (eqb x 0) 10 32) (names_text names [])) many
+      ∙ ap (λ (x : ℕ). field n x (names_text names [])) (byte n)
+      ∙ (simp append_assoc)
+    where
+      byte : (k : ℕ) → cond (eqb k 0) 10 32 ≡ after_field k
+      byte zero = refl
+      byte (suc k) = simp (ne_eqb (suc k) 0 (λ e. omega arith))
 
-    pub list_size : length (list_text names []) ≡ length (field_text n b) + length (names_text names [])
-    list_size = ap length list-parts ∙ length-append (field_text n b) (names_text names [])
+  pub list_size : length (list_text names []) ≡ length (field_text n (after_field n)) + length (names_text names [])
+  list_size = ap length list-parts ∙ length-append (field_text n (after_field n)) (names_text names [])
 
 -- ---- the order lists of the code
 

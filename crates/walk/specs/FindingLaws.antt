@@ -1,9 +1,8 @@
 -- What the walk from the plan without choices gives: it is the whole walk of the line, so what it finds is the best timetable, or there is none.
-use Rattle.std.specs.Prelude.{ℕ, suc, ◌+◌, ◌*◌, ◌-◌, ◌<◌, ◌≡◌, List}
+use Rattle.std.specs.Prelude.{ℕ, suc, ◌+◌, ◌*◌, ◌-◌, ◌<◌, ◌≡◌, List, None}
 use Rattle.std.proofs.Math.Path.{refl}
 use Rattle.std.proofs.Common.{sym, ap, ◌∙◌, arith}
 use Rattle.std.proofs.Math.Bool.{false}
-use Rattle.std.proofs.lemmas.Bool.{false≢true}
 use Rattle.finite.specs.DecideLaws.{is_false}
 use Rattle.line.specs.declared.Line.{Line}
 use Rattle.line.specs.Within.{Within, Arrays}
@@ -52,7 +51,7 @@ module _ (l : Line) (w : Within l) (a : Arrays l) where
     enough = omega (arith, slack-most m, least.fit.size)
 
     -- what the walk from it ends with
-    pub finds_walked : (best : List ℕ) {best' marks' : List ℕ} {y r : Tally} → y.found ≡ false → y.steps ≡ 1 →
+    pub finds_walked : (best : List ℕ) {best' marks' : List ℕ} {y r : Tally} → y.delay ≡ None → y.steps ≡ 1 →
         Walks l m free y (plan_part l m free best y) marks' best' r →
         FindsWalked l (found_of r best')
     finds_walked best {best'} {marks'} {y} {r} none_yet one walks =
@@ -65,7 +64,7 @@ module _ (l : Line) (w : Within l) (a : Arrays l) where
         omega (arith, one, some, ap (λ (x : Walked). x.steps) part) in
         record {
           finds =
-              finds_of l r best' (λ e. walk_best l w a best' (sym best_is ∙ (rw e refl))) walks.tallied.delay_is
+              finds_of l best' r.steps r.delay (λ c e. walk_best l w a best' (sym best_is ∙ (rw e refl))) walks.tallied.delay_is
               (λ e. walk-nothing l w a (sym best_is ∙ (rw e refl)));
           steps = steps_are ∙ ap cut_off all;
         }
@@ -84,11 +83,13 @@ module _ (l : Line) (w : Within l) (a : Arrays l) where
             let cut : in_time l m ≡ false = is_false (decides_in_time l m) (late m least.fit least.keeps) in
             taken_up_lem (planning l) fuel free start m nothing e ∙ taken_cut (planning l) fuel free m nothing (rw cut refl)
 
-    pub finds_nothing : (y : Tally) (m : List ℕ) → y.found ≡ false → y.steps ≡ 1 → FindsWalked l (found_of y m)
-    finds_nothing y m none_yet one =
+    pub finds_nothing : FindsWalked l (record { best = None; steps = 1 })
+    finds_nothing =
         record {
-          finds =
-              finds_of l y m (λ e. absurd (false≢true (sym none_yet ∙ e))) (λ e. absurd (false≢true (sym none_yet ∙ e)))
-              (λ e. walk-nothing l w a (ap (λ (x : Walked). x.best) walk_one));
-          steps = one ∙ ap cut_off (sym (ap (λ (x : Walked). x.steps) walk_one));
+          finds = record {
+            best = λ x e. absurd (cc);
+            delay_is = λ x e. absurd (cc);
+            none = λ _. walk-nothing l w a (ap (λ (x : Walked). x.best) walk_one);
+          };
+          steps = ap cut_off (sym (ap (λ (x : Walked). x.steps) walk_one));
         }

@@ -1,5 +1,5 @@
 -- What the walk's scan for the lowest conflict may leave out: what was clear at the former minutes, and whose minutes changed.
-use Rattle.std.specs.Prelude.{ℕ, ◌+◌, ◌*◌, ◌-◌, ◌≤◌, ◌<◌, ◌≡◌, true, false, ◌⊎◌, List, length, get_or}
+use Rattle.std.specs.Prelude.{ℕ, ◌+◌, ◌*◌, ◌-◌, ◌≤◌, ◌<◌, ◌≡◌, true, false, ◌⊎◌, List, length, get_or, Option, Some, None}
 use Rattle.line.specs.declared.Segment.{Segment}
 use Rattle.rules.specs.declared.conflicts.Conflict.{Conflict}
 use Rattle.rules.specs.declared.conflicts.Layout.{Layout}
@@ -41,7 +41,7 @@ pub record ScansAgain (y : Layout) (ds m former : List ℕ) (clear : ℕ) : Type
   pub known : ClearBelow y ds former clear
 
 -- the segments below the lowest conflict have none; those that it is not on have none at all
-abbrev pub clear_segments : Layout → Conflict → ℕ
-clear_segments y Conflict.Nothing = y.stations - 1
-clear_segments y (Conflict.OnSegment x) = x.segment
-clear_segments y (Conflict.AtStation x) = y.stations - 1
+abbrev pub clear_segments : Layout → Option Conflict → ℕ
+clear_segments y None = y.stations - 1
+clear_segments y (Some (Conflict.OnSegment x)) = x.segment
+clear_segments y (Some (Conflict.AtStation x)) = y.stations - 1

@@ -1,6 +1,6 @@
 -- Laws of the walk's scan for the lowest conflict: a segment that was clear is clear where no train with other minutes is in conflict, and the segments
 -- below a lowest conflict are clear. Assumes nothing.
-use Rattle.std.specs.Prelude.{ℕ, ◌+◌, ◌*◌, ◌-◌, ◌≤◌, ◌<◌, ◌≡◌, ◌⊎◌, Bool, true, false, List, get_or}
+use Rattle.std.specs.Prelude.{ℕ, ◌+◌, ◌*◌, ◌-◌, ◌≤◌, ◌<◌, ◌≡◌, ◌⊎◌, Bool, true, false, List, get_or, Option, Some, None}
 use Rattle.std.proofs.Common.{sym, ◌∙◌, ap, ap₂}
 use Rattle.std.proofs.Math.Logic.{inl, ⊎_elim}
 use Rattle.std.proofs.Math.Bool.{true≢false}
@@ -67,7 +67,7 @@ module _ (g : Segment) (ds m former : List ℕ) (p n : ℕ) where
       inl (same.0 i (omega arith), rw a at (same.1 i (omega arith)))
 
   -- two trains at their former minutes are in conflict only if they were; one with other minutes is in none
-  pub changed_clear : pair_on g ds former n p ≡ Conflict.Nothing → ChangedApart g ds m former p n n → pair_on g ds m n p ≡ Conflict.Nothing
+  pub changed_clear : pair_on g ds former n p ≡ None → ChangedApart g ds m former p n n → pair_on g ds m n p ≡ None
   unfolding ChangedApart InNoConflict
   changed_clear e h =
       clash_none g ds m n p (λ i a j b. is_false (decides_clash g ds m p i j) (λ c.
@@ -92,7 +92,7 @@ module _ (y : Layout) (ds m : List ℕ) (clear : ℕ) (h : ClearBelow y ds m cle
   unfolding ClearBelow
   clear_below = h.1
 
-  pub clear_at : (p : ℕ) → p < clear → pair_on (get_or y.segments p no_segment) ds m y.trains p ≡ Conflict.Nothing
+  pub clear_at : (p : ℕ) → p < clear → pair_on (get_or y.segments p no_segment) ds m y.trains p ≡ None
   clear_at p l = segment_each y.segments ds m y.trains clear clear_below p l
 
 -- for the code, which comes to segment p among those that had no conflict at the former minutes, and returns its number
@@ -108,11 +108,11 @@ module _ (y : Layout) (ds m : List ℕ) where
   unfolding ClearBelow
   clear_none = (omega arith, segment-start y.segments ds m y.trains)
 
-  clear_by : (c : Conflict) → NoneBelow y ds m c → ClearBelow y ds m (clear_segments y c)
+  clear_by : (c : Option Conflict) → NoneBelow y ds m c → ClearBelow y ds m (clear_segments y c)
   unfolding ClearBelow
-  clear_by Conflict.Nothing h = (omega arith, h)
-  clear_by (Conflict.OnSegment x) h = (omega arith, h.1)
-  clear_by (Conflict.AtStation x) h = (omega arith, h)
+  clear_by None h = (omega arith, h)
+  clear_by (Some (Conflict.OnSegment x)) h = (omega arith, h.1)
+  clear_by (Some (Conflict.AtStation x)) h = (omega arith, h)
 
-  pub clear_told : (c : Conflict) → c ≡ conflict_in y ds m → ClearBelow y ds m (clear_segments y c)
+  pub clear_told : (c : Option Conflict) → c ≡ conflict_in y ds m → ClearBelow y ds m (clear_segments y c)
   clear_told c e = clear_by c (none_below y ds m c e)

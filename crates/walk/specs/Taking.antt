@@ -1,5 +1,5 @@
 -- The contracts of the walk's functions; as in raising for a choice the line is not among the parameters.
-use Rattle.std.specs.Prelude.{ℕ, ◌+◌, ◌-◌, ◌<◌, ◌≡◌, List, length}
+use Rattle.std.specs.Prelude.{ℕ, ◌+◌, ◌-◌, ◌<◌, ◌≡◌, List, length, Option}
 use Rattle.finite.specs.Below.{gather}
 use Rattle.line.specs.declared.Line.{Line}
 use Rattle.rules.specs.declared.conflicts.Conflict.{Conflict}
@@ -44,7 +44,7 @@ abbrev pub way_part : Line → List ℕ → List ℕ → List ℕ → Tally → 
 way_part l m marks best y c fuel = take_up (planning l) fuel (also c marks) m (best_of y best)
 
 -- the first n ways out of the conflict
-abbrev pub ways_part : Line → List ℕ → List ℕ → List ℕ → Tally → Conflict → ℕ → ℕ → Walked
+abbrev pub ways_part : Line → List ℕ → List ℕ → List ℕ → Tally → Option Conflict → ℕ → ℕ → Walked
 ways_part l m marks best y conflict n fuel = in_order (λ c. take_up (planning l) fuel (also c marks) m) (gather (way_of conflict) n) (best_of y best)
 
 -- ---- taking up a plan
@@ -66,6 +66,9 @@ pub record CanTry (m marks best t ds key : List ℕ) (layout : Layout) (cost : �
   pub choice : Choice
   pub given : Given line m marks best t ds key layout cost y
   pub is_way : IsWay line m ds choice way
+  -- as follows: the way's mark is one of the marks
+  pub row_few : way.row < 368
+  pub second_few : way.second < 16
   pub known : ClearBelow layout ds m clear
 
 abbrev pub Tries : List ℕ → List ℕ → List ℕ → List ℕ → List ℕ → List ℕ → Layout → ℕ → Tally → Way → List ℕ → List ℕ → Tally → Type 0
@@ -73,15 +76,19 @@ Tries m marks best t ds key layout cost y way marks' best' r =
     (l : Line) (c : Choice) → Given l m marks best t ds key layout cost y → IsWay l m ds c way →
     Walks l m marks y (way_part l m marks best y c) marks' best' r
 
-pub record CanTryAll (m marks best t ds key : List ℕ) (layout : Layout) (cost : ℕ) (y : Tally) (conflict : Conflict) (n : ℕ) : Type 0 where
+pub record CanTryAll (m marks best t ds key : List ℕ) (layout : Layout) (cost : ℕ) (y : Tally) (conflict : Option Conflict) : Type 0 where
   pub line : Line
   pub given : Given line m marks best t ds key layout cost y
   pub conflict_is : conflict ≡ conflict_of line m
-  pub count_is : n ≡ way_count conflict
 
 -- the first n ways are tried
 abbrev pub TriesFirst :
-    List ℕ → List ℕ → List ℕ → List ℕ → List ℕ → List ℕ → Layout → ℕ → Tally → Conflict → ℕ → List ℕ → List ℕ → Tally → Type 0
+    List ℕ → List ℕ → List ℕ → List ℕ → List ℕ → List ℕ → Layout → ℕ → Tally → Option Conflict → ℕ → List ℕ → List ℕ → Tally → Type 0
 TriesFirst m marks best t ds key layout cost y conflict n marks' best' r =
     (l : Line) → Given l m marks best t ds key layout cost y → conflict ≡ conflict_of l m →
     Walks l m marks y (ways_part l m marks best y conflict n) marks' best' r
+
+-- all of them
+abbrev pub TriesAll : List ℕ → List ℕ → List ℕ → List ℕ → List ℕ → List ℕ → Layout → ℕ → Tally → Option Conflict → List ℕ → List ℕ → Tally → Type 0
+TriesAll m marks best t ds key layout cost y conflict marks' best' r =
+    TriesFirst m marks best t ds key layout cost y conflict (way_count conflict) marks' best' r

@@ -1,12 +1,11 @@
 -- What the walk's functions do is what the walk does, part by part: taking up a plan, trying a way, and trying the ways in order.
-use Rattle.std.specs.Prelude.{ℕ, zero, suc, ◌+◌, ◌≤◌, ◌<◌, ◌≡◌, refl, Bool, true, false, ◌&&◌, List, [], ◌∷◌, ◌++◌}
+use Rattle.std.specs.Prelude.{ℕ, zero, suc, ◌+◌, ◌≤◌, ◌<◌, ◌≡◌, refl, Bool, true, false, ◌&&◌, List, [], ◌∷◌, ◌++◌, Option, Some, None}
 use Rattle.std.proofs.Common.{sym, ◌∙◌, ap, ap₂, arith}
 use Rattle.std.proofs.Math.Bool.{and-eq-true_iff}
 use Rattle.finite.specs.Below.{gather}
 use Rattle.finite.specs.LoopLaws.{gather-more}
 use Rattle.line.specs.declared.Line.{Line}
 use Rattle.line.specs.Within.{Within, Arrays}
-use Rattle.line.specs.RunnableLaws.{within_runnable}
 use Rattle.rules.specs.declared.conflicts.Conflict.{Conflict}
 use Rattle.rules.specs.Conflict.Conflicts.{conflict_of}
 use Rattle.orders.specs.LeastMinutes.NoLater.{slack}
@@ -24,7 +23,6 @@ use Rattle.plans.specs.Clauses.Tallies.{best_of, cut_of, cut_off, Tallied}
 use Rattle.plans.specs.Clauses.Choosing.{Planned, NoRaise}
 use Rattle.walk.specs.Taking.{taken_up, Walks, plan_part, way_part, ways_part}
 use Rattle.walk.specs.TakingLaws.{taken_up_lem, taken_none, taken_some, taken_cut, taken_clear, taken_split, none_more, more_best, more_steps}
-use Rattle.orders.specs.LeastMinutes.CarriedLaws.{delay-most}
 use Rattle.plans.proofs.Clauses.NextPlansLaws.{recounted, recounted_best, raise_none}
 use Rattle.walk.specs.ProblemLaws.{least_found}
 use Rattle.plans.proofs.Instance.LineSearchedLaws.{planning_laws}
@@ -69,15 +67,13 @@ module _ (l : Line) (w : Within l) (a : Arrays l) (m marks best : List ℕ) (cos
       taken : (fuel : ℕ) → taken_up (planning l) fuel marks m (best_of y best) ≡ record { best = best_of y best; steps = 1 }
       taken fuel = taken_cut (planning l) fuel marks m (best_of y best) (rw (g.timely, e) refl)
 
-  pub walks_clear : improves (planning l) m (best_of y best) ≡ true → (conflict : Conflict) → conflict ≡ conflict_of l m →
-      (n : ℕ) → n ≡ way_count conflict → n ≡ 0 → (best' : List ℕ) → best' ≡ m →
-      Walks l m marks y (plan_part l m marks best y) marks best' (record { found = true; delay = cost; steps = y.steps })
-  walks_clear e conflict is n n-is empty best' same = record {
+  pub walks_clear : improves (planning l) m (best_of y best) ≡ true → None ≡ conflict_of l m → (best' : List ℕ) → best' ≡ m →
+      Walks l m marks y (plan_part l m marks best y) marks best' (record { delay = Some cost; steps = y.steps })
+  walks_clear e is best' same = record {
     marks_same = refl;
     tallied = record {
       size = rw same g.carried.least.fit.size;
-      delay_is = λ _. rw same g.carried.cost_is;
-      delay_low = λ _. omega (arith, g.carried.cost_is, delay-most l (within_runnable l w) m g.carried.least.fit);
+      delay_is = λ c some. rw same (let here : c ≡ cost = cc in here ∙ g.carried.cost_is);
       steps_low = t.steps_low;
     };
     best_is = λ fuel h. ap found same ∙ sym (ap (λ (x : Walked). x.best) (taken fuel));
@@ -85,15 +81,15 @@ module _ (l : Line) (w : Within l) (a : Arrays l) (m marks best : List ℕ) (cos
   }
     where
       clear : ways l m ≡ []
-      clear = no_ways l m conflict is (sym n-is ∙ empty)
+      clear = no_ways l m None is refl
 
       taken : (fuel : ℕ) → taken_up (planning l) fuel marks m (best_of y best) ≡ record { best = found m; steps = 1 }
       taken fuel = taken_clear (planning l) fuel marks m (best_of y best) (rw (g.timely, e) refl) clear
 
-  pub walks_split : improves (planning l) m (best_of y best) ≡ true → (conflict : Conflict) → conflict ≡ conflict_of l m →
-      (n : ℕ) → n ≡ way_count conflict → (n ≡ 0 → ⊥) → (marks' best' : List ℕ) (r : Tally) →
-      Walks l m marks y (ways_part l m marks best y conflict n) marks' best' r → Walks l m marks y (plan_part l m marks best y) marks' best' r
-  walks_split e conflict is n n-is some marks' best' r h = record {
+  pub walks_split : improves (planning l) m (best_of y best) ≡ true → (conflict : Option Conflict) → conflict ≡ conflict_of l m →
+      (way_count conflict ≡ 0 → ⊥) → (marks' best' : List ℕ) (r : Tally) →
+      Walks l m marks y (ways_part l m marks best y conflict (way_count conflict)) marks' best' r → Walks l m marks y (plan_part l m marks best y) marks' best' r
+  walks_split e conflict is some marks' best' r h = record {
     marks_same = h.marks_same;
     tallied = h.tallied;
     best_is = λ fuel b. h.best_is fuel b ∙ sym (ap (λ (x : Walked). x.best) (taken fuel));
@@ -101,17 +97,20 @@ module _ (l : Line) (w : Within l) (a : Arrays l) (m marks best : List ℕ) (cos
   }
     where
       taken : (fuel : ℕ) → taken_up (planning l) fuel marks m (best_of y best) ≡
-          record { best = (ways_part l m marks best y conflict n fuel).best; steps = suc (ways_part l m marks best y conflict n fuel).steps }
+          record {
+            best = (ways_part l m marks best y conflict (way_count conflict) fuel).best;
+            steps = suc (ways_part l m marks best y conflict (way_count conflict) fuel).steps;
+          }
       taken fuel =
-          taken_split (planning l) fuel marks m (best_of y best) (rw (g.timely, e) refl) (λ z. some (n-is ∙ ap way_count (is ∙ ways_none l w a m z))) ∙
+          taken_split (planning l) fuel marks m (best_of y best) (rw (g.timely, e) refl) (λ z. some (ap way_count (is ∙ ways_none l w a m z))) ∙
           ap (λ (ws : List Choice). record {
             best = (in_order (λ c. take_up (planning l) fuel (also c marks) m) ws (best_of y best)).best;
             steps = suc (in_order (λ c. take_up (planning l) fuel (also c marks) m) ws (best_of y best)).steps;
-          }) (all_ways l m conflict is n n-is)
+          }) (all_ways l m conflict is (way_count conflict) refl)
 
   -- ---- trying the ways in order
 
-  pub walks_none : (conflict : Conflict) → Walks l m marks y (ways_part l m marks best y conflict 0) marks best y
+  pub walks_none : (conflict : Option Conflict) → Walks l m marks y (ways_part l m marks best y conflict 0) marks best y
   unfolding gather in_order
   walks_none conflict = record {
     marks_same = refl;
@@ -122,12 +121,12 @@ module _ (l : Line) (w : Within l) (a : Arrays l) (m marks best : List ℕ) (cos
 
   -- ---- trying a way: its plan has no minutes within the cut, or it is taken up
 
-  module _ (c : Choice) (b : Tally) (found-is : b.found ≡ y.found) (delay_is : b.delay ≡ y.delay) (steps_are : b.steps ≡ cut_off (y.steps + 1)) where
+  module _ (c : Choice) (b : Tally) (same_delay : b.delay ≡ y.delay) (steps_are : b.steps ≡ cut_off (y.steps + 1)) where
     pub counted_tallied : Tallied l best b
-    counted_tallied = recounted l best y b found-is delay_is (omega arith) t
+    counted_tallied = recounted l best y b same_delay (omega arith) t
 
     same_best : best_of b best ≡ best_of y best
-    same_best = recounted_best l best y b found-is delay_is
+    same_best = recounted_best l best y b same_delay
 
     pub walks_dead : NoRaise l c marks m (cut_of b) → (marks' : List ℕ) → marks' ≡ marks → Walks l m marks y (way_part l m marks best y c) marks' best b
     walks_dead h marks' same = record {
@@ -173,7 +172,7 @@ module _ (l : Line) (w : Within l) (a : Arrays l) (m marks best : List ℕ) (cos
             omega (arith, h.steps_are fuel (omega arith), ap (λ (x : Walked). x.steps) (taken fuel), taken_some (planning l) fuel marks₁ n (best_of b best))
 
 -- numbers with no way, and one number more with a way
-module _ (l : Line) (m marks best : List ℕ) (y : Tally) (conflict : Conflict) (n : ℕ) (marks₁ best₁ : List ℕ) (r₁ : Tally)
+module _ (l : Line) (m marks best : List ℕ) (y : Tally) (conflict : Option Conflict) (n : ℕ) (marks₁ best₁ : List ℕ) (r₁ : Tally)
     (h : Walks l m marks y (ways_part l m marks best y conflict n) marks₁ best₁ r₁) where
   pub walks_skip : (k : ℕ) → ((i : ℕ) → n ≤ i → i < n + k → way_of conflict i ≡ []) →
       Walks l m marks y (ways_part l m marks best y conflict (n + k)) marks₁ best₁ r₁

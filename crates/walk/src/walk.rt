@@ -1,15 +1,15 @@
 // The walk over the plans: taking up a plan tries the ways out of its lowest conflict in order, and trying a way takes up the plan with that choice more.
 // The minutes of a plan lie above those of the plan that it comes from, so what they can still rise falls.
-ghost use Rattle.walk.specs.Taking.{CanTakeUp, TakesUp, CanTry, Tries, CanTryAll, TriesFirst};
+ghost use Rattle.std.specs.Prelude.{Some};
+ghost use Rattle.walk.specs.Taking.{CanTakeUp, TakesUp, CanTry, Tries, CanTryAll, TriesAll};
 
 use crate::scanning::{clear_segments, lowest_conflict};
-use orders::raising::DEAD;
-use orders::tables::Tables;
-use plans::choosing::{copy_minutes, fails, raised};
+use plans::choosing::{fails, raised};
+use plans::day::Day;
 use plans::ranking::improves;
 use plans::tally::{Tally, counted, cut_of};
 use plans::ways::{Way, way_count, way_of, with_bit};
-use rules::conflicts::{Conflict, Layout};
+use rules::conflicts::Conflict;
 
 // Takes up the plan of these marks, whose least minutes are m and cost this. The caller has counted it. At the former minutes, those of the plan that it
 // comes from, the segments below `clear` have no conflict.
@@ -20,61 +20,51 @@ pub fn take_up(
     clear: usize,
     marks: &mut [u16; 368],
     best: &mut [u16; 352],
-    t: &Tables,
-    ds: &[u16; 176],
-    key: &[u16; 132],
-    layout: Layout,
+    day: &Day,
     cost: u32,
     tally: Tally,
 ) -> Tally
-    requires { CanTakeUp m.now former.now clear marks.old best.old t.now ds.now key.now layout cost tally }
-    ensures { TakesUp m.now marks.old best.old t.now ds.now key.now
-        layout cost tally marks.new best.new result }
+    requires { CanTakeUp m.now former.now clear marks.old best.old day.now.tables day.now.ds day.now.key day.now.layout cost tally }
+    ensures { TakesUp m.now marks.old best.old day.now.tables day.now.ds day.now.key day.now.layout cost tally marks.new best.new result }
 {
-    if !improves(m, best, key, cost, tally) {
+    if !improves(m, best, &day.key, cost, tally) {
         return tally;
     }
-    let conflict = lowest_conflict(layout, ds, m, former, clear);
-    let n = way_count(conflict);
-    if n == 0 {
-        copy_minutes(m, best);
+    let Some(conflict) = lowest_conflict(day.layout, &day.ds, m, former, clear) else {
+        *best = *m;
         return Tally {
-            found: true,
-            delay: cost,
-            steps: tally.steps,
+            delay: Some(cost),
+            ..tally
         };
-    }
-    try_ways(m, marks, best, t, ds, key, layout, cost, tally, conflict, n)
+    };
+    try_ways(m, marks, best, day, cost, tally, conflict)
 }
 
-// Tries the n ways out of the lowest conflict of the minutes m, in order.
+// Tries the ways out of the lowest conflict of the minutes m, in order.
 #[cycle(take_up_try_way_try_ways)]
 fn try_ways(
     m: &[u16; 352],
     marks: &mut [u16; 368],
     best: &mut [u16; 352],
-    t: &Tables,
-    ds: &[u16; 176],
-    key: &[u16; 132],
-    layout: Layout,
+    day: &Day,
     cost: u32,
     tally: Tally,
     conflict: Conflict,
-    n: usize,
 ) -> Tally
-    requires { CanTryAll m.now marks.old best.old t.now ds.now key.now layout cost tally conflict n }
-    ensures { TriesFirst m.now marks.old best.old t.now ds.now key.now
-        layout cost tally conflict n marks.new best.new result }
+    requires { CanTryAll m.now marks.old best.old day.now.tables day.now.ds day.now.key day.now.layout cost tally (Some conflict) }
+    ensures { TriesAll m.now marks.old best.old day.now.tables day.now.ds day.now.key day.now.layout cost tally (Some conflict) marks.new best.new result }
 {
-    let clear = clear_segments(layout, conflict);
+    let n = way_count(conflict);
+    let clear = clear_segments(day.layout, conflict);
     let mut b = tally;
     let mut w: usize = 0;
+    // The number goes on by the step of its way, which a `for` cannot do.
     while w < n {
-        let way = way_of(conflict, ds, w);
-        if way.some {
-            b = try_way(m, marks, best, t, ds, key, layout, cost, b, way, clear);
+        let out = way_of(conflict, &day.ds, w);
+        if let Some(way) = out.way {
+            b = try_way(m, marks, best, day, cost, b, way, clear);
         }
-        w = w + way.step;
+        w += out.step;
     }
     b
 }
@@ -85,35 +75,29 @@ fn try_way(
     m: &[u16; 352],
     marks: &mut [u16; 368],
     best: &mut [u16; 352],
-    t: &Tables,
-    ds: &[u16; 176],
-    key: &[u16; 132],
-    layout: Layout,
+    day: &Day,
     cost: u32,
     tally: Tally,
     way: Way,
     clear: usize,
 ) -> Tally
-    requires { CanTry m.now marks.old best.old t.now ds.now key.now layout cost tally way clear }
-    ensures { Tries m.now marks.old best.old t.now ds.now key.now
-        layout cost tally way marks.new best.new result }
+    requires { CanTry m.now marks.old best.old day.now.tables day.now.ds day.now.key day.now.layout cost tally way clear }
+    ensures { Tries m.now marks.old best.old day.now.tables day.now.ds day.now.key day.now.layout cost tally way marks.new best.new result }
 {
     let b = counted(tally);
     let row = way.row;
     let old = marks[row];
     marks[row] = with_bit(old, way.second);
-    if fails(m, marks, t, ds, way, cost, cut_of(b)) {
+    if fails(m, marks, &day.tables, &day.ds, way, cost, cut_of(b)) {
         marks[row] = old;
         return b;
     }
-    let mut q = [0u16; 352];
-    copy_minutes(m, &mut q);
-    let c = raised(&mut q, marks, t, ds, way, cost, cut_of(b));
-    if c == DEAD {
+    let mut q = *m;
+    let Some(c) = raised(&mut q, marks, &day.tables, &day.ds, way, cost, cut_of(b)) else {
         marks[row] = old;
         return b;
-    }
-    let r = take_up(&q, m, clear, marks, best, t, ds, key, layout, c, b);
+    };
+    let r = take_up(&q, m, clear, marks, best, day, c, b);
     marks[row] = old;
     r
 }

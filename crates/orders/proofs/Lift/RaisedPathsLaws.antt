@@ -1,15 +1,15 @@
 -- Laws of raising a train along its path: the legs of a path one after the other, and a path under way.
-use Rattle.std.specs.Prelude.{ℕ, zero, suc, ◌+◌, ◌≤◌, ◌<◌, ◌≡◌, ◌⊎◌, cond, List, eqb, length, get_or}
+use Rattle.std.specs.Prelude.{ℕ, zero, suc, ◌+◌, ◌≤◌, ◌<◌, ◌≡◌, ◌⊎◌, List, length, get_or, Option, Some, None}
 use Rattle.std.proofs.Math.Path.{refl, subst⁻¹}
-use Rattle.std.proofs.Common.{◌∙◌, ap, subst, inl, arith, add-one, eq-eqb, ne_eqb}
+use Rattle.std.proofs.Common.{◌∙◌, ap, subst, inl, arith, add-one}
 use Rattle.std.proofs.Math.Logic.{inr, ⊎_elim}
-use Rattle.std.proofs.Math.Decide.{ℕ_discrete}
+use Rattle.orders.specs.declared.raising.Path.{Path}
 use Rattle.orders.specs.LeastMinutes.NoLater.{slack}
 use Rattle.orders.specs.LeastMinutes.NoLaterLaws.{slack-most}
 use Rattle.orders.specs.LineTables.Tables.{stop_in, next_in}
 use Rattle.orders.specs.Raise.Raising.{Kept, Solves}
 use Rattle.orders.specs.Graph.LegGraph.{LegArc, UsedLeg, UsedArc, leg_graph, Shaped}
-use Rattle.orders.specs.Lift.Lifting.{Alive, Ready, Asks, ToNext, NoWay, Stepped}
+use Rattle.orders.specs.Lift.Lifting.{Ready, Asks, ToNext, Stepped, Alive}
 use Rattle.orders.specs.Lift.LiftingLaws.{going_ready, stepped_skip, stepped_onto, stepped_none}
 use Rattle.orders.specs.Lift.RaisedPaths.{Aside, Outward, LegRaised, AsideOf, PathRaised}
 use Rattle.orders.proofs.Lift.NextLegLaws.{onward_leg, onward_none, onward_still, onward_asks, onward_stepped}
@@ -61,104 +61,107 @@ ahead-parts t n e g q a (inr x) = ⊎_elim (λ k. inl k) (λ k. inr (inr (subst�
 
 -- ---- a path under way
 
--- so many legs from e on are later, and f is the last of them; its next leg, and what leaves them to other trains, is to do; or there are no such minutes
+-- so many legs from e on are later, and f is the last of them; its next leg, and what leaves them to other trains, is to do
 pub record AlongPath (marks t ds : List ℕ) (src cut e v w : ℕ) (m n : List ℕ) (c f legs : ℕ) : Type 0 where
-  pub stepped : Alive c → Stepped marks t ds (LeavesPath t f legs e) src cut e v w m n c
-  pub count : Alive c → legs + slack n ≤ slack m
+  pub stepped : Stepped marks t ds (LeavesPath t f legs e) src cut e v w m n c
+  pub count : legs + slack n ≤ slack m
   pub leg : UsedLeg ds f
   pub next_is : next_in t f ≡ leg_after t legs e
-  pub none : c ≡ 4294967295 → NoWay marks t ds src cut (Asks src e v w m) m n
 
 module _ (marks t ds : List ℕ) (src cut e v w : ℕ) (m n : List ℕ) (c : ℕ) where
-  pub path_start : UsedLeg ds e → LegRaised marks t ds src cut e v w m n c → AlongPath marks t ds src cut e v w m n c e 1
+  pub path_none : LegRaised marks t ds src cut e v w m n None → PathRaised marks t ds src cut e v w m n None
+  path_none l = record { stepped = λ p q. absurd (cc); none = λ _. l.none refl }
+
+  pub path_start : UsedLeg ds e → LegRaised marks t ds src cut e v w m n (Some c) → AlongPath marks t ds src cut e v w m n c e 1
   unfolding leg_after AsideOf
   path_start u l =
       record {
-        stepped = λ z. stepped_skip marks t ds _ src cut e v w m n c (l.stepped z) (LeavesPath t e 1 e)
+        stepped = stepped_skip marks t ds _ src cut e v w m n c (l.stepped (λ z. cc)) (LeavesPath t e 1 e)
             (λ a u x. inr (outward_ahead t 0 e e refl a x)) (λ a x. ⊎_elim (λ k. absurd k) (λ k. k) (ahead-parts t 0 e e refl a x));
-        count = λ z. omega (arith, (l.stepped z).less);
+        count = omega (arith, (l.stepped (λ z. cc)).less);
         leg = u;
         next_is = refl;
-        none = l.none;
       }
 
   module _ (f legs : ℕ) (p : AlongPath marks t ds src cut e v w m n c f legs) where
-    pub path_dead : c ≡ 4294967295 → PathRaised marks t ds src cut e v w m n (record { legs = legs; cost = 4294967295 })
-    path_dead q = record { stepped = λ z. absurd (z refl); none = λ _. p.none q }
+    pub path_few : length m ≡ 352 → legs < 1013761
+    path_few q = omega (arith, p.count, slack-most m)
 
-    module _ (alive : Alive c) where
-      pub path_few : length m ≡ 352 → legs < 1013761
-      path_few q = omega (arith, p.count alive, slack-most m)
+    -- it ends where the arc to the next leg is kept
+    ends : ((a : LegArc) → UsedArc marks t ds a → ToNext f a → Kept (leg_graph marks t ds) n a) →
+        PathRaised marks t ds src cut e v w m n (Some (record { legs = legs; cost = c }))
+    ends k =
+        record {
+          stepped = λ r q. subst
+              (λ (r : Path). Stepped marks t ds (AsideOf t r.legs e) src cut e v w m n r.cost)
+              (let same : record { legs = legs; cost = c } ≡ r = cc in same)
+              (stepped_skip marks t ds _ src cut e v w m n c p.stepped (AsideOf t legs e)
+              (λ a u x. ⊎_elim (λ o. inl (k a u o)) (λ o. inr o) x) (λ a x. inr x));
+          none = λ q. absurd (cc);
+        }
 
-      -- it ends where the arc to the next leg is kept
-      ends : ((a : LegArc) → UsedArc marks t ds a → ToNext f a → Kept (leg_graph marks t ds) n a) →
-          PathRaised marks t ds src cut e v w m n (record { legs = legs; cost = c })
-      ends k =
-          record {
-            stepped = λ z. stepped_skip marks t ds _ src cut e v w m n c (p.stepped z) (AsideOf t legs e)
-                (λ a u x. ⊎_elim (λ o. inl (k a u o)) (λ o. inr o) x) (λ a x. inr x);
-            none = λ q. absurd (alive q);
-          }
+    module _ (g : ℕ) (g-is : g ≡ next_in t f) where
+      pub path_ready : (cost : ℕ) → Ready m marks t ds e cost cut → Ready n marks t ds g c cut
+      path_ready cost r =
+          going_ready marks t ds src cut _ _ _ m n c p.stepped.going e g cost r (onward_leg marks t ds f g p.leg g-is r.shaped)
 
-      module _ (g : ℕ) (g-is : g ≡ next_in t f) where
-        pub path_ready : (cost : ℕ) → Ready m marks t ds e cost cut → Ready n marks t ds g c cut
-        path_ready cost r =
-            going_ready marks t ds src cut _ _ _ m n c (p.stepped alive).going e g cost r (onward_leg marks t ds f g p.leg g-is r.shaped)
+      pub path_ends : g ≡ f → PathRaised marks t ds src cut e v w m n (Some (record { legs = legs; cost = c }))
+      path_ends q = ends (λ a u o. absurd (onward_none marks t ds f g p.leg g-is q a u o))
 
-        pub path_ends : g ≡ f → PathRaised marks t ds src cut e v w m n (record { legs = legs; cost = c })
-        path_ends q = ends (λ a u o. absurd (onward_none marks t ds f g p.leg g-is q a u o))
+      module _ (ready : ℕ) (other : g ≡ f → ⊥) (ready-is : ready ≡ get_or n (176 + f) 0 + stop_in t f) where
+        pub path_still : ready ≤ get_or n g 0 → PathRaised marks t ds src cut e v w m n (Some (record { legs = legs; cost = c }))
+        path_still l = ends (onward_still marks t ds f g p.leg g-is n ready other ready-is l)
 
-        module _ (ready : ℕ) (other : g ≡ f → ⊥) (ready-is : ready ≡ get_or n (176 + f) 0 + stop_in t f) where
-          pub path_still : ready ≤ get_or n g 0 → PathRaised marks t ds src cut e v w m n (record { legs = legs; cost = c })
-          path_still l = ends (onward_still marks t ds f g p.leg g-is n ready other ready-is l)
+        asks : (y : List ℕ) → Solves (leg_graph marks t ds) src n y → Asks src g ready 0 n y
+        asks = onward_asks marks t ds f g p.leg g-is n ready other ready-is src
 
-          pub path_next : Shaped marks t ds → (n' : List ℕ) (r : ℕ) → LegRaised marks t ds src cut g ready 0 n n' r →
-              AlongPath marks t ds src cut e v w m n' r g (legs + 1)
-          path_next s n' r l =
-              record {
-                stepped = λ z. rw add-one (on z);
-                count = λ z. omega (arith, (l.stepped z).less, p.count alive);
-                leg = onward_leg marks t ds f g p.leg g-is s;
-                next_is = rw add-one (ap (λ (x : ℕ). next_in t x) place ∙ next-after t legs e);
-                none = λ q. stepped_none marks t ds _ src cut e v w m n c (p.stepped alive) g ready 0 asks n' (l.none q);
-              }
-            where
-              place : g ≡ leg_after t legs e
-              place = g-is ∙ p.next_is
+        -- the next leg has no such minutes
+        pub path_dead : (n' : List ℕ) → LegRaised marks t ds src cut g ready 0 n n' None → PathRaised marks t ds src cut e v w m n' None
+        path_dead n' l =
+            record {
+              stepped = λ r q. absurd (cc);
+              none = λ _. stepped_none marks t ds _ src cut e v w m n c p.stepped g ready 0 asks n' (l.none refl);
+            }
 
-              asks : (y : List ℕ) → Solves (leg_graph marks t ds) src n y → Asks src g ready 0 n y
-              asks = onward_asks marks t ds f g p.leg g-is n ready other ready-is src
+        -- it is later too
+        pub path_next : Shaped marks t ds → (n' : List ℕ) (r : ℕ) → LegRaised marks t ds src cut g ready 0 n n' (Some r) →
+            AlongPath marks t ds src cut e v w m n' r g (legs + 1)
+        path_next s n' r l =
+            record {
+              stepped = rw add-one on;
+              count = omega (arith, later.less, p.count);
+              leg = onward_leg marks t ds f g p.leg g-is s;
+              next_is = rw add-one (ap (λ (x : ℕ). next_in t x) place ∙ next-after t legs e);
+            }
+          where
+            place : g ≡ leg_after t legs e
+            place = g-is ∙ p.next_is
 
-              on : Alive r → Stepped marks t ds (LeavesPath t g (suc legs) e) src cut e v w m n' r
-              on z =
-                  stepped_onto marks t ds _ src cut e v w m n c (p.stepped alive) g ready 0 asks (Outward g) (LeavesPath t g (suc legs) e) n' r (l.stepped z)
-                  (λ a u x. ⊎_elim
-                  (λ o. ⊎_elim
-                  (λ k. inl k)
-                  (λ k. inr (outward_ahead t legs e g place a k))
-                  (onward_stepped marks t ds f g p.leg g-is n ready other ready-is (Outward g) src cut n' r (l.stepped z) a u o))
-                  (λ o. inr (inr (aside_more t legs e a o)))
-                  x)
-                  (outward_ahead t legs e g place)
-                  (λ a x. ⊎_elim (λ k. inl (inr k)) (λ k. inr k) (ahead-parts t legs e g place a x))
+            later : Stepped marks t ds (Outward g) src cut g ready 0 n n' r
+            later = l.stepped (λ z. cc)
+
+            on : Stepped marks t ds (LeavesPath t g (suc legs) e) src cut e v w m n' r
+            on =
+                stepped_onto marks t ds _ src cut e v w m n c p.stepped g ready 0 asks (Outward g) (LeavesPath t g (suc legs) e) n' r later
+                (λ a u x. ⊎_elim
+                (λ o. ⊎_elim
+                (λ k. inl k)
+                (λ k. inr (outward_ahead t legs e g place a k))
+                (onward_stepped marks t ds f g p.leg g-is n ready other ready-is (Outward g) src cut n' r later a u o))
+                (λ o. inr (inr (aside_more t legs e a o)))
+                x)
+                (outward_ahead t legs e g place)
+                (λ a x. ⊎_elim (λ k. inl (inr k)) (λ k. inr k) (ahead-parts t legs e g place a x))
 
 -- ---- the measure of the loop
 
 -- one more than the slack, and 0 where there are no such minutes
-unfoldable pub left : ℕ → List ℕ → ℕ
-left c n = cond (eqb c 4294967295) 0 (1 + slack n)
+unfoldable pub left : Option ℕ → List ℕ → ℕ
+left None n = 0
+left (Some c) n = 1 + slack n
 
-left_alive : (c : ℕ) (n : List ℕ) → Alive c → left c n ≡ 1 + slack n
+pub left_falls : (marks t ds : List ℕ) (src cut e v w : ℕ) (m n : List ℕ) (c r : Option ℕ) → Alive c → LegRaised marks t ds src cut e v w m n r → left r n < left c m
 unfolding left
-left_alive c n a = rw (ne_eqb c 4294967295 a) refl
-
-left_dead : (c : ℕ) (n : List ℕ) → c ≡ 4294967295 → left c n ≡ 0
-unfolding left
-left_dead c n q = rw (eq-eqb c 4294967295 q) refl
-
-pub left_falls : (marks t ds : List ℕ) (src cut e v w : ℕ) (m n : List ℕ) (c r : ℕ) → Alive c → LegRaised marks t ds src cut e v w m n r → left r n < left c m
-left_falls marks t ds src cut e v w m n c r a l =
-    elim (ℕ_discrete r 4294967295) [
-      | yes q ↦ omega (arith, left_dead r n q, left_alive c m a)
-      | no q ↦ omega (arith, left_alive r n q, left_alive c m a, (l.stepped q).less)
-    ]
+left_falls marks t ds src cut e v w m n None r a l = absurd (a refl)
+left_falls marks t ds src cut e v w m n (Some c) None a l = omega arith
+left_falls marks t ds src cut e v w m n (Some c) (Some r) a l = omega (arith, (l.stepped (λ z. cc)).less)

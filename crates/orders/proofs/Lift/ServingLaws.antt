@@ -1,5 +1,5 @@
 -- Lifting a leg to the minutes that arcs ask for which end at it: those arcs are kept then, and every solution has those minutes too.
-use Rattle.std.specs.Prelude.{ℕ, ◌+◌, ◌≤◌, ◌<◌, ◌≡◌, refl, ◌⊎◌, true, false, List}
+use Rattle.std.specs.Prelude.{ℕ, ◌+◌, ◌≤◌, ◌<◌, ◌≡◌, refl, ◌⊎◌, true, false, List, Option, None}
 use Rattle.std.proofs.Common.{sym, ◌∙◌, true≢false, arith}
 use Rattle.std.proofs.Math.Path.{ap, subst⁻¹}
 use Rattle.std.proofs.Math.Logic.{inl, inr, ⊎_elim}
@@ -10,7 +10,7 @@ use Rattle.orders.specs.Raise.Raising.{Graph, Kept, KeepsAll, Nothing, Solves, C
 use Rattle.orders.specs.Raise.RaisingLaws.{le_or_lt, done, solves_on, raised_then, raised_skip, none_then}
 use Rattle.orders.specs.Graph.LegGraph.{LegArc, runs, slow, next, depart, arrive, after, gone, beside, doubled, gap_in, station_of, leaving, comes_on, UsedLeg, UsedArc, leg_graph, InLimits}
 use Rattle.orders.specs.Raise.LegTimes.{GoesBehind}
-use Rattle.orders.specs.Lift.Lifting.{Alive, Asks, Lifted, ToNext, Going, NoWay, Stepped, Follows, Comes}
+use Rattle.orders.specs.Lift.Lifting.{Alive, told_cost, Asks, Lifted, ToNext, Going, NoWay, Stepped, Follows, Comes}
 use Rattle.orders.specs.Lift.LiftingLaws.{going_skip}
 
 -- a fact of leg e and train j is one of whatever has their numbers
@@ -70,7 +70,7 @@ module _ (marks t ds : List ℕ) where
         (λ k. l.going.raised.grown.rose a u k)
         (le_or_lt (get_or n' (G.from a) 0) (get_or n (G.from a) 0))
 
-    pub serves_lifted : (src cut : ℕ) (n' : List ℕ) (r : ℕ) → Lifted marks t ds src cut f v w n n' r → Alive r →
+    pub serves_lifted : (src cut : ℕ) (n' : List ℕ) (r : Option ℕ) → Lifted marks t ds src cut f v w n n' r → Alive r →
         (a : LegArc) → UsedArc marks t ds a → Here a → Kept G n' a
     serves_lifted src cut n' r l z a u x =
         ⊎_elim
@@ -85,15 +85,15 @@ module _ (marks t ds : List ℕ) where
       serves_still T' part p q =
           going_skip marks t ds src cut H D T m n c g T' (λ a u x. ⊎_elim (λ k. inl (serves_there p q a u k)) (λ k. inr k) (part a u x))
 
-      module _ (clear : (y : List ℕ) → Solves G src m y → H y → Clear G src Here n y) (n' : List ℕ) (r : ℕ) (l : Lifted marks t ds src cut f v w n n' r) where
+      module _ (clear : (y : List ℕ) → Solves G src m y → H y → Clear G src Here n y) (n' : List ℕ) (r : Option ℕ) (l : Lifted marks t ds src cut f v w n n' r) where
         asks : (y : List ℕ) → Solves G src m y → H y → Asks src f v w n y
         asks y s k = serves_asks src y (solves_on G src H D T m n g.raised y s k) (clear y s k)
 
-        pub serves_dead : r ≡ 4294967295 → NoWay marks t ds src cut H m n'
+        pub serves_dead : r ≡ None → NoWay marks t ds src cut H m n'
         serves_dead q = none_then G src H D T m n g.raised (InLimits t ds) (cost_in t) cut (Asks src f v w n) n' (l.none q) asks
 
         pub serves_raised : (T' : LegArc → Type 0) → ((a : LegArc) → UsedArc marks t ds a → T a → Here a ⊎ T' a) → Alive r →
-            Going marks t ds src cut H D T' m n' r
+            Going marks t ds src cut H D T' m n' (told_cost r)
         serves_raised T' part z =
             record {
               raised = raised_skip G src H D T m n'

@@ -1,13 +1,13 @@
 -- Laws of the choice that a train goes after another on a segment. Where the gap counts at departure and at arrival it has two arcs, each raised for by itself
 -- with the event it starts from as the source: first the departure, and then the arrival. Where the gap counts once, the first is all there is to do.
-use Rattle.std.specs.Prelude.{ℕ, ◌+◌, ◌≤◌, ◌<◌, ◌≡◌, refl, ◌⊎◌, Bool, true, false, cond, List, get_or}
+use Rattle.std.specs.Prelude.{ℕ, ◌+◌, ◌≤◌, ◌<◌, ◌≡◌, refl, ◌⊎◌, Bool, true, false, cond, List, get_or, Option, Some, None}
 use Rattle.std.proofs.Common.{sym, ◌∙◌, ap, ap₂, subst, inl, inr, ⊎_elim, true≢false, arith}
 use Rattle.std.proofs.Math.Path.{subst⁻¹}
 use Rattle.orders.specs.Plan.Bits.{in_mask}
 use Rattle.orders.specs.Raise.Raising.{Graph, Kept}
 use Rattle.orders.specs.Graph.LegGraph.{LegArc, runs, slow, next, depart, arrive, after, gone, beside, doubled, gap_in, UsedLeg, UsedArc, leg_graph}
 use Rattle.orders.specs.Raise.LegTimes.{GoesBehind, source_of}
-use Rattle.orders.specs.Lift.Lifting.{Alive, Lifted, Choosing, Follows, Chose}
+use Rattle.orders.specs.Lift.Lifting.{Alive, told_cost, Lifted, Choosing, Follows, Chose}
 use Rattle.orders.proofs.Lift.ServingLaws.{Calls, Serves, serves_departure, serves_arrival, at_pair}
 use Rattle.orders.proofs.Lift.ChosenArcsLaws.{Forced, chose_all, chose_then, chose_dead, arc_still, arc_dead, arc_forces, arc_forced, arc_next, one_lifted}
 
@@ -101,8 +101,8 @@ module _ (marks t ds : List ℕ) where
             choosing = record { ready = c.ready; others = λ a u. ⊎_elim (λ q. inl q) (λ q. inr (q, refl)) (c.others a u) };
           }
 
-      module _ (n : List ℕ) (r : ℕ) (l : Lifted marks t ds src cut f v 0 m n r) where
-        pub departure_dead : r ≡ 4294967295 → Chose marks t ds cut m n 4294967295
+      module _ (n : List ℕ) (r : Option ℕ) (l : Lifted marks t ds src cut f v 0 m n r) where
+        pub departure_dead : r ≡ None → Chose marks t ds cut m n None
         departure_dead z =
             chose_dead marks t ds m n cut
             (arc_dead marks t ds (Follows e j) (λ a. a ≡ arrive e j) first.arc first.part m e cost cut p f v 0 serves src first.starts
@@ -110,7 +110,7 @@ module _ (marks t ds : List ℕ) where
             (arc_forces marks t ds (Follows e j) (λ a. a ≡ arrive e j) first.arc first.part m e cost cut p f v 0 serves src first.starts
             first.later n r l)
 
-        pub departure_lifted : Alive r → Halfway e j cut m n r
+        pub departure_lifted : Alive r → Halfway e j cut m n (told_cost r)
         departure_lifted z =
             record {
               forced = arc_forced marks t ds (Follows e j) (λ a. a ≡ arrive e j) first.arc first.part m e cost cut p f v 0 serves src
@@ -129,9 +129,9 @@ module _ (marks t ds : List ℕ) where
           (λ z. absurd (true≢false (sym u.3 ∙ z.0)))
           behind
 
-      pub arrival_still : w ≤ get_or n (176 + f) 0 → Chose marks t ds cut m n c
+      pub arrival_still : w ≤ get_or n (176 + f) 0 → Chose marks t ds cut m n (Some c)
       arrival_still l =
-          chose_then marks t ds m n n cut c h.forced
+          chose_then marks t ds m n n cut (Some c) h.forced
           (chose_all marks t ds n e c cut
           (record { ready = h.choosing.ready; others = λ a u. ⊎_elim (λ q. inl q) (λ q. inl (kept a u q.0 q.1)) (h.choosing.others a u) }))
         where
@@ -142,7 +142,7 @@ module _ (marks t ds : List ℕ) where
               (subst (λ (b : LegArc). get_or n (G.from b) 0 ≡ get_or m (G.from b) 0) q s))
 
       -- it asks for w as before: were it to start later, it would be kept, and n had w already
-      pub arrival_lifted : get_or n (176 + f) 0 < w → (n' : List ℕ) (r : ℕ) → Lifted marks t ds (176 + e) cut f 0 w n n' r → Chose marks t ds cut m n' r
+      pub arrival_lifted : get_or n (176 + f) 0 < w → (n' : List ℕ) (r : Option ℕ) → Lifted marks t ds (176 + e) cut f 0 w n n' r → Chose marks t ds cut m n' r
       arrival_lifted l n' r k = ⊎_elim (λ z. by z.0 z.2) (λ z. absurd (omega (arith, z.2))) behind
         where
           raise : (u : UsedArc marks t ds (arrive e j)) → w ≡ get_or n (176 + e) 0 + gap_in t ds e j → Chose marks t ds cut m n' r

@@ -1,5 +1,5 @@
 -- Laws of a first look at a choice: minutes that no solution can be before, along the legs of the train that has to wait, and what they cost at least.
-use Rattle.std.specs.Prelude.{ℕ, zero, suc, ◌+◌, ◌%◌, ◌≤◌, ◌<◌, ◌≡◌, ◌⊎◌, Bool, true, List, set}
+use Rattle.std.specs.Prelude.{ℕ, zero, suc, ◌+◌, ◌%◌, ◌≤◌, ◌<◌, ◌≡◌, Bool, true, List, set}
 use Rattle.std.proofs.Math.Path.{refl, ap, subst⁻¹}
 use Rattle.std.proofs.Common.{sym, ◌∙◌, subst, inl, inr, get_or-set_same}
 use Rattle.std.proofs.Math.Logic.{⊎_elim}

@@ -1,5 +1,5 @@
 -- Adding a choice to a plan: which arcs are to be raised for, and what the answer of raising says of the line.
-use Rattle.std.specs.Prelude.{ℕ, ◌/◌, ◌%◌, ◌≤◌, ◌<◌, ◌≡◌, refl, ◌⊎◌, true, List, get_or}
+use Rattle.std.specs.Prelude.{ℕ, ◌/◌, ◌%◌, ◌≤◌, ◌≡◌, refl, ◌⊎◌, true, List, get_or}
 use Rattle.std.proofs.Math.Path.{sym}
 use Rattle.std.proofs.Common.{◌∙◌, subst, inl, inr, ⊎_elim, arith}
 use Rattle.line.specs.declared.Line.{Line}
@@ -81,10 +81,10 @@ module _ (l : Line) (w : Runnable l) (r : Arrays l) where
     first-leg (at_station s a b) o h = leaves_leg l w r s a b o h
 
     -- what raising for the choice asks for
-    pub choosing : (cost cut : ℕ) → Fit 352 m → EachTrain l (NotLate l m) → cost ≡ weighted_delay l m → cost ≤ cut → cut < 4294967295 →
+    pub choosing : (cost cut : ℕ) → Fit 352 m → EachTrain l (NotLate l m) → cost ≡ weighted_delay l m → cost ≤ cut →
         Choosing (ArcOf l c) m (also c q) t ds (first_leg l c) cost cut
     unfolding LegsKept
-    choosing cost cut z late is low most = record {
+    choosing cost cut z late is low = record {
       ready = record {
         shaped = shaped l w r (also c q) tidy;
         size = z.size;
@@ -94,7 +94,6 @@ module _ (l : Line) (w : Runnable l) (r : Arrays l) where
         leg = first-leg c f.0 f.1;
         cost_is = is ∙ sym (cost_is l w r m);
         cost_in_lem = low;
-        cut_in = most;
       };
       others = others;
     }

@@ -1,5 +1,5 @@
 -- Laws of going through the marks of a leg train by train: the arcs that leave the leg, from train k on.
-use Rattle.std.specs.Prelude.{ℕ, ◌+◌, ◌≤◌, ◌<◌, ◌≡◌, ◌⊎◌, true, List, get_or}
+use Rattle.std.specs.Prelude.{ℕ, ◌+◌, ◌≤◌, ◌<◌, ◌≡◌, ◌⊎◌, true, List, get_or, Option, Some, None}
 use Rattle.std.proofs.Common.{sym, ◌∙◌, ap, subst, inl, inr, ⊎_elim, true≢false, arith}
 use Rattle.std.proofs.Math.Path.{subst⁻¹}
 use Rattle.orders.specs.Plan.Bits.{in_mask, NextBit}
@@ -7,7 +7,7 @@ use Rattle.orders.specs.Plan.BitsLaws.{mask_none}
 use Rattle.orders.specs.Raise.Raising.{Kept, Nothing, Solves, Clear}
 use Rattle.orders.specs.Raise.RaisingLaws.{le_or_lt}
 use Rattle.orders.specs.Graph.LegGraph.{LegArc, runs, slow, next, depart, arrive, after, gone, station_of, leaving, comes_on, UsedLeg, UsedArc, leg_graph}
-use Rattle.orders.specs.Lift.Lifting.{Alive, Ready, Lifted, Followed, After, Gone, GoingFor, Follows, Comes}
+use Rattle.orders.specs.Lift.Lifting.{Alive, told_cost, Ready, Lifted, Followed, After, Gone, GoingFor, Follows, Comes}
 use Rattle.orders.specs.Lift.LiftingLaws.{going_start, going_as, going_skip, going_clear, followed, followed_dead}
 use Rattle.orders.proofs.Lift.ServingLaws.{Serves, serves_dead, serves_raised, serves_still}
 
@@ -121,9 +121,9 @@ module _ (marks t ds : List ℕ) where
 
     -- no train is marked
     pub row_none : (src : ℕ) (m : List ℕ) (e cost cut s : ℕ) → Ready m marks t ds e cost cut → s ≡ get_or marks row 0 → s ≡ 0 →
-        Followed D marks t ds src cut m m cost
+        Followed D marks t ds src cut m m (Some cost)
     row_none src m e cost cut s r q z =
-        followed marks t ds D src cut m m cost r.cut_in
+        followed marks t ds D src cut m m cost
         (going_skip marks t ds src cut _ D D m m cost (going_start marks t ds src _ D m e cost cut r) (Nothing (leg_graph marks t ds))
         (λ a u d. absurd (true≢false (sym (w.marked a u d) ∙ mask_none (get_or marks row 0) (train_of a) (sym q ∙ z)))))
 
@@ -155,21 +155,21 @@ module _ (marks t ds : List ℕ) where
               (serves_still marks t ds (Here k) n f v x h src cut _ D (FromTrain D k) m c g (FromTrain D (k + 1)) (row_part k) p q)
               n' c'
 
-          pub row_raised : (n'' : List ℕ) (r : ℕ) → Lifted marks t ds src cut f v x n n'' r → Alive r → n' ≡ n'' → c' ≡ r →
+          pub row_raised : (n'' : List ℕ) (r : Option ℕ) → Lifted marks t ds src cut f v x n n'' r → Alive r → n' ≡ n'' → c' ≡ told_cost r →
               GoingFor marks t ds src cut D (FromTrain D (k + 1)) m n' c'
           row_raised n'' r l z =
-              going_as marks t ds src cut _ D (FromTrain D (k + 1)) m n'' r
+              going_as marks t ds src cut _ D (FromTrain D (k + 1)) m n'' (told_cost r)
               (serves_raised marks t ds (Here k) n f v x h src cut _ D (FromTrain D k) m c g clear n'' r l (FromTrain D (k + 1)) (row_part k) z)
               n' c'
 
-      pub row_dead : (f v x : ℕ) → Serves marks t ds (Here k) n f v x → (n' : List ℕ) (r : ℕ) → Lifted marks t ds src cut f v x n n' r → r ≡ 4294967295 →
-          Followed D marks t ds src cut m n' 4294967295
+      pub row_dead : (f v x : ℕ) → Serves marks t ds (Here k) n f v x → (n' : List ℕ) (r : Option ℕ) → Lifted marks t ds src cut f v x n n' r → r ≡ None →
+          Followed D marks t ds src cut m n' None
       row_dead f v x h n' r l q =
           followed_dead marks t ds D src cut m n' (serves_dead marks t ds (Here k) n f v x h src cut _ D (FromTrain D k) m c g clear n' r l q)
 
-      pub row-end : 12 ≤ k → cut < 4294967295 → Followed D marks t ds src cut m n c
-      row-end l i =
-          followed marks t ds D src cut m n c i
+      pub row-end : 12 ≤ k → Followed D marks t ds src cut m n (Some c)
+      row-end l =
+          followed marks t ds D src cut m n c
           (going_skip marks t ds src cut _ D (FromTrain D k) m n c g (Nothing (leg_graph marks t ds)) (λ a u d. absurd (omega (arith, w.few a u d.0))))
 
   -- ---- the leg of a train that is marked

@@ -1,12 +1,12 @@
 -- A plan with what its least minutes cost, which is carried along from plan to plan and not worked out anew (document 02, K3).
-use Rattle.std.specs.Prelude.{ℕ, ◌≡◌, List, replicate}
+use Rattle.std.specs.Prelude.{ℕ, ◌≡◌, List, replicate, Option}
 use Rattle.line.specs.declared.Line.{Line}
 use Rattle.rules.specs.Statement.Delay.{weighted_delay}
 use Rattle.orders.specs.LeastMinutes.Least.{Least, minutes, none, IsLeast}
 use Rattle.orders.specs.LeastMinutes.PlanArcs.{least}
 use Rattle.orders.specs.Plan.Marks.{Plan}
 use Rattle.orders.specs.Plan.Plans.{Keeps}
-use Rattle.orders.specs.Lift.Lifting.{Alive}
+use Rattle.orders.specs.Lift.Lifting.{Alive, told_cost}
 
 -- all minutes 0, from which on the least are sought
 unfoldable pub start : List ℕ
@@ -28,6 +28,6 @@ unfoldable pub plan_cost : Line → Plan → ℕ
 plan_cost l p = cost_of l (least l p start)
 
 -- an answer that tells just this, with the least minutes beside it where there are any
-pub record TellsCost (l : Line) (p : Plan) (n : List ℕ) (r : ℕ) : Type 0 where
-  pub cost_is : r ≡ plan_cost l p
+pub record TellsCost (l : Line) (p : Plan) (n : List ℕ) (r : Option ℕ) : Type 0 where
+  pub cost_is : told_cost r ≡ plan_cost l p
   pub least : Alive r → IsLeast 352 (Keeps l p) start n

@@ -1,8 +1,7 @@
 -- Laws of what is carried along with a plan: it is what the plan costs, and a lower bound of what any minutes that keep the plan cost.
-use Rattle.std.specs.Prelude.{ℕ, ◌-◌, ◌≤◌, ◌≡◌, List, get_or}
+use Rattle.std.specs.Prelude.{ℕ, ◌-◌, ◌≤◌, ◌≡◌, List, get_or, Option, Some, None}
 use Rattle.std.proofs.Math.Path.{refl, sym, ap}
 use Rattle.std.proofs.Common.{◌∙◌, arith}
-use Rattle.std.proofs.Math.Decide.{ℕ_discrete}
 use Rattle.std.proofs.Math.ListN.{length-replicate}
 use Rattle.line.specs.declared.Line.{Line}
 use Rattle.line.specs.Within.{Arrays}
@@ -20,7 +19,7 @@ use Rattle.orders.specs.Plan.Marks.{Plan, also}
 use Rattle.orders.specs.Plan.MarksLaws.{zeros}
 use Rattle.orders.specs.Plan.Plans.{Keeps}
 use Rattle.orders.specs.Plan.PlansLaws.{keeps_rest}
-use Rattle.orders.specs.Lift.Lifting.{Alive}
+use Rattle.orders.specs.Lift.Lifting.{Alive, told_cost}
 use Rattle.orders.specs.LeastMinutes.Carried.{start, Carried, cost_of, plan_cost, TellsCost}
 
 -- ---- where least minutes are sought from
@@ -74,25 +73,29 @@ module _ (l : Line) (w : Runnable l) (a : Arrays l) (p : Plan) where
       go none e = refl
 
   -- an answer that carries a plan's cost, or else is that there are no least minutes, tells the plan's cost
-  pub tells_cost : (n : List ℕ) (r : ℕ) → (Alive r → Carried l p n r) → (r ≡ 4294967295 → NoneKeeps 352 (Keeps l p) start) → TellsCost l p n r
+  pub tells_cost : (n : List ℕ) (r : Option ℕ) → (Alive r → Carried l p n (told_cost r)) → (r ≡ None → NoneKeeps 352 (Keeps l p) start) → TellsCost l p n r
   tells_cost n r some nothing =
       record {
-        cost_is = elim (ℕ_discrete r 4294967295) [ yes e ↦ e ∙ none_cost (nothing e) | no e ↦ carried_cost n r (some e) ];
+        cost_is = told r some nothing;
         least = λ v. (some v).least;
       }
+    where
+      told : (r : Option ℕ) → (Alive r → Carried l p n (told_cost r)) → (r ≡ None → NoneKeeps 352 (Keeps l p) start) → told_cost r ≡ plan_cost l p
+      told (Some c) some nothing = carried_cost n c (some (λ q. cc))
+      told None some nothing = none_cost (nothing refl)
 
   -- and it says exactly whether there are least minutes up to 2,879
-  module _ (n : List ℕ) (r : ℕ) (h : TellsCost l p n r) where
-    pub told_carried : Alive r → Carried l p n r
+  module _ (n : List ℕ) (r : Option ℕ) (h : TellsCost l p n r) where
+    pub told_carried : Alive r → Carried l p n (told_cost r)
     told_carried v =
         record { least = h.least v; cost_is = h.cost_is ∙ sym (carried_cost n (weighted_delay l n) (record { least = h.least v; cost_is = refl })) }
 
-    pub told_none : r ≡ 4294967295 → NoneKeeps 352 (Keeps l p) start
+    pub told_none : r ≡ None → NoneKeeps 352 (Keeps l p) start
     unfolding plan_cost
     told_none e = go (least l p start) refl
       where
         go : (x : Least) → least l p start ≡ x → NoneKeeps 352 (Keeps l p) start
         go (minutes n') q =
-            let told : weighted_delay l n' ≡ 4294967295 = sym (ap (cost_of l) q) ∙ sym h.cost_is ∙ e in
+            let told : weighted_delay l n' ≡ 4294967295 = sym (ap (cost_of l) q) ∙ sym h.cost_is ∙ ap told_cost e in
             absurd (omega (arith, delay-most l w n' (least_is l w a p start n' start_fit q).fit, told))
         go none q = least_none l w a p start start_fit q

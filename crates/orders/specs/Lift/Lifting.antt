@@ -1,12 +1,18 @@
--- The contracts of raising a leg and all that follows from it; 4,294,967,295 answers that there are no such minutes.
-use Rattle.std.specs.Prelude.{ℕ, ◌+◌, ◌≤◌, ◌<◌, ◌≡◌, ◌⊎◌, List, length, get_or}
+-- The contracts of raising a leg and all that follows from it; None answers that there are no such minutes.
+use Rattle.std.specs.Prelude.{ℕ, ◌+◌, ◌≤◌, ◌<◌, ◌≡◌, ◌⊎◌, List, length, get_or, Option, Some, None}
 use Rattle.orders.specs.LeastMinutes.NoLater.{◌⊑◌, WithinDays, slack}
 use Rattle.orders.specs.LineTables.Tables.{run_in, cost_in}
 use Rattle.orders.specs.Raise.Raising.{Kept, KeepsAll, Nothing, Reach, Solves, Clear, Raised, NoneFor}
 use Rattle.orders.specs.Graph.LegGraph.{LegArc, runs, slow, next, depart, arrive, after, gone, UsedLeg, UsedArc, leg_graph, InLimits, Shaped}
 
-abbrev pub Alive : ℕ → Type 0
-Alive r = r ≡ 4294967295 → ⊥
+-- there are such minutes
+abbrev pub Alive : Option ℕ → Type 0
+Alive r = r ≡ None → ⊥
+
+-- what they cost, and 4,294,967,295 where there are none
+abbrev pub told_cost : Option ℕ → ℕ
+told_cost (Some c) = c
+told_cost None = 4294967295
 
 -- ---- what raising starts from
 
@@ -24,7 +30,6 @@ pub record Ready (m marks t ds : List ℕ) (e cost cut : ℕ) : Type 0 where
   pub leg : UsedLeg ds e
   pub cost_is : cost ≡ cost_in t m
   pub cost_in_lem : cost ≤ cut
-  pub cut_in : cut < 4294967295
 
 -- ---- what it ends with
 
@@ -38,12 +43,12 @@ pub record Settled (t ds : List ℕ) (cut : ℕ) (n : List ℕ) (r : ℕ) : Type
 abbrev pub Asks : ℕ → ℕ → ℕ → ℕ → List ℕ → List ℕ → Type 0
 Asks src e v w m y = ((v ≤ get_or m e 0) ⊎ Reach src m y e v) × ((w ≤ get_or m (176 + e) 0) ⊎ Reach src m y (176 + e) w)
 
-pub record Lifted (marks t ds : List ℕ) (src cut e v w : ℕ) (m n : List ℕ) (r : ℕ) : Type 0 where
+pub record Lifted (marks t ds : List ℕ) (src cut e v w : ℕ) (m n : List ℕ) (r : Option ℕ) : Type 0 where
   pub raised : Alive r → Raised (leg_graph marks t ds) src (Asks src e v w m) (Nothing (leg_graph marks t ds)) (Nothing (leg_graph marks t ds)) m n
   pub there : Alive r → (v ≤ get_or n e 0) × (w ≤ get_or n (176 + e) 0)
-  pub settled : Alive r → Settled t ds cut n r
+  pub settled : Alive r → Settled t ds cut n (told_cost r)
   pub legs : Alive r → LegsKept marks t ds n
-  pub none : r ≡ 4294967295 → NoneFor (leg_graph marks t ds) (InLimits t ds) (cost_in t) cut src (Asks src e v w m) m n
+  pub none : r ≡ None → NoneFor (leg_graph marks t ds) (InLimits t ds) (cost_in t) cut src (Asks src e v w m) m n
 
 -- the arc to the next leg of the train of leg e
 abbrev pub ToNext : ℕ → LegArc → Type 0
@@ -76,11 +81,11 @@ Gone e (after x j) = ⊥
 Gone e (gone x j) = x ≡ e
 
 -- every arc of `Due` is kept, and all that follows; none of them has to be left for later
-pub record Followed (Due : LegArc → Type 0) (marks t ds : List ℕ) (src cut : ℕ) (m n : List ℕ) (r : ℕ) : Type 0 where
+pub record Followed (Due : LegArc → Type 0) (marks t ds : List ℕ) (src cut : ℕ) (m n : List ℕ) (r : Option ℕ) : Type 0 where
   pub raised : Alive r → Raised (leg_graph marks t ds) src (Clear (leg_graph marks t ds) src Due m) Due (Nothing (leg_graph marks t ds)) m n
-  pub settled : Alive r → Settled t ds cut n r
+  pub settled : Alive r → Settled t ds cut n (told_cost r)
   pub legs : Alive r → LegsKept marks t ds n
-  pub none : r ≡ 4294967295 → NoneFor (leg_graph marks t ds) (InLimits t ds) (cost_in t) cut src (Clear (leg_graph marks t ds) src Due m) m n
+  pub none : r ≡ None → NoneFor (leg_graph marks t ds) (InLimits t ds) (cost_in t) cut src (Clear (leg_graph marks t ds) src Due m) m n
 
 -- ---- raising under way
 
@@ -151,7 +156,7 @@ abbrev pub Forces : List ℕ → List ℕ → List ℕ → List ℕ → List ℕ
 Forces marks t ds m n = (y : List ℕ) → KeepsAll (leg_graph marks t ds) y → m ⊑ y → n ⊑ y
 
 -- the answer r, with the minutes raised from m to n; these are forced whatever the answer is, so also those that a dead one leaves
-pub record Chose (marks t ds : List ℕ) (cut : ℕ) (m n : List ℕ) (r : ℕ) : Type 0 where
-  pub alive : Alive r → LeastChosen marks t ds cut m n r
-  pub dead : r ≡ 4294967295 → NoneChosen marks t ds cut m
+pub record Chose (marks t ds : List ℕ) (cut : ℕ) (m n : List ℕ) (r : Option ℕ) : Type 0 where
+  pub alive : Alive r → LeastChosen marks t ds cut m n (told_cost r)
+  pub dead : r ≡ None → NoneChosen marks t ds cut m
   pub forces : Forces marks t ds m n

@@ -1,6 +1,6 @@
 -- Laws of raising legs: minutes under way with their cost, what a call in the cycle requires, and calls one after the other.
-use Rattle.std.specs.Prelude.{ℕ, ◌+◌, ◌≤◌, ◌<◌, ◌≡◌, refl, ◌⊎◌, List}
-use Rattle.std.proofs.Common.{◌∙◌, inl, ⊎_elim, arith}
+use Rattle.std.specs.Prelude.{ℕ, ◌+◌, ◌≤◌, ◌≡◌, refl, ◌⊎◌, List, Option, Some, None}
+use Rattle.std.proofs.Common.{◌∙◌, inl, inr, ⊎_elim, arith}
 use Rattle.std.proofs.Math.Path.{subst⁻¹}
 use Rattle.orders.specs.LeastMinutes.NoLater.{slack}
 use Rattle.orders.specs.LeastMinutes.NoLaterLaws.{slack_le}
@@ -8,7 +8,15 @@ use Rattle.orders.specs.LineTables.Tables.{cost_in}
 use Rattle.orders.specs.Raise.Raising.{Kept, Nothing, Solves, Clear}
 use Rattle.orders.specs.Raise.RaisingLaws.{raised_start, solves_on, clear_on, raised_onto, raised_then, raised_skip, none_then}
 use Rattle.orders.specs.Graph.LegGraph.{LegArc, UsedLeg, UsedArc, leg_graph, InLimits}
-use Rattle.orders.specs.Lift.Lifting.{Alive, Ready, Asks, Lifted, Followed, Going, GoingFor, NoWay, Stepped}
+use Rattle.orders.specs.Lift.Lifting.{Alive, told_cost, Ready, Asks, Lifted, Followed, Going, GoingFor, NoWay, Stepped}
+
+-- an answer with a cost, and any answer
+pub some_alive : {r : Option ℕ} {c : ℕ} → r ≡ Some c → Alive r
+some_alive p = λ q. cc
+
+pub dead_or_alive : (r : Option ℕ) → (r ≡ None) ⊎ Alive r
+dead_or_alive None = inl refl
+dead_or_alive (Some c) = inr (λ q. cc)
 
 module _ (marks t ds : List ℕ) where
   pub ready_leg : (m : List ℕ) (e f cost cut : ℕ) → Ready m marks t ds e cost cut → UsedLeg ds f → Ready m marks t ds f cost cut
@@ -22,12 +30,11 @@ module _ (marks t ds : List ℕ) where
         leg = u;
         cost_is = r.cost_is;
         cost_in_lem = r.cost_in_lem;
-        cut_in = r.cut_in;
       }
 
-  -- ---- an answer that is dead
+  -- ---- an answer without minutes
 
-  pub lifted_dead : (src cut e v w : ℕ) (m n : List ℕ) → NoWay marks t ds src cut (Asks src e v w m) m n → Lifted marks t ds src cut e v w m n 4294967295
+  pub lifted_dead : (src cut e v w : ℕ) (m n : List ℕ) → NoWay marks t ds src cut (Asks src e v w m) m n → Lifted marks t ds src cut e v w m n None
   lifted_dead src cut e v w m n h =
       record {
         raised = λ q. absurd (q refl);
@@ -38,7 +45,7 @@ module _ (marks t ds : List ℕ) where
       }
 
   pub followed_dead : (D : LegArc → Type 0) (src cut : ℕ) (m n : List ℕ) → NoWay marks t ds src cut (Clear (leg_graph marks t ds) src D m) m n →
-      Followed D marks t ds src cut m n 4294967295
+      Followed D marks t ds src cut m n None
   followed_dead D src cut m n h =
       record { raised = λ q. absurd (q refl); settled = λ q. absurd (q refl); legs = λ q. absurd (q refl); none = λ _. h }
 
@@ -69,7 +76,6 @@ module _ (marks t ds : List ℕ) where
           leg = u;
           cost_is = g.settled.cost_is;
           cost_in_lem = g.settled.cost_in_lem;
-          cut_in = r.cut_in;
         }
 
     pub going_slack : slack n ≤ slack m
@@ -81,9 +87,9 @@ module _ (marks t ds : List ℕ) where
     going_skip T' f = record { raised = raised_skip (leg_graph marks t ds) src H D T m n g.raised T' f; settled = g.settled; legs = g.legs }
 
     -- a call follows that does D' of it, none of which has to be left for later
-    module _ (D' : LegArc → Type 0) (n' : List ℕ) (r : ℕ) (f : Followed D' marks t ds src cut n n' r)
+    module _ (D' : LegArc → Type 0) (n' : List ℕ) (r : Option ℕ) (f : Followed D' marks t ds src cut n n' r)
         (clear : (y : List ℕ) → Solves (leg_graph marks t ds) src m y → H y → Clear (leg_graph marks t ds) src D' n y) where
-      pub going_then : (T' : LegArc → Type 0) → ((a : LegArc) → UsedArc marks t ds a → T a → D' a ⊎ T' a) → Alive r → Going marks t ds src cut H D T' m n' r
+      pub going_then : (T' : LegArc → Type 0) → ((a : LegArc) → UsedArc marks t ds a → T a → D' a ⊎ T' a) → Alive r → Going marks t ds src cut H D T' m n' (told_cost r)
       going_then T' part a =
           record {
             raised = raised_then (leg_graph marks t ds) src H D T m n g.raised _ D' T' n' part (f.raised a) clear;
@@ -91,7 +97,7 @@ module _ (marks t ds : List ℕ) where
             legs = f.legs a;
           }
 
-      pub going_dead : r ≡ 4294967295 → NoWay marks t ds src cut H m n'
+      pub going_dead : r ≡ None → NoWay marks t ds src cut H m n'
       going_dead q = none_then (leg_graph marks t ds) src H D T m n g.raised (InLimits t ds) (cost_in t) cut _ n' (f.none q) clear
 
   -- of what was due nothing has to be left for later from here on
@@ -102,14 +108,14 @@ module _ (marks t ds : List ℕ) where
       clear_on (leg_graph marks t ds) src _ D T m n g.raised D' y s h (λ a u d l. h a u (part a d) l)
 
   -- nothing is to do any more
-  pub followed : (D : LegArc → Type 0) (src cut : ℕ) (m n : List ℕ) (c : ℕ) → cut < 4294967295 →
-      GoingFor marks t ds src cut D (Nothing (leg_graph marks t ds)) m n c → Followed D marks t ds src cut m n c
-  followed D src cut m n c l g =
+  pub followed : (D : LegArc → Type 0) (src cut : ℕ) (m n : List ℕ) (c : ℕ) →
+      GoingFor marks t ds src cut D (Nothing (leg_graph marks t ds)) m n c → Followed D marks t ds src cut m n (Some c)
+  followed D src cut m n c g =
       record {
         raised = λ _. g.raised;
         settled = λ _. g.settled;
         legs = λ _. g.legs;
-        none = λ q. absurd (omega (arith, g.settled.cost_in_lem));
+        none = λ q. absurd (cc);
       }
 
   -- ---- after stores: leg e is where it was asked to be, and T is to do
@@ -160,7 +166,7 @@ module _ (marks t ds : List ℕ) where
           (λ y s k. asks y (on y s k))
 
     -- a call follows that does all of it, or finds no way
-    pub stepped_last : (n' : List ℕ) (r : ℕ) → Followed T marks t ds src cut n n' r → Lifted marks t ds src cut e v w m n' r
+    pub stepped_last : (n' : List ℕ) (r : Option ℕ) → Followed T marks t ds src cut n n' r → Lifted marks t ds src cut e v w m n' r
     stepped_last n' r f =
         record {
           raised = λ a. (last a).raised;
@@ -170,5 +176,6 @@ module _ (marks t ds : List ℕ) where
           none = λ q. going_dead src cut _ _ T m n c g.going T n' r f g.clear q;
         }
       where
-        last : Alive r → Going marks t ds src cut (Asks src e v w m) (Nothing (leg_graph marks t ds)) (Nothing (leg_graph marks t ds)) m n' r
+        last : Alive r → Going marks t ds src cut (Asks src e v w m) (Nothing (leg_graph marks t ds)) (Nothing (leg_graph marks t ds)) m n'
+            (told_cost r)
         last a = going_then src cut _ _ T m n c g.going T n' r f g.clear (Nothing (leg_graph marks t ds)) (λ a u x. inl x) a

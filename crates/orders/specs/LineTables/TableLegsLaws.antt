@@ -9,7 +9,6 @@ use Rattle.std.proofs.Math.ListN.{get_or}
 use Rattle.finite.specs.DecideLaws.{by_test, is_true, is_false}
 use Rattle.finite.specs.EachLaws.{each_at, each_take}
 use Rattle.finite.specs.BelowLaws.{table_at, table_size_lem}
-use Rattle.line.specs.declared.Train.{Train}
 use Rattle.line.specs.declared.Line.{Line}
 use Rattle.line.specs.Ranges.{In, run}
 use Rattle.line.specs.Within.{TrainArrays, Arrays}

@@ -1,5 +1,5 @@
 -- Laws of the two stores of `raise_leg`: one leg departs and arrives later. What leaves the leg is to do then; or there is no way.
-use Rattle.std.specs.Prelude.{ℕ, ◌+◌, ◌≤◌, ◌<◌, ◌≡◌, refl, ◌⊎◌, Bool, true, false, List, length, set}
+use Rattle.std.specs.Prelude.{ℕ, ◌+◌, ◌≤◌, ◌<◌, ◌≡◌, refl, ◌⊎◌, Bool, true, false, List, length, set, Some, None}
 use Rattle.std.proofs.Common.{sym, ◌∙◌, ap, inr, arith, length-set, get_or-set_same, get_or-set_other}
 use Rattle.std.proofs.Math.Path.{subst⁻¹}
 use Rattle.std.proofs.Math.Logic.{inl, ⊎_elim}
@@ -94,11 +94,11 @@ module _ (marks t ds : List ℕ) where
 
     -- nothing is stored then: the minutes are those that every solution is at or above
     no_way : ((y : List ℕ) → Solves G src m y → Asks src e v w m y → WithinDays y → InLimits t ds y → cost_in t y ≤ cut → ⊥) →
-        LegRaised marks t ds src cut e v w m m 4294967295
+        LegRaised marks t ds src cut e v w m m None
     unfolding NoneFor
     no_way h = record { stepped = λ q. absurd (q refl); none = λ _ y s k. (s.above, h y s k) }
 
-    pub store_late : (limit : ℕ) → limit ≡ limit_in t e → limit < a → LegRaised marks t ds src cut e v w m m 4294967295
+    pub store_late : (limit : ℕ) → limit ≡ limit_in t e → limit < a → LegRaised marks t ds src cut e v w m m None
     store_late limit q l =
         no_way
         (λ y s h within limits cheap. ⊎_elim
@@ -107,7 +107,7 @@ module _ (marks t ds : List ℕ) where
         (reach_arr y s h))
 
     pub store_back : (b : Bool) → SourceRises src e (get_or m e 0) d (get_or m (176 + e) 0) a b → b ≡ true →
-        LegRaised marks t ds src cut e v w m m 4294967295
+        LegRaised marks t ds src cut e v w m m None
     store_back b k q =
         no_way
         (λ y s h within limits cheap. ⊎_elim
@@ -125,7 +125,7 @@ module _ (marks t ds : List ℕ) where
       cost_here : c ≡ cost_in t m₁
       cost_here = omega (arith, store_cost)
 
-      pub store_dear : cut < c → LegRaised marks t ds src cut e v w m m 4294967295
+      pub store_dear : cut < c → LegRaised marks t ds src cut e v w m m None
       store_dear l =
           no_way
           (λ y s h within limits cheap. omega (arith, cost_here, cost_grows t m₁ y (first_below G src m m₁ y s (store_first y s h))))
@@ -255,5 +255,5 @@ module _ (marks t ds : List ℕ) where
                   rise;
             }
 
-        pub store : (get_or m e 0 < v) ⊎ (get_or m (176 + e) 0 < w) → LegRaised marks t ds src cut e v w m m₁ c
-        store rise = record { stepped = λ _. stepped rise; none = λ q. absurd (omega (arith, r.cut_in)) }
+        pub store : (get_or m e 0 < v) ⊎ (get_or m (176 + e) 0 < w) → LegRaised marks t ds src cut e v w m m₁ (Some c)
+        store rise = record { stepped = λ _. stepped rise; none = λ q. absurd (cc) }

@@ -5,8 +5,8 @@ use Rattle.plan.proofs.read_input.Given as goal
 
 abbrev pub invariant-loop-n : goal.invariant-loop-n
 invariant-loop-n g l =
-    (l.n ≤ l.size) × (l.size ≡ length l.file) × (length l.file ≡ length l.initial.file)
+    (l.n ≤ length l.file) × (length l.file ≡ length l.initial.file)
     × Consumes (g.R.Read.remaining l.initial.from) (g.R.Read.remaining l.from) (take l.n l.file)
 
 abbrev pub decreases-loop-n : goal.decreases-loop-n
-decreases-loop-n g l = l.size - l.n
+decreases-loop-n g l = length l.file - l.n

@@ -1,6 +1,6 @@
 -- The plan without choices as a search begins with it: its least minutes, and that they lie below every lawful timetable.
-use Rattle.std.specs.Prelude.{ℕ, ◌≤◌, ◌≡◌, false, List, replicate}
-use Rattle.std.proofs.Common.{sym, ◌∙◌, true≢false}
+use Rattle.std.specs.Prelude.{ℕ, ◌≤◌, ◌≡◌, None, List, replicate}
+use Rattle.std.proofs.Common.{sym, ◌∙◌}
 use Rattle.std.proofs.lemmas.List.{length-replicate}
 use Rattle.finite.specs.DecideLaws.{is_true}
 use Rattle.line.specs.declared.Line.{Line}
@@ -34,7 +34,7 @@ module _ (l : Line) (w : Within l) (a : Arrays l) where
 
     -- what a search is given of it, with nothing found yet
     pub first_given : EachTrain l (NotLate l m) → (t ds key : List ℕ) (layout : Layout) → t ≡ tables_of l → ds ≡ directions_of l →
-        key ≡ key_of l → layout ≡ layout_of l → (y : Tally) → y.found ≡ false → y.steps ≤ 4294967295 →
+        key ≡ key_of l → layout ≡ layout_of l → (y : Tally) → y.delay ≡ None → y.steps ≤ 4294967295 →
         Given l m free (replicate 352 0) t ds key layout cost y
     first_given timely t ds key layout tables directions keys layout_is y none_yet low =
         record {
@@ -51,8 +51,7 @@ module _ (l : Line) (w : Within l) (a : Arrays l) where
           };
           tallied = record {
             size = length-replicate {A = ℕ} 352 0;
-            delay_is = λ e. absurd (true≢false (sym e ∙ none_yet));
-            delay_low = λ e. absurd (true≢false (sym e ∙ none_yet));
+            delay_is = λ c e. absurd (cc);
             steps_low = low;
           };
         }

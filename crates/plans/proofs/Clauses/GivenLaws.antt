@@ -1,5 +1,5 @@
 -- What follows from what a search is given of a plan.
-use Rattle.std.specs.Prelude.{ℕ, ◌≡◌, Bool, List, length}
+use Rattle.std.specs.Prelude.{ℕ, ◌≡◌, Bool, List, length, Option}
 use Rattle.std.proofs.Common.{sym, ◌∙◌, ap}
 use Rattle.line.specs.declared.Line.{Line}
 use Rattle.rules.specs.declared.conflicts.Conflict.{Conflict}
@@ -19,7 +19,7 @@ module _ (l : Line) (m marks best t ds key : List ℕ) (layout : Layout) (cost :
   pub key_long : length key ≡ 132
   key_long = ap length g.keys ∙ key_size l
 
-  pub conflict_known : (conflict : Conflict) → conflict ≡ conflict_in layout ds m → conflict ≡ conflict_of l m
+  pub conflict_known : (conflict : Option Conflict) → conflict ≡ conflict_in layout ds m → conflict ≡ conflict_of l m
   conflict_known conflict e = conflict_told l m ds layout conflict g.layout_is g.tabled.raisable.directions e
 
   pub laid_out : LaidOut layout

@@ -1,9 +1,8 @@
 -- Laws of the table of departures: its entries, how a loop fills it, and that it tells the better of two timetables as the mathematics does.
-use Rattle.std.specs.Prelude.{ℕ, suc, ◌+◌, ◌-◌, ◌/◌, ◌%◌, ◌≤◌, ◌<◌, ◌≡◌, Bool, List, length, get_or, ltb, eqb}
+use Rattle.std.specs.Prelude.{ℕ, suc, ◌+◌, ◌-◌, ◌/◌, ◌%◌, ◌≤◌, ◌<◌, ◌≡◌, Bool, List, length, get_or, ltb, Option, Some, None}
 use Rattle.std.proofs.Math.Path.{refl, sym}
-use Rattle.std.proofs.Common.{◌∙◌, ap, ap₂, true≢false, arith}
-use Rattle.std.proofs.Math.Bool.{true, false, cond, not}
-use Rattle.std.proofs.lemmas.Bool.{false≢true}
+use Rattle.std.proofs.Common.{◌∙◌, ap, ap₂, arith}
+use Rattle.std.proofs.Math.Bool.{true, false}
 use Rattle.std.proofs.Math.Seq.{ext_get_or}
 use borrow.Author.Tests.{lt-ltb, le-ltb, eq-eqb, ne_eqb}
 use Rattle.finite.specs.DecideLaws.{is_true, is_false, by_test}
@@ -19,11 +18,11 @@ use Rattle.orders.specs.LeastMinutes.PlanArcs.{departs_at}
 use Rattle.plans.specs.declared.tally.Tally.{Tally}
 use Rattle.plans.specs.Theory.Ranking.{ahead_from}
 use Rattle.plans.specs.Theory.RankingLaws.{from_apart, from-alike, ahead-first}
-use Rattle.plans.specs.Theory.BestSoFar.{nothing, found, improves}
+use Rattle.plans.specs.Theory.BestSoFar.{improves}
 use Rattle.plans.specs.Instance.Planning.{departures, planning}
 use Rattle.plans.proofs.Instance.PlanningLaws.{decides_leg}
-use Rattle.plans.specs.Clauses.Keys.{key_entry, key_of, minute_at, keyed, better_by}
-use Rattle.plans.specs.Clauses.Tallies.{best_of, Tallied}
+use Rattle.plans.specs.Clauses.Keys.{key_entry, key_of, minute_at, keyed, better_than, better_by}
+use Rattle.plans.specs.Clauses.Tallies.{best_by, best_of, Tallied}
 
 -- ---- the entries
 
@@ -95,15 +94,13 @@ module _ (l : Line) (w : Within l) (m : List ℕ) where
 module _ (l : Line) (w : Within l) (m : List ℕ) (cost : ℕ) (cost_is : cost ≡ weighted_delay l m) (best : List ℕ) (y : Tally) (t : Tallied l best y) where
   pub better_improves : better_by (key_of l) m cost best y ≡ improves (planning l) m (best_of y best)
   unfolding better_by improves
-  better_improves = go y.found refl
+  better_improves = go y.delay refl
     where
-      go : (b : Bool) → y.found ≡ b →
-          cond b (cond (eqb cost y.delay) (ahead_from 132 0 (keyed (key_of l) m) (keyed (key_of l) best)) (ltb cost y.delay)) true
-          ≡ improves (planning l) m (cond b (found best) nothing)
-      go true e =
-          rw (cost_is, t.delay_is e, keyed-departures l w m, keyed-departures l w best)
+      go : (d : Option ℕ) → y.delay ≡ d → better_than (key_of l) m cost best d ≡ improves (planning l) m (best_by d best)
+      go (Some c) e =
+          rw (cost_is, t.delay_is c e, keyed-departures l w m, keyed-departures l w best)
           (ahead-first 132 (weighted_delay l m) (weighted_delay l best) (departures l m) (departures l best) (departures_size l w best))
-      go false e = refl
+      go None e = refl
 
 -- ---- as the program compares them
 
@@ -137,29 +134,14 @@ earlier_end a b e h inv =
     none ∙ inv
 
 module _ (key m best : List ℕ) (cost : ℕ) (y : Tally) where
-  pub better_nothing : not y.found ≡ true → true ≡ better_by key m cost best y
+  pub better_nothing : y.delay ≡ None → true ≡ better_by key m cost best y
   unfolding better_by
-  better_nothing n = go y.found n
-    where
-      go : (b : Bool) → not b ≡ true →
-          true ≡ cond b (cond (eqb cost y.delay) (ahead_from 132 0 (keyed key m) (keyed key best)) (ltb cost y.delay)) true
-      go true n = absurd (false≢true n)
-      go false n = refl
+  better_nothing n = rw n refl
 
-  -- where there is one
-  better_some : not y.found ≡ false →
-      cond (eqb cost y.delay) (ahead_from 132 0 (keyed key m) (keyed key best)) (ltb cost y.delay) ≡ better_by key m cost best y
+  pub better_delay : {c : ℕ} → y.delay ≡ Some c → (cost ≡ c → ⊥) → ltb cost c ≡ better_by key m cost best y
   unfolding better_by
-  better_some n = go y.found n
-    where
-      go : (b : Bool) → not b ≡ false →
-          cond (eqb cost y.delay) (ahead_from 132 0 (keyed key m) (keyed key best)) (ltb cost y.delay) ≡
-          cond b (cond (eqb cost y.delay) (ahead_from 132 0 (keyed key m) (keyed key best)) (ltb cost y.delay)) true
-      go true n = refl
-      go false n = absurd (true≢false n)
+  better_delay {c} some d = rw (some, ne_eqb cost c d) refl
 
-  pub better_delay : not y.found ≡ false → (cost ≡ y.delay → ⊥) → ltb cost y.delay ≡ better_by key m cost best y
-  better_delay n d = rw (← better_some n, ne_eqb cost y.delay d) refl
-
-  pub better_earlier : not y.found ≡ false → cost ≡ y.delay → ahead_from 132 0 (keyed key m) (keyed key best) ≡ better_by key m cost best y
-  better_earlier n d = rw (← better_some n, eq-eqb cost y.delay d) refl
+  pub better_earlier : {c : ℕ} → y.delay ≡ Some c → cost ≡ c → ahead_from 132 0 (keyed key m) (keyed key best) ≡ better_by key m cost best y
+  unfolding better_by
+  better_earlier {c} some d = rw (some, eq-eqb cost c d) refl

@@ -1,5 +1,5 @@
 -- The plan with a choice more: its marks, its minutes where raising found them, and that none of it is better where raising found none within the cut.
-use Rattle.std.specs.Prelude.{ℕ, zero, suc, ◌≤◌, ◌<◌, ◌≡◌, refl, Bool, true, false, cond, List, get_or, set}
+use Rattle.std.specs.Prelude.{ℕ, zero, suc, ◌≤◌, ◌<◌, ◌≡◌, refl, true, List, get_or, set, Option, Some, None, unwrap_or}
 use Rattle.std.proofs.Common.{sym, ◌∙◌, subst, ⊎_elim, arith}
 use Rattle.line.specs.declared.Line.{Line}
 use Rattle.line.specs.Within.{Within, Arrays}
@@ -18,47 +18,39 @@ use Rattle.orders.specs.Plan.Plans.{Keeps}
 use Rattle.orders.specs.Plan.PlansLaws.{keeps_rest, keeps_chosen}
 use Rattle.orders.specs.Plan.TidyPlans.{Fitting}
 use Rattle.orders.specs.Plan.TidyPlansLaws.{also_tidy}
-use Rattle.orders.specs.Lift.Lifting.{Alive}
+use Rattle.orders.specs.Lift.Lifting.{Alive, told_cost}
 use Rattle.plans.specs.Theory.Ranking.{Ahead}
 use Rattle.plans.specs.Theory.Problem.{rank}
-use Rattle.plans.specs.Theory.BestSoFar.{nothing, found, Improves}
+use Rattle.plans.specs.Theory.BestSoFar.{Improves}
 use Rattle.plans.specs.Theory.Search.{Under, NoneBetter}
 use Rattle.plans.specs.Theory.SearchLaws.{under_also}
 use Rattle.plans.specs.Instance.Planning.{in_time, planning}
 use Rattle.plans.proofs.Instance.LineSearchedLaws.{planning_laws}
-use Rattle.plans.specs.Clauses.Tallies.{best_of, cut_of, Tallied}
+use Rattle.plans.specs.Clauses.Tallies.{best_by, best_of, cut_of, Tallied}
 use Rattle.plans.specs.Clauses.Choosing.{Tabled, Planned, Chooses, NoRaise, RaisesChoice, Raises, IsWay}
 use Rattle.plans.proofs.Clauses.TryingLaws.{row_low, second_low, marks_added}
 use Rattle.plans.specs.declared.tally.Tally.{Tally}
 use Rattle.plans.specs.declared.ways.Way.{Way}
 
-pub cut_low : (l : Line) (best : List ℕ) (y : Tally) → Tallied l best y → cut_of y < 4294967295
-cut_low l best y t = go y.found refl
-  where
-    go : (b : Bool) → y.found ≡ b → cond b y.delay 4294967294 < 4294967295
-    go true e = t.delay_low e
-    go false e = omega arith
-
 -- the same best so far with another count of plans
-module _ (l : Line) (best : List ℕ) (y b : Tally) (found-is : b.found ≡ y.found) (delay_is : b.delay ≡ y.delay) where
+module _ (l : Line) (best : List ℕ) (y b : Tally) (same : b.delay ≡ y.delay) where
   pub recounted : b.steps ≤ 4294967295 → Tallied l best y → Tallied l best b
   recounted low t =
       record {
         size = t.size;
-        delay_is = λ e. delay_is ∙ t.delay_is (sym found-is ∙ e);
-        delay_low = λ e. omega (arith, t.delay_low (sym found-is ∙ e));
+        delay_is = λ c e. t.delay_is c (sym same ∙ e);
         steps_low = low;
       }
 
   pub recounted_best : best_of b best ≡ best_of y best
-  recounted_best = rw found-is refl
+  recounted_best = rw same refl
 
 -- ---- a choice more
 
 module _ (l : Line) (c : Choice) (p : Plan) (m : List ℕ) where
-  module _ (cost : ℕ) (q : Planned l p m cost) (cut : ℕ) (n : List ℕ) (r : ℕ) (h : Raises l c p m cut n r) where
+  module _ (cost : ℕ) (q : Planned l p m cost) (cut : ℕ) (n : List ℕ) (r : Option ℕ) (h : Raises l c p m cut n r) where
     -- the plan with the choice, whose minutes have risen
-    pub child_planned : Within l → Fitting l c → Alive r → Planned l (also c p) n r
+    pub child_planned : Within l → Fitting l c → Alive r → Planned l (also c p) n (told_cost r)
     child_planned w f v = record { carried = h.carried v; tidy = also_tidy l (within_runnable l w) c p f q.tidy; timely = h.timely v }
 
     -- they are the least at or above those of the plan, too
@@ -80,15 +72,15 @@ module _ (l : Line) (w : Within l) (a : Arrays l) where
   -- what is better than the best so far costs no more than the cut
   pub improves_cheap : (best : List ℕ) (y : Tally) (n : List ℕ) → Tallied l best y → Fit 352 n → Improves (planning l) n (best_of y best) →
       weighted_delay l n ≤ cut_of y
-  improves_cheap best y n t z = go y.found refl
+  improves_cheap best y n t z = go y.delay refl
     where
       first : (e : ℕ) (h : Ahead (rank (planning l) n) (rank (planning l) best)) → h.place ≡ e → weighted_delay l n ≤ weighted_delay l best
       first zero h q = let less = rw q at h.less in omega (arith, less)
       first (suc e) h q = omega (arith, h.alike 0 (omega arith))
 
-      go : (b : Bool) → y.found ≡ b → Improves (planning l) n (cond b (found best) nothing) → weighted_delay l n ≤ cond b y.delay 4294967294
-      go true e h = omega (arith, t.delay_is e, first h.place h refl)
-      go false e h = omega (arith, delay-most l (within_runnable l w) n z)
+      go : (d : Option ℕ) → y.delay ≡ d → Improves (planning l) n (best_by d best) → weighted_delay l n ≤ unwrap_or d 4294967294
+      go (Some c) e h = omega (arith, t.delay_is c e, first h.place h refl)
+      go None e h = omega (arith, delay-most l (within_runnable l w) n z)
 
   -- ---- where raising finds no minutes within the cut
 
@@ -132,16 +124,16 @@ module _ (l : Line) (m marks t ds : List ℕ) (cost : ℕ) (tabled : Tabled l t 
         told = i.told;
       }
 
-  module _ (q : List ℕ) (same : q ≡ m) (cut : ℕ) (n : List ℕ) (r : ℕ) (h : RaisesChoice q (set marks way.row v) t ds way cost cut n r) where
+  module _ (q : List ℕ) (same : q ≡ m) (cut : ℕ) (n : List ℕ) (r : Option ℕ) (h : RaisesChoice q (set marks way.row v) t ds way cost cut n r) where
     pub way_raises : Raises l c marks m cut n r
     way_raises = subst (λ (x : List ℕ). Raises l c marks x cut n r) same (h l c marks (way_chooses q same))
 
     pub way-least : Alive r → IsLeast 352 (Keeps l (also c marks)) m n
     way-least = child_above l c marks m cost planned cut n r way_raises
 
-    pub next_planned : Alive r → Planned l (set marks way.row v) n r
+    pub next_planned : Alive r → Planned l (set marks way.row v) n (told_cost r)
     next_planned alive =
-        subst (λ (x : List ℕ). Planned l x n r) (sym way_added)
+        subst (λ (x : List ℕ). Planned l x n (told_cost r)) (sym way_added)
         (child_planned l c marks m cost planned cut n r way_raises tabled.within i.fitting alive)
 
     pub next_falls : Alive r → slack n < slack m

@@ -1,7 +1,7 @@
 -- What the walk's functions need on their way from one to the other: the ways out of a plan's lowest conflict are choices to try, and marks set and
 -- restored.
-use Rattle.std.specs.Prelude.{ℕ, zero, suc, ◌≤◌, ◌<◌, ◌≡◌, refl, true, false, length, get_or, set}
-use Rattle.std.proofs.Common.{sym, ◌∙◌, ap, true≢false, arith}
+use Rattle.std.specs.Prelude.{ℕ, zero, suc, ◌≤◌, ◌<◌, ◌≡◌, refl, length, get_or, set, Option, Some, None}
+use Rattle.std.proofs.Common.{sym, ◌∙◌, ap, subst, arith}
 use mathlib.Core.List.{List, [], ◌∷◌, Memᴰ}
 use Rattle.line.specs.declared.Line.{Line}
 use Rattle.line.specs.Within.{Within, Arrays}
@@ -26,23 +26,23 @@ use Rattle.plans.specs.declared.ways.Way.{Way}
 
 -- ---- a way, as told
 
-module _ (ds : List ℕ) (way : Way) where
-  pub way_there : (xs : List Choice) → TellsWay ds xs way → way.some ≡ true → (c : Choice) × (xs ≡ c ∷ []) × Tells ds c way
-  way_there [] h e = absurd (true≢false (sym e ∙ h))
-  way_there (c ∷ []) h e = (c, refl, h)
-  way_there (c ∷ d ∷ cs) h e = absurd h
+module _ (ds : List ℕ) where
+  pub way_there : (way : Way) (xs : List Choice) → TellsWay ds xs (Some way) → (c : Choice) × (xs ≡ c ∷ []) × Tells ds c way
+  way_there way [] h = absurd h
+  way_there way (c ∷ []) h = (c, refl, h)
+  way_there way (c ∷ d ∷ cs) h = absurd h
 
-  pub way_absent : (xs : List Choice) → TellsWay ds xs way → way.some ≡ false → xs ≡ []
-  way_absent [] h e = refl
-  way_absent (c ∷ []) h e = absurd (true≢false (sym h.some ∙ e))
-  way_absent (c ∷ d ∷ cs) h e = absurd h
+  pub way_absent : (xs : List Choice) → TellsWay ds xs None → xs ≡ []
+  way_absent [] h = refl
+  way_absent (c ∷ []) h = absurd h
+  way_absent (c ∷ d ∷ cs) h = absurd h
 
 -- ---- of a conflict
 
-pub count_most : (c : Conflict) → way_count c ≤ 144
-count_most Conflict.Nothing = omega arith
-count_most (Conflict.OnSegment x) = omega arith
-count_most (Conflict.AtStation x) = omega arith
+pub count_most : (c : Option Conflict) → way_count c ≤ 144
+count_most None = omega arith
+count_most (Some (Conflict.OnSegment x)) = omega arith
+count_most (Some (Conflict.AtStation x)) = omega arith
 
 -- a choice that some minutes do not keep asks something
 related : (l : Line) (m : List ℕ) (c : Choice) → (KeepsChoice l m c → ⊥) → Related l c
@@ -50,8 +50,7 @@ related l m (on_segment p i j) n = λ d o. n (rw (d, o) tt)
 related l m (at_station s a b) n = tt
 
 module _ (l : Line) (w : Within l) (a : Arrays l) (m : List ℕ) where
-  pub range_of : (c : Conflict) → Real l m c → InRange c
-  range_of Conflict.Nothing h = tt
+  pub range_of : (c : Conflict) → Real l m (Some c) → InRange c
   range_of (Conflict.OnSegment x) h =
       (omega (arith, h.place, w.stations.1), omega (arith, h.trains.0, w.trains.1), omega (arith, h.trains.1, w.trains.1))
   range_of (Conflict.AtStation x) h =
@@ -61,7 +60,7 @@ module _ (l : Line) (w : Within l) (a : Arrays l) (m : List ℕ) where
       (omega (arith, middle.0), omega (arith, middle.1, path.origin.1, path.destination.1))
 
   -- way k out of any conflict is one to try
-  pub way_of_real : (conflict : Conflict) → Real l m conflict → (ds : List ℕ) (way : Way) (n k : ℕ) → n ≡ way_count conflict → k < n →
+  pub way_of_real : (conflict : Option Conflict) → Real l m conflict → (ds : List ℕ) (way : Way) (n k : ℕ) → n ≡ way_count conflict → k < n →
       (c : Choice) → way_of conflict k ≡ c ∷ [] → Tells ds c way → IsWay l m ds c way
   unfolding ways_of
   way_of_real conflict real ds way n k count_is low c e told =
@@ -71,12 +70,12 @@ module _ (l : Line) (w : Within l) (a : Arrays l) (m : List ℕ) where
       record { fitting = (n.0, n.1, related l m c n.2); open_yet = n.2; told = told }
 
   -- so of the lowest
-  module _ (conflict : Conflict) (is : conflict ≡ conflict_of l m) where
+  module _ (conflict : Option Conflict) (is : conflict ≡ conflict_of l m) where
     lowest_real : Real l m conflict
     lowest_real = rw is (conflict_real l w a m)
 
-    pub conflict_range : InRange conflict
-    conflict_range = range_of conflict lowest_real
+    pub conflict_range : (c : Conflict) → conflict ≡ Some c → InRange c
+    conflict_range c some = range_of c (subst (Real l m) some lowest_real)
 
     pub is_way : (ds : List ℕ) (way : Way) (n k : ℕ) → n ≡ way_count conflict → k < n → (c : Choice) → way_of conflict k ≡ c ∷ [] →
         Tells ds c way → IsWay l m ds c way

@@ -1,6 +1,6 @@
 -- Raising over the tables of a line with every latest waived tells what a plan of the line costs: the same minutes keep it, they cost the same, and none are
 -- late.
-use Rattle.std.specs.Prelude.{ℕ, ◌≤◌, ◌≡◌, true, List}
+use Rattle.std.specs.Prelude.{ℕ, ◌≤◌, ◌≡◌, true, List, Option, None}
 use Rattle.std.proofs.Common.{sym, ◌∙◌, arith}
 use Rattle.finite.specs.DecideLaws.{is_true}
 use Rattle.line.specs.declared.Line.{Line}
@@ -15,6 +15,7 @@ use Rattle.orders.specs.Plan.Plans.{Keeps}
 use Rattle.orders.specs.Plan.PlansLaws.{keeps_rest}
 use Rattle.orders.specs.Waived.WaivedLine.{waived}
 use Rattle.orders.specs.Waived.WaivedLaws.{waived_runnable, waived_arrays, waived_timely, waived_directions, waived-delay, keeps_waived, waived_keeps, fitting_waived, tidy_waived}
+use Rattle.orders.specs.Lift.Lifting.{told_cost}
 use Rattle.plans.specs.Instance.Planning.{in_time}
 use Rattle.plans.proofs.Instance.PlanningLaws.{decides_in_time}
 use Rattle.orders.specs.LeastMinutes.Carried.{start, Carried, TellsCost}
@@ -64,13 +65,13 @@ module _ (l : Line) (c : Choice) (p : Plan) (m marks t ds : List ℕ) (way : Way
       }
 
   -- where the cut cuts nothing off
-  pub raises_tells : (cut : ℕ) → ((m' : List ℕ) → Fit 352 m' → weighted_delay l m' ≤ cut) → (n : List ℕ) (r : ℕ) → Raises (waived l) c p m cut n r →
+  pub raises_tells : (cut : ℕ) → ((m' : List ℕ) → Fit 352 m' → weighted_delay l m' ≤ cut) → (n : List ℕ) (r : Option ℕ) → Raises (waived l) c p m cut n r →
       TellsCost l (also c p) n r
   unfolding NoRaise
   raises_tells cut all n r k =
-      tells_cost l h.runnable h.arrays (also c p) n r (λ v. waived_carried l h.runnable h.arrays (also c p) n r (k.carried v)) none
+      tells_cost l h.runnable h.arrays (also c p) n r (λ v. waived_carried l h.runnable h.arrays (also c p) n (told_cost r) (k.carried v)) none
     where
-      none : r ≡ 4294967295 → NoneKeeps 352 (Keeps l (also c p)) start
+      none : r ≡ None → NoneKeeps 352 (Keeps l (also c p)) start
       none e m' z q up =
           k.none e m' z (keeps_waived l h.runnable h.arrays (also c p) m' q)
           (h.carried.least.first m' z (keeps_rest l c p m' q) (start_below m'))

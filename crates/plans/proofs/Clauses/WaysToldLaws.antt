@@ -1,5 +1,5 @@
 -- Laws of the ways as the program has them: bits of a mask as it writes them, and one law for each way that it returns.
-use Rattle.std.specs.Prelude.{ℕ, zero, suc, ◌+◌, ◌*◌, ◌-◌, ◌/◌, ◌%◌, ◌^◌, ◌≤◌, ◌<◌, ◌≡◌, Bool, true, false, ◌&&◌, List, [], length}
+use Rattle.std.specs.Prelude.{ℕ, zero, suc, ◌+◌, ◌*◌, ◌-◌, ◌/◌, ◌%◌, ◌^◌, ◌≤◌, ◌<◌, ◌≡◌, Bool, true, false, ◌&&◌, List, [], length, Option, Some, None}
 use Rattle.std.proofs.Math.Path.{refl}
 use Rattle.std.proofs.Common.{sym, ◌∙◌, ap, true≢false, mod-eq_of_lt, arith, eq-eqb, ne_eqb}
 use Rattle.std.proofs.Math.Decide.{dec_lt}
@@ -45,29 +45,29 @@ module _ (x : SegmentConflict) (w : ℕ) (r : Way) where
   unfolding way_of
   tells_higher n h ds = rw (ne_eqb w 0 n) (h ds)
 
-module _ (x : StationConflict) (ds : List ℕ) (w : ℕ) (r : Way) where
-  pub tells_pair :
-      two_of x.trains (w / 12) (w % 12) ≡ true → Tells ds (at_station x.station (w / 12) (w % 12)) r → TellsWay ds (way_of (Conflict.AtStation x) w) r
+module _ (x : StationConflict) (ds : List ℕ) (w : ℕ) where
+  pub tells_pair : (r : Way) → two_of x.trains (w / 12) (w % 12) ≡ true → Tells ds (at_station x.station (w / 12) (w % 12)) r →
+      TellsWay ds (way_of (Some (Conflict.AtStation x)) w) (Some r)
   unfolding way_of
-  tells_pair e h = rw e h
+  tells_pair r e h = rw e h
 
-  pub tells_none : two_of x.trains (w / 12) (w % 12) ≡ false → r.some ≡ false → TellsWay ds (way_of (Conflict.AtStation x) w) r
+  pub tells_none : two_of x.trains (w / 12) (w % 12) ≡ false → TellsWay ds (way_of (Some (Conflict.AtStation x)) w) None
   unfolding way_of
-  tells_none e h = rw e h
+  tells_none e = rw e tt
 
-module _ (ds : List ℕ) (w : ℕ) (r : Way) where
-  pub tells_nothing : r.some ≡ false → TellsWay ds (way_of Conflict.Nothing w) r
+module _ (ds : List ℕ) (w : ℕ) where
+  pub tells_nothing : TellsWay ds (way_of None w) None
   unfolding way_of
-  tells_nothing h = h
+  tells_nothing = tt
 
-  pub tells_as : (c d : Conflict) → c ≡ d → TellsWay ds (way_of d w) r × Steps d w r → TellsWay ds (way_of c w) r × Steps c w r
-  tells_as c d e h = rw e h
+  pub tells_as : (r : Option Way) (step : ℕ) (c d : Option Conflict) → c ≡ d → TellsWay ds (way_of d w) r × Steps d w step → TellsWay ds (way_of c w) r × Steps c w step
+  tells_as r step c d e h = rw e h
 
 -- ---- the next number that may have a way
 
 -- the next number of all
-pub steps_one : (c : Conflict) (w : ℕ) (r : Way) → w < 144 → r.step ≡ 1 → Steps c w r
-steps_one c w r low one = record { on = omega arith; up_to = omega arith; none_between = λ i a b. absurd (omega arith) }
+pub steps_one : (c : Option Conflict) (w : ℕ) → w < 144 → Steps c w 1
+steps_one c w low = record { on = omega arith; up_to = omega arith; none_between = λ i a b. absurd (omega arith) }
 
 -- no pair has a train that is not in the mask: the one that leaves, or the one that comes
 none_leaves : (mask i : ℕ) → in_mask mask (i / 12) ≡ false → two_of mask (i / 12) (i % 12) ≡ false
@@ -122,30 +122,29 @@ module _ (mask a b next : ℕ) (n : NextBit mask (b + 1) next) where
     pair_last la lb h = record { on = omega arith; up_to = omega arith; none_between = λ i p q. none_before_row i p (omega arith) }
 
 -- a number that is of no pair has no way
-no_pair : (x : StationConflict) (i : ℕ) → two_of x.trains (i / 12) (i % 12) ≡ false → way_of (Conflict.AtStation x) i ≡ []
+no_pair : (x : StationConflict) (i : ℕ) → two_of x.trains (i / 12) (i % 12) ≡ false → way_of (Some (Conflict.AtStation x)) i ≡ []
 unfolding way_of
 no_pair x i e = rw e refl
 
 -- so the next pair is the next number that may have one
-pub steps_pair : (x : StationConflict) (w : ℕ) (r : Way) (n : ℕ) → NextPair x.trains (12 * (w / 12) + w % 12) n → r.step ≡ n →
-    Steps (Conflict.AtStation x) w r
-steps_pair x w r n h is = record {
+pub steps_pair : (x : StationConflict) (w n : ℕ) → NextPair x.trains (12 * (w / 12) + w % 12) n → Steps (Some (Conflict.AtStation x)) w n
+steps_pair x w n h = record {
   on = omega arith;
   up_to = omega arith;
   none_between = λ i p q. no_pair x i (h.none_between i (omega arith) (omega arith));
 }
 
 -- it is not beyond the ways: on a segment each number has one
-segment-some : (x : SegmentConflict) (w : ℕ) → way_of (Conflict.OnSegment x) (w + 1) ≡ [] → ⊥
+segment-some : (x : SegmentConflict) (w : ℕ) → way_of (Some (Conflict.OnSegment x)) (w + 1) ≡ [] → ⊥
 unfolding way_of
 segment-some x w e = let none = rw (ne_eqb (w + 1) 0 (λ z. omega arith)) at e in let z : ◌≡◌ {A = ℕ} 1 0 = ap length none in absurd (omega arith)
 
-pub steps_within : (c : Conflict) (n w : ℕ) (r : Way) → n ≡ way_count c → w < n → Steps c w r → w + r.step ≤ n
-steps_within Conflict.Nothing n w r is low h = absurd (omega arith)
-steps_within (Conflict.OnSegment x) n w r is low h = go r.step refl
+pub steps_within : (c : Option Conflict) (n w step : ℕ) → n ≡ way_count c → w < n → Steps c w step → w + step ≤ n
+steps_within None n w step is low h = absurd (omega arith)
+steps_within (Some (Conflict.OnSegment x)) n w step is low h = go step refl
   where
-    go : (k : ℕ) → r.step ≡ k → w + k ≤ n
+    go : (k : ℕ) → step ≡ k → w + k ≤ n
     go zero e = omega arith
     go (suc zero) e = omega arith
     go (suc (suc k)) e = absurd (segment-some x w (h.none_between (w + 1) (omega arith) (omega arith)))
-steps_within (Conflict.AtStation x) n w r is low h = omega (arith, h.up_to)
+steps_within (Some (Conflict.AtStation x)) n w step is low h = omega (arith, h.up_to)

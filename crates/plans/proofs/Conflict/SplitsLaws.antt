@@ -1,5 +1,5 @@
 -- Any conflict of the minutes splits the plan, and the lowest is one of them.
-use Rattle.std.specs.Prelude.{ℕ, ◌≡◌, List, []}
+use Rattle.std.specs.Prelude.{ℕ, ◌≡◌, List, [], Option, None}
 use Rattle.std.proofs.Math.Path.{refl}
 use Rattle.std.proofs.Common.{ap, ◌∙◌}
 use Rattle.finite.specs.Below.{gather}
@@ -18,7 +18,7 @@ use Rattle.plans.proofs.Conflict.WaysLaws.{not_kept, goes_of}
 use Rattle.plans.specs.Instance.Planning.{planning}
 
 module _ (l : Line) (w : Within l) (a : Arrays l) (p : Plan) (m : List ℕ) where
-  pub conflict_splits : (c : Conflict) → Real l m c → (c ≡ Conflict.Nothing → ⊥) → Splits (planning l) p m (ways_of c)
+  pub conflict_splits : (c : Option Conflict) → Real l m c → (c ≡ None → ⊥) → Splits (planning l) p m (ways_of c)
   conflict_splits c real some = record {
     complete = λ m' h k.
         let (v, there, o, g) = goes_of l w a m m' h.1 c real some in
@@ -28,7 +28,7 @@ module _ (l : Line) (w : Within l) (a : Arrays l) (p : Plan) (m : List ℕ) wher
         n.2 (keeps_chosen l v p m n.0 n.1 k);
   }
 
-  no_ways : ways_of Conflict.Nothing ≡ []
+  no_ways : ways_of None ≡ []
   unfolding ways_of gather
   no_ways = refl
 

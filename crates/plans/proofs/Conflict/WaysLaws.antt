@@ -1,10 +1,10 @@
 -- The ways out of a conflict, whichever it is: the minutes go none of them, and every lawful timetable goes one. Where the lowest has none there is no
 -- conflict.
-use Rattle.std.specs.Prelude.{ℕ, ◌+◌, ◌*◌, ◌/◌, ◌%◌, ◌≤◌, ◌<◌, ◌≡◌, refl, ◌⊎◌, Bool, cond, ◌&&◌, ltb, eqb}
+use Rattle.std.specs.Prelude.{ℕ, ◌+◌, ◌*◌, ◌/◌, ◌%◌, ◌≤◌, ◌<◌, ◌≡◌, refl, ◌⊎◌, Bool, cond, ◌&&◌, ltb, eqb, Option, Some, None}
 use Rattle.std.proofs.Common.{sym, ap, ◌∙◌, subst, ⊎_elim}
 use Rattle.std.proofs.Math.Logic.{inl, inr}
 use Rattle.std.proofs.Math.Bool.{true, false}
-use Rattle.std.proofs.Math.Option.{Option, some, none}
+use Rattle.std.proofs.Math.Option.{Option as Maybe, some, none}
 use mathlib.Core.List.Memᴰ
 use mathlib.Core.List.{List, [], ◌∷◌, Memᴰ}
 use native.Mathlib.Omega.{arith}
@@ -42,17 +42,17 @@ module _ (x : SegmentConflict) where
   abbrev higher_first : Choice
   higher_first = on_segment x.segment x.higher x.lower
 
-  lower_way : Memᴰ lower_first (ways_of (Conflict.OnSegment x))
+  lower_way : Memᴰ lower_first (ways_of (Some (Conflict.OnSegment x)))
   unfolding ways_of way_of
-  lower_way = gather_in (way_of (Conflict.OnSegment x)) 2 0 (omega arith) (Memᴰ.head refl)
+  lower_way = gather_in (way_of (Some (Conflict.OnSegment x))) 2 0 (omega arith) (Memᴰ.head refl)
 
-  higher_way : Memᴰ higher_first (ways_of (Conflict.OnSegment x))
+  higher_way : Memᴰ higher_first (ways_of (Some (Conflict.OnSegment x)))
   unfolding ways_of way_of
-  higher_way = gather_in (way_of (Conflict.OnSegment x)) 2 1 (omega arith) (Memᴰ.head refl)
+  higher_way = gather_in (way_of (Some (Conflict.OnSegment x))) 2 1 (omega arith) (Memᴰ.head refl)
 
-  way_order : (c : Choice) → Memᴰ c (ways_of (Conflict.OnSegment x)) → (c ≡ lower_first) ⊎ (c ≡ higher_first)
+  way_order : (c : Choice) → Memᴰ c (ways_of (Some (Conflict.OnSegment x))) → (c ≡ lower_first) ⊎ (c ≡ higher_first)
   unfolding ways_of way_of
-  way_order c k = let r = gather-from (way_of (Conflict.OnSegment x)) 2 k in go (eqb r.0 0) r.2
+  way_order c k = let r = gather-from (way_of (Some (Conflict.OnSegment x))) 2 k in go (eqb r.0 0) r.2
     where
       go : (b : Bool) → Memᴰ c (cond b (lower_first ∷ []) (higher_first ∷ [])) → (c ≡ lower_first) ⊎ (c ≡ higher_first)
       go true (Memᴰ.head e) = inl e
@@ -74,21 +74,21 @@ module _ (x : StationConflict) where
   decides_two a b = decides_and (decides_self _) (decides_and (decides_self _) (decides_not (decides_eq a b)))
 
   -- each way at a station is between two of its trains
-  way-pair : (c : Choice) → Memᴰ c (ways_of (Conflict.AtStation x)) → (a : ℕ) × (b : ℕ) × (c ≡ at_station x.station a b) × Has a × Has b
+  way-pair : (c : Choice) → Memᴰ c (ways_of (Some (Conflict.AtStation x))) → (a : ℕ) × (b : ℕ) × (c ≡ at_station x.station a b) × Has a × Has b
   unfolding ways_of way_of
   way-pair c k =
-      let r = gather-from (way_of (Conflict.AtStation x)) 144 k in
+      let r = gather-from (way_of (Some (Conflict.AtStation x))) 144 k in
       let w = in_when _ _ r.2 in
       let d = (decides_two (r.0 / 12) (r.0 % 12)).yea w.0 in
       (r.0 / 12, r.0 % 12, w.1, d.0, d.1.0)
 
   -- and each such pair is a way
-  pair-way : (a b : ℕ) → a < 12 → b < 12 → Has a → Has b → (a ≡ b → ⊥) → Memᴰ (at_station x.station a b) (ways_of (Conflict.AtStation x))
+  pair-way : (a b : ℕ) → a < 12 → b < 12 → Has a → Has b → (a ≡ b → ⊥) → Memᴰ (at_station x.station a b) (ways_of (Some (Conflict.AtStation x)))
   unfolding ways_of way_of
   pair-way a b g h u v n =
       let q : (12 * a + b) / 12 ≡ a = omega arith in
       let r : (12 * a + b) % 12 ≡ b = omega arith in
-      gather_in (way_of (Conflict.AtStation x)) 144 (12 * a + b) (omega arith) (rw (q, r, is_true (decides_two a b) (u, (v, n))) (Memᴰ.head refl))
+      gather_in (way_of (Some (Conflict.AtStation x))) 144 (12 * a + b) (omega arith) (rw (q, r, is_true (decides_two a b) (u, (v, n))) (Memᴰ.head refl))
 
 -- ---- the minutes go none of them
 
@@ -96,17 +96,17 @@ module _ (x : StationConflict) where
 abbrev pub NotKept : Line → List ℕ → Choice → Type 0
 NotKept l m c = Of l c × Shared l c × (KeepsChoice l m c → ⊥)
 
-pub not_kept : (l : Line) (m : List ℕ) (c : Conflict) → Real l m c → (w : Choice) → Memᴰ w (ways_of c) → NotKept l m w
+pub not_kept : (l : Line) (m : List ℕ) (c : Option Conflict) → Real l m c → (w : Choice) → Memᴰ w (ways_of c) → NotKept l m w
 unfolding ways_of
-not_kept l m Conflict.Nothing h w k = let r = gather-from (way_of Conflict.Nothing) 0 k in absurd (omega (arith, r.1))
-not_kept l m (Conflict.OnSegment x) h w k =
+not_kept l m None h w k = let r = gather-from (way_of None) 0 k in absurd (omega (arith, r.1))
+not_kept l m (Some (Conflict.OnSegment x)) h w k =
     let (i, j) = h.trains in
     let (u, v) = h.shared in
     ⊎_elim
     (λ e. subst (NotKept l m) (sym e) ((h.place, i, j), (u, v), λ n. h.neither (inl n)))
     (λ e. subst (NotKept l m) (sym e) ((h.place, j, i), (v, u), λ n. h.neither (inr n)))
     (way_order x w k)
-not_kept l m (Conflict.AtStation x) h w k =
+not_kept l m (Some (Conflict.AtStation x)) h w k =
     let (a, b, e, u, v) = way-pair x w k in
     let (i, p) = h.trains a u in
     let (j, q) = h.trains b v in
@@ -116,7 +116,7 @@ module _ (l : Line) (w : Within l) (r : Arrays l) (m : List ℕ) where
   -- ---- with no way left there is no conflict
 
   -- a crowd is of two trains or more, as every station has a track
-  crowd-way : (x : StationConflict) → Crowded l m x → (c : Choice) × Memᴰ c (ways_of (Conflict.AtStation x))
+  crowd-way : (x : StationConflict) → Crowded l m x → (c : Choice) × Memᴰ c (ways_of (Some (Conflict.AtStation x)))
   crowd-way x h =
       let track = each_at (In tracks) l.track.station_count l.track.tracks x.station 0 (omega (arith, r.tracks, w.stations.1)) h.place w.tracks in
       let f = in_mask x.trains in
@@ -126,12 +126,12 @@ module _ (l : Line) (w : Within l) (r : Arrays l) (m : List ℕ) where
       let apart : (a.0 ≡ b.0 → ⊥) = λ e. omega (arith, a.3, b.3, ap (count f) e) in
       (at_station x.station a.0 b.0, pair-way x a.0 b.0 (omega (arith, a.1)) (omega (arith, b.1)) a.2 b.2 apart)
 
-  no_conflict : (c : Conflict) → Real l m c → ways_of c ≡ [] → c ≡ Conflict.Nothing
-  no_conflict Conflict.Nothing h q = refl
-  no_conflict (Conflict.OnSegment x) h q = absurd (Memᴰ.not-nil (rw q at (lower_way x)))
-  no_conflict (Conflict.AtStation x) h q = absurd (Memᴰ.not-nil (rw q at (crowd-way x h).1))
+  no_conflict : (c : Option Conflict) → Real l m c → ways_of c ≡ [] → c ≡ None
+  no_conflict None h q = refl
+  no_conflict (Some (Conflict.OnSegment x)) h q = absurd (Memᴰ.not-nil (rw q at (lower_way x)))
+  no_conflict (Some (Conflict.AtStation x)) h q = absurd (Memᴰ.not-nil (rw q at (crowd-way x h).1))
 
-  pub ways_none : ways l m ≡ [] → conflict_of l m ≡ Conflict.Nothing
+  pub ways_none : ways l m ≡ [] → conflict_of l m ≡ None
   unfolding ways
   ways_none = no_conflict (conflict_of l m) (conflict_real l w r m)
 
@@ -172,7 +172,7 @@ module _ (l : Line) (w : Within l) (r : Arrays l) (m : List ℕ) where
         d : (a : ℕ) → Decides (Has x a × (goes l m' s a < came l m' s b)) (f a)
         d a = decides_and (decides_self _) (decides_lt _ _)
 
-        go : (o : Option ℕ) → IsFirst f n o → (a : ℕ) × (b : ℕ) × Has x a × Has x b × (goes l m' s a < came l m' s b)
+        go : (o : Maybe ℕ) → IsFirst f n o → (a : ℕ) × (b : ℕ) × Has x a × Has x b × (goes l m' s a < came l m' s b)
         go (some a) q = let c = (d a).yea q.1 in (a, b, c.0, last.passes, c.1)
         go none q =
             let day = (stays s b last.below (h.trains b last.passes).1.0).1 in
@@ -181,15 +181,15 @@ module _ (l : Line) (w : Within l) (r : Arrays l) (m : List ℕ) where
             ((h.trains a c).1.0, (last.most a k c, omega arith))) in
             absurd (omega (arith, h.many, most))
 
-    pub goes_of : (c : Conflict) → Real l m c → (c ≡ Conflict.Nothing → ⊥) → (v : Choice) × Memᴰ v (ways_of c) × Of l v × KeepsChoice l m' v
-    goes_of Conflict.Nothing h n = absurd (n refl)
-    goes_of (Conflict.OnSegment x) h n =
+    pub goes_of : (c : Option Conflict) → Real l m c → (c ≡ None → ⊥) → (v : Choice) × Memᴰ v (ways_of c) × Of l v × KeepsChoice l m' v
+    goes_of None h n = absurd (n refl)
+    goes_of (Some (Conflict.OnSegment x)) h n =
         let (i, j) = h.trains in
         ⊎_elim
         (λ o. (lower_first x, lower_way x, (h.place, i, j), o))
         (λ o. (higher_first x, higher_way x, (h.place, j, i), o))
         (lawful.rule14 x.segment h.place x.lower i x.higher j h.order h.shared.0 h.shared.1)
-    goes_of (Conflict.AtStation x) h n =
+    goes_of (Some (Conflict.AtStation x)) h n =
         let (a, b, u, v, q) = crowd-goes x h in
         let i = h.trains a u in
         let j = h.trains b v in
@@ -199,16 +199,16 @@ module _ (l : Line) (w : Within l) (r : Arrays l) (m : List ℕ) where
 
 -- ---- all ways out of the lowest conflict
 
-pub all_ways : (l : Line) (m : List ℕ) (conflict : Conflict) → conflict ≡ conflict_of l m → (n : ℕ) → n ≡ way_count conflict →
+pub all_ways : (l : Line) (m : List ℕ) (conflict : Option Conflict) → conflict ≡ conflict_of l m → (n : ℕ) → n ≡ way_count conflict →
     ways l m ≡ gather (way_of conflict) n
 unfolding ways ways_of
 all_ways l m conflict is n n-is = sym (ap (gather (way_of conflict)) n-is ∙ ap ways_of is)
 
-pub no_ways : (l : Line) (m : List ℕ) (conflict : Conflict) → conflict ≡ conflict_of l m → way_count conflict ≡ 0 → ways l m ≡ []
+pub no_ways : (l : Line) (m : List ℕ) (conflict : Option Conflict) → conflict ≡ conflict_of l m → way_count conflict ≡ 0 → ways l m ≡ []
 unfolding gather
 no_ways l m conflict is empty = all_ways l m conflict is 0 (sym empty)
 
 -- each way has a number
-pub way-number : (conflict : Conflict) (c : Choice) → Memᴰ c (ways_of conflict) → (k : ℕ) × (k < way_count conflict) × Memᴰ c (way_of conflict k)
+pub way-number : (conflict : Option Conflict) (c : Choice) → Memᴰ c (ways_of conflict) → (k : ℕ) × (k < way_count conflict) × Memᴰ c (way_of conflict k)
 unfolding ways_of
 way-number conflict c there = gather-from (way_of conflict) (way_count conflict) there

@@ -1,11 +1,10 @@
 -- The timetables of a line within the limits have the laws that a search relies on; so what a search of everything finds is the timetable that demand 3
 -- asks for, and where it finds nothing there is none.
-use Rattle.std.specs.Prelude.{ℕ, ◌≡◌, true, List}
+use Rattle.std.specs.Prelude.{ℕ, ◌≡◌, true, List, None}
 use Rattle.finite.specs.DecideLaws.{is_true}
 use Rattle.line.specs.declared.Line.{Line}
 use Rattle.line.specs.Within.{Within, Arrays}
 use Rattle.line.specs.RunnableLaws.{within_runnable}
-use Rattle.rules.specs.declared.conflicts.Conflict.{Conflict}
 use Rattle.rules.specs.Statement.Rules.{Lawful}
 use Rattle.rules.specs.Conflict.Conflicts.{conflict_of}
 use Rattle.rules.specs.Statement.Delay.{Same, Best}
@@ -36,7 +35,7 @@ module _ (l : Line) (w : Within l) (a : Arrays l) where
   lawful_keeps m h = record { trains = h.trains; choices = λ c o s t. absurd (free-marked c t) }
 
   -- minutes of a plan that are in time and have no conflict
-  pub clear_lawful : (p : Plan) (m : List ℕ) → Fit 352 m → Keeps l p m → in_time l m ≡ true → conflict_of l m ≡ Conflict.Nothing → Fit 352 m × Lawful l m
+  pub clear_lawful : (p : Plan) (m : List ℕ) → Fit 352 m → Keeps l p m → in_time l m ≡ true → conflict_of l m ≡ None → Fit 352 m × Lawful l m
   clear_lawful p m z k t q =
       let c = clear_of l w a m q in (
         z,

@@ -1,6 +1,6 @@
 -- What is known of a plan, and the contracts of raising for a choice: the line is not among the parameters, so each says what it needs for some line and
 -- what it gives for every line of which that holds.
-use Rattle.std.specs.Prelude.{ℕ, ◌≤◌, ◌<◌, ◌≡◌, true, List}
+use Rattle.std.specs.Prelude.{ℕ, ◌≤◌, ◌<◌, ◌≡◌, true, List, Option, None}
 use Rattle.line.specs.declared.Line.{Line}
 use Rattle.line.specs.Within.{Within, Arrays}
 use Rattle.line.specs.Runnable.{Runnable}
@@ -15,7 +15,7 @@ use Rattle.orders.specs.Plan.Marks.{Plan, also}
 use Rattle.orders.specs.Plan.Plans.{Keeps}
 use Rattle.orders.specs.Plan.TidyPlans.{Fitting, Tidy}
 use Rattle.orders.specs.LineTables.Tables.{tables_of}
-use Rattle.orders.specs.Lift.Lifting.{Alive}
+use Rattle.orders.specs.Lift.Lifting.{Alive, told_cost}
 use Rattle.plans.specs.Instance.Planning.{in_time}
 use Rattle.plans.specs.Clauses.Keys.{key_of}
 use Rattle.orders.specs.LeastMinutes.Carried.{Carried}
@@ -66,7 +66,6 @@ pub record CanRaise (m marks t ds : List ℕ) (way : Way) (cost cut : ℕ) : Typ
   pub choice : Choice
   pub plan : Plan
   pub chooses : Chooses line choice plan m marks t ds way cost
-  pub cut_low : cut < 4294967295
 
 -- no minutes of the plan with the choice are in time and cost no more than the cut
 unfoldable pub NoRaise : Line → Choice → Plan → List ℕ → ℕ → Type 0
@@ -74,17 +73,17 @@ NoRaise l c p m cut = (m' : List ℕ) → Fit 352 m' → Keeps l (also c p) m' �
 
 -- n has the least minutes of the plan with the choice, and r what they cost; or there are none in time within the cut. Whatever the answer, no minutes that
 -- keep this plan are before n; so what raising had carried when it ended early is no more than they cost (`dropped_low` in `NextPlansLaws`).
-pub record Raises (l : Line) (c : Choice) (p : Plan) (m : List ℕ) (cut : ℕ) (n : List ℕ) (r : ℕ) : Type 0 where
-  pub carried : Alive r → Carried l (also c p) n r
+pub record Raises (l : Line) (c : Choice) (p : Plan) (m : List ℕ) (cut : ℕ) (n : List ℕ) (r : Option ℕ) : Type 0 where
+  pub carried : Alive r → Carried l (also c p) n (told_cost r)
   pub timely : Alive r → in_time l n ≡ true
-  pub none : r ≡ 4294967295 → NoRaise l c p m cut
+  pub none : r ≡ None → NoRaise l c p m cut
   pub low : (m' : List ℕ) → Fit 352 m' → Keeps l (also c p) m' → n ⊑ m'
 
 -- there are none, as a first look shows
 abbrev pub Fails : List ℕ → List ℕ → List ℕ → List ℕ → Way → ℕ → ℕ → Type 0
 Fails m marks t ds way cost cut = (l : Line) (c : Choice) (p : Plan) → Chooses l c p m marks t ds way cost → NoRaise l c p m cut
 
-abbrev pub RaisesChoice : List ℕ → List ℕ → List ℕ → List ℕ → Way → ℕ → ℕ → List ℕ → ℕ → Type 0
+abbrev pub RaisesChoice : List ℕ → List ℕ → List ℕ → List ℕ → Way → ℕ → ℕ → List ℕ → Option ℕ → Type 0
 RaisesChoice m marks t ds way cost cut n r = (l : Line) (c : Choice) (p : Plan) → Chooses l c p m marks t ds way cost → Raises l c p m cut n r
 
 -- this is a way out, and the minutes do not go it

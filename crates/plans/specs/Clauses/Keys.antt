@@ -1,5 +1,5 @@
 -- The departures by which timetables of equal delay are compared, as the program has them: through a table of their entries, made once for a line.
-use Rattle.std.specs.Prelude.{ℕ, ◌/◌, ◌%◌, Bool, true, cond, List, get_or, ltb, eqb}
+use Rattle.std.specs.Prelude.{ℕ, ◌/◌, ◌%◌, Bool, true, cond, List, get_or, ltb, eqb, Option, Some, None}
 use Rattle.finite.specs.Below.{table}
 use Rattle.line.specs.declared.Line.{Line}
 use Rattle.orders.specs.LeastMinutes.PlanArcs.{departs_at}
@@ -22,6 +22,9 @@ unfoldable pub keyed : List ℕ → List ℕ → List ℕ
 keyed key m = table (minute_at key m) 132
 
 -- the minutes m, which cost this, are better than the best so far
+abbrev pub better_than : List ℕ → List ℕ → ℕ → List ℕ → Option ℕ → Bool
+better_than key m cost best None = true
+better_than key m cost best (Some c) = cond (eqb cost c) (ahead_from 132 0 (keyed key m) (keyed key best)) (ltb cost c)
+
 unfoldable pub better_by : List ℕ → List ℕ → ℕ → List ℕ → Tally → Bool
-better_by key m cost best y =
-    cond y.found (cond (eqb cost y.delay) (ahead_from 132 0 (keyed key m) (keyed key best)) (ltb cost y.delay)) true
+better_by key m cost best y = better_than key m cost best y.delay

@@ -1,6 +1,6 @@
 -- The contract of what a way costs, in time or not: raising over the tables of the line with every latest waived, and without a cut, finds no minutes only
 -- where the plan with the way's choice has none up to 2,879.
-use Rattle.std.specs.Prelude.{ℕ, ◌≡◌, List}
+use Rattle.std.specs.Prelude.{ℕ, ◌≡◌, List, Option}
 use Rattle.line.specs.declared.Line.{Line}
 use Rattle.line.specs.Within.{Arrays}
 use Rattle.line.specs.Runnable.{Runnable}
@@ -32,6 +32,6 @@ pub record CanCost (m marks t ds : List ℕ) (way : Way) (cost : ℕ) : Type 0 w
   pub plan : Plan
   pub chooses : ChoosesWaived line choice plan m marks t ds way cost
 
-abbrev pub CostsWay : List ℕ → List ℕ → List ℕ → List ℕ → Way → ℕ → List ℕ → ℕ → Type 0
+abbrev pub CostsWay : List ℕ → List ℕ → List ℕ → List ℕ → Way → ℕ → List ℕ → Option ℕ → Type 0
 CostsWay m marks t ds way cost n r =
     (l : Line) (c : Choice) (p : Plan) → ChoosesWaived l c p m marks t ds way cost → TellsCost l (also c p) n r

@@ -1,6 +1,6 @@
 -- What a conflict says of the minutes: "A conflict is on a segment between two trains, or at a station among several: one more train than tracks, all
 -- standing at one minute" (document 01, "The search").
-use Rattle.std.specs.Prelude.{ℕ, ◌<◌, ◌≡◌, ◌⊎◌, true, List}
+use Rattle.std.specs.Prelude.{ℕ, ◌<◌, ◌≡◌, ◌⊎◌, true, List, Option, Some, None}
 use Rattle.finite.specs.Below.{count}
 use Rattle.line.specs.declared.Line.{Line}
 use Rattle.rules.specs.declared.conflicts.Conflict.{Conflict}
@@ -24,7 +24,7 @@ pub record Crowded (l : Line) (m : List ℕ) (x : StationConflict) : Type 0 wher
   pub trains : (i : ℕ) → in_mask x.trains i ≡ true → (i < l.traffic.train_count) × Stands l m x.station x.minute i
   pub many : tracks_at l x.station < count (in_mask x.trains) l.traffic.train_count
 
-abbrev pub Real : Line → List ℕ → Conflict → Type 0
-Real l m Conflict.Nothing = Unit {0}
-Real l m (Conflict.OnSegment x) = Clashing l m x
-Real l m (Conflict.AtStation x) = Crowded l m x
+abbrev pub Real : Line → List ℕ → Option Conflict → Type 0
+Real l m None = Unit {0}
+Real l m (Some (Conflict.OnSegment x)) = Clashing l m x
+Real l m (Some (Conflict.AtStation x)) = Crowded l m x

@@ -1,11 +1,10 @@
 -- Minutes that keep rules 11 to 13 are within the two days: no minute of a train is after its last arrival, and that is not after its latest. So minutes of
 -- which no breach is found are lawful, whatever their entries.
-use Rattle.std.specs.Prelude.{◌≡◌, ℕ, zero, suc, ◌+◌, ◌-◌, ◌<◌, ◌≤◌, List}
+use Rattle.std.specs.Prelude.{◌≡◌, ℕ, zero, suc, ◌+◌, ◌-◌, ◌<◌, ◌≤◌, List, Ok}
 use Rattle.std.proofs.Common.{arith}
 use Rattle.line.specs.declared.Line.{Line}
 use Rattle.line.specs.Within.{Within, Arrays}
 use Rattle.line.specs.RunnableLaws.{within_runnable}
-use Rattle.rules.specs.declared.rules.Breach.{Breach}
 use Rattle.rules.specs.Statement.Paths.{legs}
 use Rattle.rules.specs.Statement.Minutes.{arrival}
 use Rattle.rules.specs.Statement.Rules.{InDays, Lawful}
@@ -29,5 +28,5 @@ module _ (l : Line) (w : Within l) (a : Arrays l) (m : List ℕ) where
         (omega (arith, low, (kept.trains i h).rule11 k b), low)
 
   -- where no breach is found
-  pub clear_lawful : breach_of l m ≡ Breach.None → Lawful l m
+  pub clear_lawful : breach_of l m ≡ Ok tt → Lawful l m
   clear_lawful e = lawful_of l w a m (kept_days (kept_of l w a m e)) e

@@ -1,5 +1,6 @@
 -- What the code needs that looks trains up in the list of dues, and that sums up by due minutes in a list.
-use Rattle.std.specs.Prelude.{◌≡◌, ℕ, ◌+◌, ◌-◌, ◌*◌, ◌<◌, ◌≤◌, List, length, get_or, take, drop, ◌≢◌, slice_index, slice_index_or}
+use Rattle.std.specs.Prelude.{◌≡◌, ℕ, zero, suc, [], ◌∷◌, ◌+◌, ◌-◌, ◌*◌, ◌<◌, ◌≤◌, List, length, get_or, take, drop, ◌≢◌, slice_index, slice_index_or}
+use Rattle.std.specs.List.{AllWithin, HoldsAt}
 use Rattle.std.proofs.Math.Path.{refl, ap}
 use Rattle.std.proofs.Common.{sym, ◌∙◌, mul-zero, arith, length-take-le}
 use Rattle.finite.specs.Below.{sum}
@@ -36,12 +37,31 @@ module _ (xs : List Listed) (count i given j : ℕ) (room : count ≤ length xs)
   unfolding listed_for
   found_nowhere e = rw (left_none count xs j (length-take-le count xs room) e) refl
 
+-- the first entry of train i in a list, and where it has none
+module _ (i given : ℕ) where
+  pub listed_first : (xs : List Listed) (k : ℕ) (x : Listed) → AllWithin (λ y. y.train ≢ i + 1) xs 0 k → k < length xs → HoldsAt (λ y. y ≡ x) xs k →
+      x.train ≡ i + 1 → x.minutes ≡ listed_for xs i given
+  listed_first [] k x before b at e = absurd (omega arith)
+  listed_first (y ∷ xs) zero x before b at e =
+      let same : y ≡ x = at x in
+      sym (ap (λ (z : Listed). z.minutes) same) ∙ sym (listed_here y xs i given (ap (λ (z : Listed). z.train) same ∙ e))
+  listed_first (y ∷ xs) (suc k) x before b at e =
+      listed_first xs k x (λ j d l h. before (suc j) d (omega arith) (omega arith)) (omega arith) at e
+      ∙ sym (listed-later y xs i given (before 0 x (omega arith) (omega arith)))
+
+  pub listed_nowhere : (xs : List Listed) → AllWithin (λ y. y.train ≢ i + 1) xs 0 (length xs) → given ≡ listed_for xs i given
+  unfolding listed_for
+  listed_nowhere [] before = refl
+  listed_nowhere (y ∷ xs) before =
+      listed_nowhere xs (λ j d l h. before (suc j) d (omega arith) (omega arith))
+      ∙ sym (listed-later y xs i given (before 0 no_listed (omega arith) (omega arith)))
+
 -- a line's train i, which has a last leg
 module _ (l : Line) (w : Runnable l) (size : length l.traffic.trains ≡ 12) (i : ℕ) (n : i < l.traffic.train_count) where
   pub last_leg : legs l i - 1 < legs l i
   last_leg = omega (arith, (legs_few (train l i) (routed l i w size n)).0)
 
-  pub due-from : (t : List ℕ) → Floors l t → due_from l.traffic.trains l.dues.listed l.dues.count t i ≡ due l i
+  pub due-from : (t : List ℕ) → Floors l t → due_from l.traffic.trains (take l.dues.count l.dues.listed) t i ≡ due l i
   unfolding due
   due-from t h = ap (listed_for (dues_of l) i) (arrived_line l w t h i n (legs l i - 1) last_leg)
 

@@ -1,5 +1,5 @@
 -- The first breach is none exactly when every rule is kept, 10 to 15 and 18: each test of the scan decides its rule.
-use Rattle.std.specs.Prelude.{◌≡◌, ℕ, ◌+◌, ◌-◌, ◌<◌, ◌≤◌, Bool, true, false, cond, ◌&&◌, ◌⊎◌, List, nat_le}
+use Rattle.std.specs.Prelude.{◌≡◌, ℕ, ◌+◌, ◌-◌, ◌<◌, ◌≤◌, Bool, true, false, cond, ◌&&◌, ◌⊎◌, List, nat_le, Option, Some, None, Ok}
 use Rattle.std.proofs.Math.Path.{refl, sym}
 use Rattle.std.proofs.Common.{ap, ◌∙◌, inl, inr, ⊎_elim, true≢false, arith}
 use Rattle.std.proofs.Math.Decide.{dec_lt}
@@ -13,9 +13,7 @@ use Rattle.line.specs.declared.Line.{Line}
 use Rattle.line.specs.Within.{Within, Arrays}
 use Rattle.line.specs.RunnableLaws.{within_runnable}
 use Rattle.rules.specs.declared.conflicts.Conflict.{Conflict}
-use Rattle.rules.specs.declared.stations.MinuteFound.{MinuteFound}
 use Rattle.rules.specs.declared.passages.Passage.{Passage}
-use Rattle.rules.specs.declared.rules.Breach.{Breach}
 use Rattle.rules.specs.Statement.Paths.{train, segment_count, segment, tracks_at, outbound, same_way, Uses, Middle, EachTrain}
 use Rattle.rules.specs.Statement.Minutes.{departs_on, arrives_on}
 use Rattle.rules.specs.Statement.Rules.{InDays, TrainRules, NotLate, GapBy, Before, Apart, stands, standing, Room, Lawful}
@@ -69,10 +67,10 @@ module _ (l : Line) (few : l.traffic.train_count ≤ 12) (m : List ℕ) (p : ℕ
   of_apart h i a j b = is_false (decides_conflict i j a b) (λ c. c.1.1.1 (h i a j b c.0 c.1.0 c.1.1.0))
 
   -- no pair is found exactly when the rule is kept
-  pair_clear : pair_on (segment l p) (directions_of l) m l.traffic.train_count p ≡ Conflict.Nothing → Apart l m p
+  pair_clear : pair_on (segment l p) (directions_of l) m l.traffic.train_count p ≡ None → Apart l m p
   pair_clear e = apart_of (none_clash (segment l p) (directions_of l) m l.traffic.train_count p e)
 
-  clear_pair : Apart l m p → pair_on (segment l p) (directions_of l) m l.traffic.train_count p ≡ Conflict.Nothing
+  clear_pair : Apart l m p → pair_on (segment l p) (directions_of l) m l.traffic.train_count p ≡ None
   clear_pair h = clash_none (segment l p) (directions_of l) m l.traffic.train_count p (of_apart h)
 
 -- ---- rule 15
@@ -127,10 +125,10 @@ pub record KeptRules (l : Line) (m : List ℕ) : Type 0 where
   pub rule14 : EachBelow (segment_count l) (Apart l m)
   pub rule15 : EachBelow l.track.station_count (Room l m)
 
-no_conflict : (c : Conflict) → conflict_breach c ≡ Breach.None → c ≡ Conflict.Nothing
-no_conflict Conflict.Nothing e = refl
-no_conflict (Conflict.OnSegment x) e = let z : ◌≡◌ {A = ℕ} 0 1 = cc in absurd (omega arith)
-no_conflict (Conflict.AtStation x) e = let z : ◌≡◌ {A = ℕ} 0 1 = cc in absurd (omega arith)
+no_conflict : (c : Option Conflict) → conflict_breach c ≡ Ok tt → c ≡ None
+no_conflict None e = refl
+no_conflict (Some (Conflict.OnSegment x)) e = let z : ◌≡◌ {A = ℕ} 0 1 = cc in absurd (omega arith)
+no_conflict (Some (Conflict.AtStation x)) e = let z : ◌≡◌ {A = ℕ} 0 1 = cc in absurd (omega arith)
 
 module _ (l : Line) (w : Within l) (a : Arrays l) (m : List ℕ) where
   few_trains : l.traffic.train_count ≤ 12
@@ -139,19 +137,19 @@ module _ (l : Line) (w : Within l) (a : Arrays l) (m : List ℕ) where
   -- ---- rule 14 on every segment
 
   -- on one of them
-  pub segment_clear : (p : ℕ) → p < segment_count l → pair_on (segment l p) (directions_of l) m l.traffic.train_count p ≡ Conflict.Nothing → Apart l m p
+  pub segment_clear : (p : ℕ) → p < segment_count l → pair_on (segment l p) (directions_of l) m l.traffic.train_count p ≡ None → Apart l m p
   segment_clear p b e = pair_clear l few_trains m p (omega (arith, w.stations.1)) e
 
-  pub clear_segment : (p : ℕ) → p < segment_count l → Apart l m p → pair_on (segment l p) (directions_of l) m l.traffic.train_count p ≡ Conflict.Nothing
+  pub clear_segment : (p : ℕ) → p < segment_count l → Apart l m p → pair_on (segment l p) (directions_of l) m l.traffic.train_count p ≡ None
   clear_segment p b h = clear_pair l few_trains m p (omega (arith, w.stations.1)) h
 
-  segments_clear : segment_conflict l.track.segments (directions_of l) m (segment_count l) l.traffic.train_count ≡ Conflict.Nothing →
+  segments_clear : segment_conflict l.track.segments (directions_of l) m (segment_count l) l.traffic.train_count ≡ None →
       EachBelow (segment_count l) (Apart l m)
   unfolding segment_conflict
   segments_clear e p b = segment_clear p b (none_conflict _ (segment_count l) e p b)
 
   clear_segments : EachBelow (segment_count l) (Apart l m) →
-      segment_conflict l.track.segments (directions_of l) m (segment_count l) l.traffic.train_count ≡ Conflict.Nothing
+      segment_conflict l.track.segments (directions_of l) m (segment_count l) l.traffic.train_count ≡ None
   unfolding segment_conflict
   clear_segments h = conflict_none _ (segment_count l) (λ p b. clear_segment p b (h p b))
 
@@ -163,21 +161,21 @@ module _ (l : Line) (w : Within l) (a : Arrays l) (m : List ℕ) where
   ends_free s (inr e) = nobody_stands l m s (λ i b h. let t = train_runnable l i (within_runnable l w) a.trains b in omega (arith, h.1, t.origin.1, t.destination.1))
 
   crowd_clear : (s : ℕ) → 0 < s → s + 1 < l.track.station_count →
-      crowd_on l.track.tracks (directions_of l) m l.track.station_count l.traffic.train_count s ≡ Conflict.Nothing → Room l m s
+      crowd_on l.track.tracks (directions_of l) m l.track.station_count l.traffic.train_count s ≡ None → Room l m s
   crowd_clear s o b e =
       room_clear l few_trains m s o (omega (arith, w.stations.1)) (tracks_at l s) refl
       (never_crowded (directions_of l) m l.traffic.train_count (tracks_at l s) s
       (never _ (sym (crowd-middle l.track.tracks (directions_of l) m l.track.station_count l.traffic.train_count s o b) ∙ e)))
     where
-      never : (f : MinuteFound) → crowd_at (directions_of l) m l.traffic.train_count (tracks_at l s) s f ≡ Conflict.Nothing → f ≡ MinuteFound.Never
-      never MinuteFound.Never q = refl
-      never (MinuteFound.Minute t) q = let z : ◌≡◌ {A = ℕ} 0 1 = cc in absurd (omega arith)
+      never : (f : Option ℕ) → crowd_at (directions_of l) m l.traffic.train_count (tracks_at l s) s f ≡ None → f ≡ None
+      never None q = refl
+      never (Some t) q = let z : ◌≡◌ {A = ℕ} 0 1 = cc in absurd (omega arith)
 
   clear_crowd : (s : ℕ) → 0 < s → s + 1 < l.track.station_count → Room l m s →
-      crowd_on l.track.tracks (directions_of l) m l.track.station_count l.traffic.train_count s ≡ Conflict.Nothing
+      crowd_on l.track.tracks (directions_of l) m l.track.station_count l.traffic.train_count s ≡ None
   clear_crowd s o b h =
       crowd-middle l.track.tracks (directions_of l) m l.track.station_count l.traffic.train_count s o b
-      ∙ ap (λ (f : MinuteFound). crowd_at (directions_of l) m l.traffic.train_count (tracks_at l s) s f)
+      ∙ ap (λ (f : Option ℕ). crowd_at (directions_of l) m l.traffic.train_count (tracks_at l s) s f)
       (crowded_never (directions_of l) m l.traffic.train_count (tracks_at l s) s
       (clear_room l few_trains m s o (omega (arith, w.stations.1)) (tracks_at l s) refl h))
 
@@ -189,34 +187,34 @@ module _ (l : Line) (w : Within l) (a : Arrays l) (m : List ℕ) where
   ]
 
   pub station_clear : (s : ℕ) →
-      crowd_on l.track.tracks (directions_of l) m l.track.station_count l.traffic.train_count s ≡ Conflict.Nothing → Room l m s
+      crowd_on l.track.tracks (directions_of l) m l.track.station_count l.traffic.train_count s ≡ None → Room l m s
   station_clear s e = by_place s (λ z. ends_free s (inl z)) (λ z. ends_free s (inr z)) (λ o k. crowd_clear s o k e)
 
   pub clear_station : (s : ℕ) → Room l m s →
-      crowd_on l.track.tracks (directions_of l) m l.track.station_count l.traffic.train_count s ≡ Conflict.Nothing
+      crowd_on l.track.tracks (directions_of l) m l.track.station_count l.traffic.train_count s ≡ None
   clear_station s h =
       by_place s (crowd-first l.track.tracks (directions_of l) m l.track.station_count l.traffic.train_count s)
       (crowd_last l.track.tracks (directions_of l) m l.track.station_count l.traffic.train_count s) (λ o k. clear_crowd s o k h)
 
-  stations_clear : station_conflict l.track.tracks (directions_of l) m l.track.station_count l.traffic.train_count ≡ Conflict.Nothing →
+  stations_clear : station_conflict l.track.tracks (directions_of l) m l.track.station_count l.traffic.train_count ≡ None →
       EachBelow l.track.station_count (Room l m)
   unfolding station_conflict
   stations_clear e s b = station_clear s (none_conflict _ l.track.station_count e s b)
 
   clear_stations : EachBelow l.track.station_count (Room l m) →
-      station_conflict l.track.tracks (directions_of l) m l.track.station_count l.traffic.train_count ≡ Conflict.Nothing
+      station_conflict l.track.tracks (directions_of l) m l.track.station_count l.traffic.train_count ≡ None
   unfolding station_conflict
   clear_stations h = conflict_none _ l.track.station_count (λ s b. clear_station s (h s b))
 
   -- ---- the theorem
 
   -- where there is no conflict rules 14 and 15 are kept
-  pub clear_of : conflict_of l m ≡ Conflict.Nothing → EachBelow (segment_count l) (Apart l m) × EachBelow l.track.station_count (Room l m)
+  pub clear_of : conflict_of l m ≡ None → EachBelow (segment_count l) (Apart l m) × EachBelow l.track.station_count (Room l m)
   unfolding conflict_of
   clear_of e = let c = or_nothing _ _ e in (segments_clear c.0, stations_clear c.1)
 
   -- where no breach is found every rule is kept
-  pub kept_of : breach_of l m ≡ Breach.None → KeptRules l m
+  pub kept_of : breach_of l m ≡ Ok tt → KeptRules l m
   unfolding breach_of
   kept_of e =
       let r10 = or_none (train_breach 10 l m) _ e in
@@ -238,7 +236,7 @@ module _ (l : Line) (w : Within l) (a : Arrays l) (m : List ℕ) where
       }
 
   -- where every rule is kept no breach is found
-  pub of_kept : KeptRules l m → breach_of l m ≡ Breach.None
+  pub of_kept : KeptRules l m → breach_of l m ≡ Ok tt
   unfolding breach_of conflict_of
   of_kept k =
       let b10 = sym (breach_none 10 l m (λ i b. is_true (decides_10 l m i) (k.trains i b).rule10)) in
@@ -249,11 +247,11 @@ module _ (l : Line) (w : Within l) (a : Arrays l) (m : List ℕ) where
       rw (b10, b11, b12, b18, b13, clear_segments k.rule14, clear_stations k.rule15) refl
 
   -- minutes in days are lawful exactly when no breach is found
-  pub lawful_of : EachTrain l (InDays l m) → breach_of l m ≡ Breach.None → Lawful l m
+  pub lawful_of : EachTrain l (InDays l m) → breach_of l m ≡ Ok tt → Lawful l m
   lawful_of h e =
       let k = kept_of e in
       record { days = h; trains = k.trains; rule13 = k.rule13; rule14 = k.rule14; rule15 = k.rule15 }
 
-  pub of_lawful : Lawful l m → breach_of l m ≡ Breach.None
+  pub of_lawful : Lawful l m → breach_of l m ≡ Ok tt
   of_lawful h =
       of_kept record { trains = h.trains; rule13 = h.rule13; rule14 = h.rule14; rule15 = h.rule15 }

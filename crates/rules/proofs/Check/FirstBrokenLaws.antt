@@ -1,18 +1,19 @@
 -- The breach that is found is the first in the order of the papers (`first_broken`), there is no other such number and place (`broken_only`), and both have
 -- their bounds (`broken_bounds`).
-use Rattle.std.specs.Prelude.{◌≡◌, ℕ, zero, suc, ◌+◌, ◌<◌, ◌≤◌, Bool, not, ◌⊎◌, List, [], ◌∷◌, ◌≢◌}
+use Rattle.std.specs.Prelude.{◌≡◌, ℕ, zero, suc, ◌+◌, ◌<◌, ◌≤◌, Bool, not, ◌⊎◌, List, [], ◌∷◌, ◌≢◌, Option, Some, None, Result, Ok, Err, ⊤}
 use Rattle.std.proofs.Math.Path.{refl, ap, subst⁻¹}
 use Rattle.std.proofs.Common.{sym, ◌∙◌, subst, inl, inr, arith}
-use Rattle.std.proofs.Math.Option.{Option, some, none}
+use Rattle.std.proofs.Math.Option.{Option as Maybe, some, none}
 use Rattle.std.proofs.lemmas.Bool.{not-true, not-false}
 use Rattle.finite.specs.Decide.{Decides}
 use Rattle.finite.specs.Below.{EachBelow, first, IsFirst}
 use Rattle.finite.specs.LoopLaws.{first_is}
+use Rattle.text.specs.declared.Refusal.{Refusal}
+use Rattle.text.specs.Reading.Told.{refusal}
 use Rattle.line.specs.declared.Line.{Line}
 use Rattle.line.specs.Within.{Within, Arrays}
 use Rattle.line.specs.RunnableLaws.{within_runnable}
 use Rattle.rules.specs.declared.conflicts.Conflict.{Conflict}
-use Rattle.rules.specs.declared.rules.Breach.{Breach}
 use Rattle.rules.specs.Statement.Paths.{segment_count, segment}
 use Rattle.rules.specs.Statement.FirstBroken.{CheckedRule, early, run, stop, booked, late, gap, tracks, checked_order, number_of, places_of, HoldsAt, HoldsEverywhere, BrokenAt, FirstBroken}
 use Rattle.rules.specs.Check.Tests.{keeps_rule}
@@ -26,79 +27,74 @@ use Rattle.rules.specs.Scan.StationLaws.{none_conflict}
 
 -- ---- the first of several conflicts
 
-abbrev Something : Conflict → Type 0
-Something Conflict.Nothing = ⊥
-Something (Conflict.OnSegment x) = Unit {0}
-Something (Conflict.AtStation x) = Unit {0}
+abbrev Something : Option Conflict → Type 0
+Something None = ⊥
+Something (Some x) = Unit {0}
 
-pub record FirstAt (f : ℕ → Conflict) (n : ℕ) : Type 0 where
+pub record FirstAt (f : ℕ → Option Conflict) (n : ℕ) : Type 0 where
   pub at : ℕ
   pub real : at < n
   pub is : first_conflict f n ≡ f at
-  pub some : f at ≡ Conflict.Nothing → ⊥
-  pub below : first_conflict f at ≡ Conflict.Nothing
+  pub some : f at ≡ None → ⊥
+  pub below : first_conflict f at ≡ None
 
-first_at : (f : ℕ → Conflict) (n : ℕ) → (first_conflict f n ≡ Conflict.Nothing) ⊎ FirstAt f n
+first_at : (f : ℕ → Option Conflict) (n : ℕ) → (first_conflict f n ≡ None) ⊎ FirstAt f n
 unfolding first_conflict
 first_at f zero = inl refl
 first_at f (suc n) = more (first_conflict f n) (f n) refl refl (first_at f n)
   where
-    not-nothing : (c : Conflict) → Something c → c ≢ Conflict.Nothing
-    not-nothing Conflict.Nothing s e = s
-    not-nothing (Conflict.OnSegment x) s e = let z : ◌≡◌ {A = ℕ} 0 1 = cc in omega arith
-    not-nothing (Conflict.AtStation x) s e = let z : ◌≡◌ {A = ℕ} 0 1 = cc in omega arith
+    not-nothing : (c : Option Conflict) → Something c → c ≢ None
+    not-nothing None s e = s
+    not-nothing (Some x) s e = let z : ◌≡◌ {A = ℕ} 0 1 = cc in omega arith
 
-    later : (c d : Conflict) → first_conflict f n ≡ c → f n ≡ d → Something d → c ≡ Conflict.Nothing → FirstAt f (suc n)
+    later : (c d : Option Conflict) → first_conflict f n ≡ c → f n ≡ d → Something d → c ≡ None → FirstAt f (suc n)
     later c d p q s e =
         record {
           at = n;
           real = omega arith;
-          is = ap (λ (x : Conflict). or_conflict x (f n)) (p ∙ e);
+          is = ap (λ (x : Option Conflict). or_conflict x (f n)) (p ∙ e);
           some = λ h. not-nothing d s (sym q ∙ h);
           below = p ∙ e;
         }
 
-    earlier : (c : Conflict) → first_conflict f n ≡ c → Something c → (first_conflict f n ≡ Conflict.Nothing) ⊎ FirstAt f n → FirstAt f (suc n)
+    earlier : (c : Option Conflict) → first_conflict f n ≡ c → Something c → (first_conflict f n ≡ None) ⊎ FirstAt f n → FirstAt f (suc n)
     earlier c p s (inl e) = absurd (not-nothing c s (sym p ∙ e))
     earlier c p s (inr w) =
         record { at = w.at; real = omega (arith, w.real); is = kept (first_conflict f n) (f n) (subst⁻¹ Something p s) ∙ w.is; some = w.some; below = w.below }
       where
-        kept : (c d : Conflict) → Something c → or_conflict c d ≡ c
-        kept Conflict.Nothing d s = absurd s
-        kept (Conflict.OnSegment x) d s = refl
-        kept (Conflict.AtStation x) d s = refl
+        kept : (c d : Option Conflict) → Something c → or_conflict c d ≡ c
+        kept None d s = absurd s
+        kept (Some x) d s = refl
 
-    more : (c d : Conflict) → first_conflict f n ≡ c → f n ≡ d → (first_conflict f n ≡ Conflict.Nothing) ⊎ FirstAt f n →
-        (or_conflict (first_conflict f n) (f n) ≡ Conflict.Nothing) ⊎ FirstAt f (suc n)
-    more Conflict.Nothing Conflict.Nothing p q h = inl (ap (λ (x : Conflict). or_conflict x (f n)) p ∙ q)
-    more Conflict.Nothing (Conflict.OnSegment x) p q h = inr (later Conflict.Nothing (Conflict.OnSegment x) p q tt refl)
-    more Conflict.Nothing (Conflict.AtStation x) p q h = inr (later Conflict.Nothing (Conflict.AtStation x) p q tt refl)
-    more (Conflict.OnSegment x) d p q h = inr (earlier (Conflict.OnSegment x) p tt h)
-    more (Conflict.AtStation x) d p q h = inr (earlier (Conflict.AtStation x) p tt h)
+    more : (c d : Option Conflict) → first_conflict f n ≡ c → f n ≡ d → (first_conflict f n ≡ None) ⊎ FirstAt f n →
+        (or_conflict (first_conflict f n) (f n) ≡ None) ⊎ FirstAt f (suc n)
+    more None None p q h = inl (ap (λ (x : Option Conflict). or_conflict x (f n)) p ∙ q)
+    more None (Some x) p q h = inr (later None (Some x) p q tt refl)
+    more (Some x) d p q h = inr (earlier (Some x) p tt h)
 
 -- ---- what an answer says of one rule, and of several in their order
 
 module _ (l : Line) (m : List ℕ) where
-  abbrev Says : CheckedRule → Breach → Type 0
-  Says r Breach.None = HoldsEverywhere l m r
-  Says r (Breach.Rule n p) = BrokenAt l m r n p
+  abbrev Says : CheckedRule → Result ⊤ Refusal → Type 0
+  Says r (Ok _) = HoldsEverywhere l m r
+  Says r (Err x) = BrokenAt l m r x.number x.place
 
   abbrev AllHold : List CheckedRule → Type 0
   AllHold [] = Unit {0}
   AllHold (r ∷ rs) = HoldsEverywhere l m r × AllHold rs
 
-  abbrev SaysAll : List CheckedRule → Breach → Type 0
-  SaysAll rs Breach.None = AllHold rs
-  SaysAll rs (Breach.Rule n p) = FirstBroken l m rs n p
+  abbrev SaysAll : List CheckedRule → Result ⊤ Refusal → Type 0
+  SaysAll rs (Ok _) = AllHold rs
+  SaysAll rs (Err x) = FirstBroken l m rs x.number x.place
 
-  says_then : (r : CheckedRule) (rs : List CheckedRule) (a b : Breach) → Says r a → SaysAll rs b → SaysAll (r ∷ rs) (or_breach a b)
-  says_then r rs Breach.None Breach.None h k = (h, k)
-  says_then r rs Breach.None (Breach.Rule n p) h k = inr (h, k)
-  says_then r rs (Breach.Rule n p) b h k = inl h
+  says_then : (r : CheckedRule) (rs : List CheckedRule) (a b : Result ⊤ Refusal) → Says r a → SaysAll rs b → SaysAll (r ∷ rs) (or_breach a b)
+  says_then r rs (Ok _) (Ok _) h k = (h, k)
+  says_then r rs (Ok _) (Err x) h k = inr (h, k)
+  says_then r rs (Err x) b h k = inl h
 
-  says_last : (r : CheckedRule) (a : Breach) → Says r a → SaysAll (r ∷ []) a
-  says_last r Breach.None h = (h, tt)
-  says_last r (Breach.Rule n p) h = inl h
+  says_last : (r : CheckedRule) (a : Result ⊤ Refusal) → Says r a → SaysAll (r ∷ []) a
+  says_last r (Ok _) h = (h, tt)
+  says_last r (Err x) h = inl h
 
   -- ---- a rule of the trains
 
@@ -110,7 +106,7 @@ module _ (l : Line) (m : List ℕ) where
       fails : ℕ → Bool
       fails i = not (keeps_rule (number_of r) l m i)
 
-      go : (o : Option ℕ) → IsFirst fails l.traffic.train_count o → Says r (at_train (number_of r) o)
+      go : (o : Maybe ℕ) → IsFirst fails l.traffic.train_count o → Says r (at_train (number_of r) o)
       go none h = λ i b. (decides i).yea (not-false _ (h i (omega (arith, places))))
       go (some i) h =
           record {
@@ -124,16 +120,16 @@ module _ (l : Line) (m : List ℕ) where
 
   -- ---- a rule of the conflicts: each place has its own conflict, or none where the rule holds
 
-  pub record ByPlace (r : CheckedRule) (f : ℕ → Conflict) (i : ℕ) : Type 0 where
-    pub holds : f i ≡ Conflict.Nothing → HoldsAt l m r i
-    pub clear : HoldsAt l m r i → f i ≡ Conflict.Nothing
-    pub told : (f i ≢ Conflict.Nothing) → conflict_breach (f i) ≡ Breach.Rule (number_of r) (i + 1)
+  pub record ByPlace (r : CheckedRule) (f : ℕ → Option Conflict) (i : ℕ) : Type 0 where
+    pub holds : f i ≡ None → HoldsAt l m r i
+    pub clear : HoldsAt l m r i → f i ≡ None
+    pub told : (f i ≢ None) → conflict_breach (f i) ≡ refusal (number_of r) (i + 1)
 
-  conflict_says : (r : CheckedRule) (f : ℕ → Conflict) → EachBelow (places_of l r) (ByPlace r f) → Says r (conflict_breach (first_conflict f (places_of l r)))
+  conflict_says : (r : CheckedRule) (f : ℕ → Option Conflict) → EachBelow (places_of l r) (ByPlace r f) → Says r (conflict_breach (first_conflict f (places_of l r)))
   conflict_says r f each = go (first_at f (places_of l r))
     where
-      go : (first_conflict f (places_of l r) ≡ Conflict.Nothing) ⊎ FirstAt f (places_of l r) → Says r (conflict_breach (first_conflict f (places_of l r)))
-      go (inl e) = subst⁻¹ (λ (c : Conflict). Says r (conflict_breach c)) e (λ i b. (each i b).holds (none_conflict f (places_of l r) e i b))
+      go : (first_conflict f (places_of l r) ≡ None) ⊎ FirstAt f (places_of l r) → Says r (conflict_breach (first_conflict f (places_of l r)))
+      go (inl e) = subst⁻¹ (λ (c : Option Conflict). Says r (conflict_breach c)) e (λ i b. (each i b).holds (none_conflict f (places_of l r) e i b))
       go (inr w) =
           let here = each w.at w.real in
           subst⁻¹ (Says r) (ap conflict_breach w.is ∙ here.told w.some) (record {
@@ -145,10 +141,10 @@ module _ (l : Line) (m : List ℕ) where
             broken = λ h. w.some (here.clear h);
           })
 
-  or_told : (c d : Conflict) → conflict_breach (or_conflict c d) ≡ or_breach (conflict_breach c) (conflict_breach d)
-  or_told Conflict.Nothing d = refl
-  or_told (Conflict.OnSegment x) d = refl
-  or_told (Conflict.AtStation x) d = refl
+  or_told : (c d : Option Conflict) → conflict_breach (or_conflict c d) ≡ or_breach (conflict_breach c) (conflict_breach d)
+  or_told None d = refl
+  or_told (Some (Conflict.OnSegment x)) d = refl
+  or_told (Some (Conflict.AtStation x)) d = refl
 
 -- ---- the theorem
 
@@ -156,10 +152,10 @@ module _ (l : Line) (w : Within l) (a : Arrays l) (m : List ℕ) where
   abbrev n : ℕ
   n = l.traffic.train_count
 
-  abbrev pair : ℕ → Conflict
+  abbrev pair : ℕ → Option Conflict
   pair p = pair_on (segment l p) (directions_of l) m n p
 
-  abbrev crowd : ℕ → Conflict
+  abbrev crowd : ℕ → Option Conflict
   crowd s = crowd_on l.track.tracks (directions_of l) m l.track.station_count n s
 
   segments_say : Says l m gap (conflict_breach (segment_conflict l.track.segments (directions_of l) m (segment_count l) n))
@@ -171,10 +167,10 @@ module _ (l : Line) (w : Within l) (a : Arrays l) (m : List ℕ) where
         told = λ real. told p (pair p) (pair_only (segment l p) (directions_of l) m n p) real;
       })
     where
-      told : (p : ℕ) (c : Conflict) → OnlyOn p c → (c ≢ Conflict.Nothing) → conflict_breach c ≡ Breach.Rule 14 (p + 1)
-      told p Conflict.Nothing o real = absurd (real refl)
-      told p (Conflict.OnSegment x) o real = ap (λ (k : ℕ). Breach.Rule 14 (k + 1)) o
-      told p (Conflict.AtStation x) o real = absurd o
+      told : (p : ℕ) (c : Option Conflict) → OnlyOn p c → (c ≢ None) → conflict_breach c ≡ refusal 14 (p + 1)
+      told p None o real = absurd (real refl)
+      told p (Some (Conflict.OnSegment x)) o real = ap (λ (k : ℕ). refusal 14 (k + 1)) o
+      told p (Some (Conflict.AtStation x)) o real = absurd o
 
   stations_say : Says l m tracks (conflict_breach (station_conflict l.track.tracks (directions_of l) m l.track.station_count n))
   unfolding station_conflict
@@ -185,15 +181,15 @@ module _ (l : Line) (w : Within l) (a : Arrays l) (m : List ℕ) where
         told = λ real. told s (crowd s) (crowd_only l.track.tracks (directions_of l) m l.track.station_count n s) real;
       })
     where
-      told : (s : ℕ) (c : Conflict) → OnlyAt s c → (c ≢ Conflict.Nothing) → conflict_breach c ≡ Breach.Rule 15 (s + 1)
-      told s Conflict.Nothing o real = absurd (real refl)
-      told s (Conflict.OnSegment x) o real = absurd o
-      told s (Conflict.AtStation x) o real = ap (λ (k : ℕ). Breach.Rule 15 (k + 1)) o
+      told : (s : ℕ) (c : Option Conflict) → OnlyAt s c → (c ≢ None) → conflict_breach c ≡ refusal 15 (s + 1)
+      told s None o real = absurd (real refl)
+      told s (Some (Conflict.OnSegment x)) o real = absurd o
+      told s (Some (Conflict.AtStation x)) o real = ap (λ (k : ℕ). refusal 15 (k + 1)) o
 
-  abbrev on_segments : Conflict
+  abbrev on_segments : Option Conflict
   on_segments = segment_conflict l.track.segments (directions_of l) m (segment_count l) n
 
-  abbrev at_stations : Conflict
+  abbrev at_stations : Option Conflict
   at_stations = station_conflict l.track.tracks (directions_of l) m l.track.station_count n
 
   conflicts_say : SaysAll l m (gap ∷ tracks ∷ []) (conflict_breach (conflict_of l m))
@@ -217,7 +213,7 @@ module _ (l : Line) (w : Within l) (a : Arrays l) (m : List ℕ) where
       says_then l m late (gap ∷ tracks ∷ []) (train_breach 13 l m) b14 (train_says l m late refl (decides_13 l m)) conflicts_say))))
 
   -- the breach that is found is the first that the minutes have
-  pub first_broken : (k p : ℕ) → breach_of l m ≡ Breach.Rule k p → FirstBroken l m checked_order k p
+  pub first_broken : (k p : ℕ) → breach_of l m ≡ refusal k p → FirstBroken l m checked_order k p
   first_broken k p e = subst (SaysAll l m checked_order) e all_say
 
 -- ---- there is one first breach at most

@@ -1,11 +1,12 @@
 -- Laws of the list of floors: a booking raises the entry of its own leg alone, and each booking of a line has its entry; by the list, rule 18 and the free
 -- arrivals are those of the line, also where a train comes by itself.
-use Rattle.std.specs.Prelude.{◌≡◌, ℕ, zero, suc, ◌+◌, ◌-◌, ◌*◌, ◌<◌, ◌≤◌, max, List, length, get_or, replicate, ◌≢◌, nat_le, slice_index, slice_index_or, slice_set}
+use Rattle.std.specs.Prelude.{◌≡◌, ℕ, zero, suc, ◌+◌, ◌-◌, ◌*◌, ◌<◌, ◌≤◌, max, List, length, take, get_or, replicate, ◌≢◌, nat_le, slice_index, slice_index_or, slice_set}
 use Rattle.std.proofs.Math.Path.{refl}
-use Rattle.std.proofs.Common.{sym, ap, ◌∙◌, arith, length-set, length-take-le, get_or-set_same, get_or-set_other}
+use Rattle.std.proofs.Common.{sym, ap, ◌∙◌, arith, length-set, length-take-le, get_or-take, get_or-set_same, get_or-set_other}
 use Rattle.std.proofs.Math.Decide.{ℕ_discrete}
 use Rattle.std.proofs.Math.Numerals.{add-one}
 use Rattle.std.proofs.lemmas.List.{length-replicate, get_or-replicate}
+use Rattle.finite.specs.Below.{EachBelow, most}
 use Rattle.finite.specs.LoopLaws.{most_none, most-more}
 use Rattle.finite.specs.BelowLaws.{all_same}
 use Rattle.finite.specs.DecideLaws.{is_true, is_false}
@@ -71,6 +72,33 @@ pub floors_line : (l : Line) (t : List ℕ) → FloorsBy l.traffic.trains l.book
 unfolding floor_of
 floors_line l t h = record { size = h.size; entries = h.entries }
 
+most_same : (f g : ℕ → ℕ) (n : ℕ) → EachBelow n (λ j. f j ≡ g j) → most f n ≡ most g n
+most_same f g zero h = most_none f ∙ sym (most_none g)
+most_same f g (suc n) h =
+    rw (← add-one) (omega (arith, most-more f n, most-more g n, most_same f g n (λ j b. h j (omega arith)), h n (omega arith)))
+
+-- for the code, which takes the bookings of the line out of its array
+module _ (l : Line) (w : Runnable l) (size : length l.booked.bookings ≡ 120) {count : ℕ} (number : count ≡ l.booked.booking_count) where
+  abbrev booked : List Booking
+  booked = take count l.booked.bookings
+
+  booked_long : length booked ≡ l.booked.booking_count
+  booked_long = omega (arith, length-take-le count l.booked.bookings (omega (arith, number, size, w.bookings.1)), number)
+
+  booked_at : (j : ℕ) → j < l.booked.booking_count → slice_index_or booked j no_booking ≡ booking l j
+  booked_at j b = get_or-take count l.booked.bookings j no_booking (omega (arith, b, number))
+
+  pub floors_taken : (t : List ℕ) → FloorsBy l.traffic.trains booked (length booked) t → Floors l t
+  floors_taken t h =
+      floors_line l t
+      record {
+        size = h.size;
+        entries = λ i k a b.
+            h.entries i k a b
+            ∙ ap (most _) booked_long
+            ∙ most_same _ _ l.booked.booking_count (λ j c. ap (λ (x : Booking). booked_minute (train l i) i k x) (booked_at j c));
+      }
+
 -- rule 18 by the list is that by the floors of the line
 pub booked_listed : (l : Line) (m : List ℕ) (i : ℕ) (t : List ℕ) → Floors l t → i < 12 → legs l i ≤ 11 →
     booked_right (floor_in t i) (train l i) m i ≡ booked_right (floor_of l i) (train l i) m i
@@ -109,6 +137,12 @@ has_entry l w trains bookings j b =
     let own : (booking l j).train ≡ i + 1 = omega (arith, v.train.0) in
     let used : i < l.traffic.train_count = omega (arith, v.train, many, own) in
     record { train = (v.train.0, omega (arith, own, used, w.trains.1)); leg = omega (arith, booked_leg l w i j b own, legs-most l i w used) }
+
+pub taken_entry : (l : Line) → Runnable l → length l.traffic.trains ≡ 12 → length l.booked.bookings ≡ 120 → {count : ℕ} → count ≡ l.booked.booking_count →
+    (j : ℕ) → j < length (take count l.booked.bookings) → HasEntry l.traffic.trains (slice_index_or (take count l.booked.bookings) j no_booking)
+taken_entry l w trains bookings number j b =
+    let used : j < l.booked.booking_count = omega (arith, b, booked_long l w bookings number) in
+    rw (booked_at l w bookings number j used) (has_entry l w trains bookings j used)
 
 -- train i of some line, alone on it: worked out from the train by itself it is the free arrival, and there is room for it
 module _ (x : Train) (t : List ℕ) (i k : ℕ) (h : RunsAlone x t i k) where

@@ -124,7 +124,7 @@ module _ (t : Train) (m : List ℕ) (i : ℕ) where
   unfolding ends_right
   ends_is e h = rw (h, e) refl
 
-  -- rule n, as the code tells one number from the other
+  -- rule n, one number told from the other
   module _ (floor : ℕ → ℕ) (n : ℕ) {r : Bool} where
     pub keeps_start : n ≡ 10 → r ≡ starts_right t m i → r ≡ keeps_by n floor t m i
     unfolding keeps_by

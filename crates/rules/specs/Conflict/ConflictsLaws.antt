@@ -1,5 +1,5 @@
 -- What the scan for conflicts needs of the definitions: searches that stop at the first conflict, and each test of rule 14 by the arms of its code.
-use Rattle.std.specs.Prelude.{◌≡◌, ℕ, zero, suc, ◌+◌, ◌<◌, ◌≤◌, Bool, true, false, not, ◌||◌, ◌⊎◌, List, ◌==◌, ◌≢◌, slice_index_or}
+use Rattle.std.specs.Prelude.{◌≡◌, ℕ, zero, suc, ◌+◌, ◌<◌, ◌≤◌, Bool, true, false, not, ◌||◌, ◌⊎◌, List, ◌==◌, ◌≢◌, slice_index_or, Option, Some, None}
 use Rattle.std.proofs.Math.Path.{refl, sym, ap}
 use Rattle.std.proofs.Common.{◌∙◌, ap₂, inl, inr, true≢false, add-one, eqb-true, eq-eqb, ne_eqb}
 use Rattle.std.proofs.Math.Decide.{dec_lt}
@@ -16,23 +16,22 @@ use Rattle.line.specs.Record.{no_segment}
 use Rattle.rules.specs.declared.conflicts.Conflict.{Conflict}
 use Rattle.rules.specs.declared.conflicts.Layout.{Layout}
 use Rattle.rules.specs.declared.passages.Passage.{Passage}
-use Rattle.rules.specs.declared.passages.TrainFound.{TrainFound}
 use Rattle.rules.specs.Conflict.Directions.{directions_of, way}
-use Rattle.rules.specs.Conflict.Conflicts.{or_conflict, first_conflict, gap_by, passage, keeps_after, neither_first, clash, train_found, partner_of, pair_with, pair_on, segment_conflict, conflict_of, layout_of, conflict_in}
+use Rattle.rules.specs.Conflict.Conflicts.{or_conflict, first_conflict, gap_by, passage, keeps_after, neither_first, clash, option_of, partner_of, pair_with, pair_on, segment_conflict, conflict_of, layout_of, conflict_in}
 use Rattle.rules.specs.Scan.Scanning.{neither_alone, keeps_behind, neither_behind}
 
 -- ---- a search: nothing among the first i, and then at i nothing, or the conflict x
 
-module _ (f : ℕ → Conflict) where
-  pub conflict_start : first_conflict f 0 ≡ Conflict.Nothing
+module _ (f : ℕ → Option Conflict) where
+  pub conflict_start : first_conflict f 0 ≡ None
   unfolding first_conflict
   conflict_start = refl
 
-  pub conflict_on : (i : ℕ) → first_conflict f i ≡ Conflict.Nothing → f i ≡ Conflict.Nothing → first_conflict f (i + 1) ≡ Conflict.Nothing
+  pub conflict_on : (i : ℕ) → first_conflict f i ≡ None → f i ≡ None → first_conflict f (i + 1) ≡ None
   unfolding first_conflict
   conflict_on i e h = rw (add-one, e, h)
 
-  pub conflict_hit : (n i : ℕ) (x : Conflict) → i < n → first_conflict f i ≡ Conflict.Nothing → f i ≡ x → ((c : Conflict) → or_conflict x c ≡ x) →
+  pub conflict_hit : (n i : ℕ) (x : Option Conflict) → i < n → first_conflict f i ≡ None → f i ≡ x → ((c : Option Conflict) → or_conflict x c ≡ x) →
       first_conflict f n ≡ x
   unfolding first_conflict
   conflict_hit zero i x l e h s = absurd (omega arith)
@@ -42,17 +41,15 @@ module _ (f : ℕ → Conflict) where
   ]
 
 -- for the code that tells by the variant's tag that there is a conflict, and returns it
-pub conflict_stays : (tag : Conflict → ℕ) → tag Conflict.Nothing ≡ 0 → (x : Conflict) → (tag x ≡ 1) ⊎ (tag x ≡ 2) → (c : Conflict) → or_conflict x c ≡ x
-conflict_stays tag z Conflict.Nothing (inl h) c = absurd (omega arith)
-conflict_stays tag z Conflict.Nothing (inr h) c = absurd (omega arith)
-conflict_stays tag z (Conflict.OnSegment s) h c = refl
-conflict_stays tag z (Conflict.AtStation s) h c = refl
+pub conflict_stays : (tag : Option Conflict → ℕ) → tag None ≡ 0 → (x : Option Conflict) → (tag x ≡ 1) ⊎ (tag x ≡ 2) → (c : Option Conflict) → or_conflict x c ≡ x
+conflict_stays tag z None (inl h) c = absurd (omega arith)
+conflict_stays tag z None (inr h) c = absurd (omega arith)
+conflict_stays tag z (Some s) h c = refl
 
 -- the same, told by which conflict it is not
-pub conflict_kept : (x : Conflict) → (x ≡ Conflict.Nothing → ⊥) → (c : Conflict) → or_conflict x c ≡ x
-conflict_kept Conflict.Nothing some c = absurd (some refl)
-conflict_kept (Conflict.OnSegment s) some c = refl
-conflict_kept (Conflict.AtStation s) some c = refl
+pub conflict_kept : (x : Option Conflict) → (x ≡ None → ⊥) → (c : Option Conflict) → or_conflict x c ≡ x
+conflict_kept None some c = absurd (some refl)
+conflict_kept (Some s) some c = refl
 
 -- ---- the gap of rule 14
 
@@ -134,49 +131,49 @@ module _ (g : Segment) (ds m : List ℕ) (p : ℕ) where
     clash-not t = is_false (decides_clash i j) (λ h. true≢false (sym h.1.1.1 ∙ sym (ap₂ (neither_first g) one other) ∙ sym tested ∙ t))
 
   pub partner_found : (i j n : ℕ) → j < n → clash g ds m p i j ≡ true → EachBelow j (λ k. clash g ds m p i k ≡ false) →
-      TrainFound.Train j ≡ partner_of g ds m p n i
+      Some j ≡ partner_of g ds m p n i
   unfolding partner_of
-  partner_found i j n l t h = sym (ap train_found (first_found (clash g ds m p i) n j l t h))
+  partner_found i j n l t h = sym (ap option_of (first_found (clash g ds m p i) n j l t h))
 
-  pub partner_none : (i n : ℕ) → EachBelow n (λ k. clash g ds m p i k ≡ false) → TrainFound.Nobody ≡ partner_of g ds m p n i
+  pub partner_none : (i n : ℕ) → EachBelow n (λ k. clash g ds m p i k ≡ false) → None ≡ partner_of g ds m p n i
   unfolding partner_of
-  partner_none i n h = sym (ap train_found (first_none (clash g ds m p i) n h))
+  partner_none i n h = sym (ap option_of (first_none (clash g ds m p i) n h))
 
   -- no train below i has a partner
   abbrev pub NoPair : ℕ → ℕ → Type 0
-  NoPair n i = first_conflict (λ k. pair_with p k (partner_of g ds m p n k)) i ≡ Conflict.Nothing
+  NoPair n i = first_conflict (λ k. pair_with p k (partner_of g ds m p n k)) i ≡ None
 
-  pub pair-on : (n i : ℕ) → NoPair n i → partner_of g ds m p n i ≡ TrainFound.Nobody → NoPair n (i + 1)
+  pub pair-on : (n i : ℕ) → NoPair n i → partner_of g ds m p n i ≡ None → NoPair n (i + 1)
   pair-on n i e h = conflict_on (λ k. pair_with p k (partner_of g ds m p n k)) i e (ap (pair_with p i) h)
 
-  pub pair_found : (n i j : ℕ) → i < n → NoPair n i → partner_of g ds m p n i ≡ TrainFound.Train j →
-      Conflict.OnSegment (record { segment = p; lower = i; higher = j }) ≡ pair_on g ds m n p
+  pub pair_found : (n i j : ℕ) → i < n → NoPair n i → partner_of g ds m p n i ≡ Some j →
+      Some (Conflict.OnSegment (record { segment = p; lower = i; higher = j })) ≡ pair_on g ds m n p
   unfolding pair_on
   pair_found n i j l e h = sym (conflict_hit (λ k. pair_with p k (partner_of g ds m p n k)) n i _ l e (ap (pair_with p i) h) (λ c. refl))
 
-  pub pair_none : (n i : ℕ) → i ≡ n → NoPair n i → Conflict.Nothing ≡ pair_on g ds m n p
+  pub pair_none : (n i : ℕ) → i ≡ n → NoPair n i → None ≡ pair_on g ds m n p
   unfolding pair_on
   pair_none n i q e = sym e ∙ ap (first_conflict (λ k. pair_with p k (partner_of g ds m p n k))) q
 
 module _ (gs : List Segment) (ds m : List ℕ) (n : ℕ) where
   -- no segment below p has a pair
   abbrev pub NoSegment : ℕ → Type 0
-  NoSegment p = segment_conflict gs ds m p n ≡ Conflict.Nothing
+  NoSegment p = segment_conflict gs ds m p n ≡ None
 
   pub segment-start : NoSegment 0
   unfolding segment_conflict
   segment-start = conflict_start (λ k. pair_on (slice_index_or gs k no_segment) ds m n k)
 
-  pub segment-on : (p : ℕ) → NoSegment p → pair_on (slice_index_or gs p no_segment) ds m n p ≡ Conflict.Nothing → NoSegment (p + 1)
+  pub segment-on : (p : ℕ) → NoSegment p → pair_on (slice_index_or gs p no_segment) ds m n p ≡ None → NoSegment (p + 1)
   unfolding segment_conflict
   segment-on p e h = conflict_on (λ k. pair_on (slice_index_or gs k no_segment) ds m n k) p e h
 
-  pub segment_found : (segments p : ℕ) (x : Conflict) → p < segments → NoSegment p → pair_on (slice_index_or gs p no_segment) ds m n p ≡ x →
-      ((c : Conflict) → or_conflict x c ≡ x) → x ≡ segment_conflict gs ds m segments n
+  pub segment_found : (segments p : ℕ) (x : Option Conflict) → p < segments → NoSegment p → pair_on (slice_index_or gs p no_segment) ds m n p ≡ x →
+      ((c : Option Conflict) → or_conflict x c ≡ x) → x ≡ segment_conflict gs ds m segments n
   unfolding segment_conflict
   segment_found segments p x l e h s = sym (conflict_hit (λ k. pair_on (slice_index_or gs k no_segment) ds m n k) segments p x l e h s)
 
-  pub segment_none : (segments p : ℕ) → p ≡ segments → NoSegment p → Conflict.Nothing ≡ segment_conflict gs ds m segments n
+  pub segment_none : (segments p : ℕ) → p ≡ segments → NoSegment p → None ≡ segment_conflict gs ds m segments n
   segment_none segments p q e = sym e ∙ ap (λ (k : ℕ). segment_conflict gs ds m k n) q
 
 -- ---- by the layout of a line and its table of directions
@@ -186,5 +183,5 @@ unfolding conflict_in conflict_of
 conflict_in_lem l m = refl
 
 -- for the code, which makes both first
-pub conflict_told : (l : Line) (m ds : List ℕ) (y : Layout) (x : Conflict) → y ≡ layout_of l → ds ≡ directions_of l → x ≡ conflict_in y ds m → x ≡ conflict_of l m
+pub conflict_told : (l : Line) (m ds : List ℕ) (y : Layout) (x : Option Conflict) → y ≡ layout_of l → ds ≡ directions_of l → x ≡ conflict_in y ds m → x ≡ conflict_of l m
 conflict_told l m ds y x e f h = h ∙ ap₂ (λ (y : Layout) (ds : List ℕ). conflict_in y ds m) e f ∙ conflict_in_lem l m

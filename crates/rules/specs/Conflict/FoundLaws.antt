@@ -1,8 +1,8 @@
 -- What the scan finds: a pair that the test finds in conflict, or the lowest trains at a minute at which too many stand. So what holds of nothing, of each
 -- such pair and of each such crowd holds of the lowest conflict.
-use Rattle.std.specs.Prelude.{◌≡◌, ℕ, zero, suc, ◌+◌, ◌<◌, Bool, true, false, cond, ◌&&◌, List, nat_lt, slice_index}
+use Rattle.std.specs.Prelude.{◌≡◌, ℕ, zero, suc, ◌+◌, ◌<◌, Bool, true, false, cond, ◌&&◌, List, nat_lt, slice_index, Option, Some, None}
 use Rattle.std.proofs.Math.Path.{refl}
-use Rattle.std.proofs.Math.Option.{Option, some, none}
+use Rattle.std.proofs.Math.Option.{Option as Maybe, some, none}
 use Rattle.std.proofs.Common.{arith}
 use Rattle.finite.specs.DecideLaws.{decides_and, decides_lt}
 use Rattle.finite.specs.Below.{EachBelow, IsFirst, first}
@@ -12,18 +12,17 @@ use Rattle.line.specs.declared.Line.{Line}
 use Rattle.rules.specs.declared.conflicts.Conflict.{Conflict}
 use Rattle.rules.specs.Statement.Paths.{segment_count, segment, tracks_at}
 use Rattle.rules.specs.Conflict.Directions.{directions_of}
-use Rattle.rules.specs.Conflict.Conflicts.{or_conflict, first_conflict, clash, train_found, partner_of, pair_with, pair_on, segment_conflict}
-use Rattle.rules.specs.Conflict.Conflicts.{standing_at, minute_found, earliest_crowd, crowd_mask, crowd_at, crowd_on, station_conflict, conflict_of}
+use Rattle.rules.specs.Conflict.Conflicts.{or_conflict, first_conflict, clash, option_of, partner_of, pair_with, pair_on, segment_conflict}
+use Rattle.rules.specs.Conflict.Conflicts.{standing_at, earliest_crowd, crowd_mask, crowd_at, crowd_on, station_conflict, conflict_of}
 
-module _ (Q : Conflict → Type 0) (nothing : Q Conflict.Nothing) where
+module _ (Q : Option Conflict → Type 0) (nothing : Q None) where
   -- ---- what holds of each conflict holds of the first
 
-  or_holds : (c d : Conflict) → Q c → Q d → Q (or_conflict c d)
-  or_holds Conflict.Nothing d p q = q
-  or_holds (Conflict.OnSegment x) d p q = p
-  or_holds (Conflict.AtStation x) d p q = p
+  or_holds : (c d : Option Conflict) → Q c → Q d → Q (or_conflict c d)
+  or_holds None d p q = q
+  or_holds (Some x) d p q = p
 
-  first_holds : (f : ℕ → Conflict) (n : ℕ) → EachBelow n (λ i. Q (f i)) → Q (first_conflict f n)
+  first_holds : (f : ℕ → Option Conflict) (n : ℕ) → EachBelow n (λ i. Q (f i)) → Q (first_conflict f n)
   unfolding first_conflict
   first_holds f zero h = nothing
   first_holds f (suc n) h = or_holds (first_conflict f n) (f n) (first_holds f n (λ i s. h i (omega arith))) (h n (omega arith))
@@ -33,10 +32,10 @@ module _ (Q : Conflict → Type 0) (nothing : Q Conflict.Nothing) where
   -- of each pair on it that the test finds in conflict
   abbrev pub EachPair : Segment → List ℕ → List ℕ → ℕ → ℕ → Type 0
   EachPair g ds m n p =
-      (i j : ℕ) → i < n → j < n → clash g ds m p i j ≡ true → Q (Conflict.OnSegment (record { segment = p; lower = i; higher = j }))
+      (i j : ℕ) → i < n → j < n → clash g ds m p i j ≡ true → Q (Some (Conflict.OnSegment (record { segment = p; lower = i; higher = j })))
 
   module _ (g : Segment) (ds m : List ℕ) (n p : ℕ) (each : EachPair g ds m n p) where
-    with_holds : (i : ℕ) → i < n → (o : Option ℕ) → IsFirst (clash g ds m p i) n o → Q (pair_with p i (train_found o))
+    with_holds : (i : ℕ) → i < n → (o : Maybe ℕ) → IsFirst (clash g ds m p i) n o → Q (pair_with p i (option_of o))
     with_holds i h none r = nothing
     with_holds i h (some j) r = each i j h r.0 r.1
 
@@ -49,13 +48,13 @@ module _ (Q : Conflict → Type 0) (nothing : Q Conflict.Nothing) where
   -- of each crowd there: more stand at the minute than there are tracks
   abbrev pub EachCrowd : List ℕ → List ℕ → ℕ → ℕ → ℕ → Type 0
   EachCrowd ds m n tracks s =
-      (t : ℕ) → tracks < standing_at ds m n s t → Q (Conflict.AtStation (record { station = s; minute = t; trains = crowd_mask ds m n tracks s t }))
+      (t : ℕ) → tracks < standing_at ds m n s t → Q (Some (Conflict.AtStation (record { station = s; minute = t; trains = crowd_mask ds m n tracks s t })))
 
   module _ (ds m : List ℕ) (n tracks s : ℕ) (each : EachCrowd ds m n tracks s) where
     abbrev crowded : ℕ → Bool
     crowded t = nat_lt tracks (standing_at ds m n s t)
 
-    minute_holds : (o : Option ℕ) → IsFirst crowded 2880 o → Q (crowd_at ds m n tracks s (minute_found o))
+    minute_holds : (o : Maybe ℕ) → IsFirst crowded 2880 o → Q (crowd_at ds m n tracks s (option_of o))
     minute_holds none r = nothing
     minute_holds (some t) r = each t ((decides_lt _ _).yea r.1)
 
@@ -69,7 +68,7 @@ module _ (Q : Conflict → Type 0) (nothing : Q Conflict.Nothing) where
     on_holds s = go (nat_lt 0 s && nat_lt (s + 1) stations) refl
       where
         go : (b : Bool) → nat_lt 0 s && nat_lt (s + 1) stations ≡ b →
-            Q (cond b (crowd_at ds m n (slice_index tracks s) s (earliest_crowd ds m n (slice_index tracks s) s)) Conflict.Nothing)
+            Q (cond b (crowd_at ds m n (slice_index tracks s) s (earliest_crowd ds m n (slice_index tracks s) s)) None)
         go true e =
             let h = (decides_and (decides_lt 0 s) (decides_lt (s + 1) stations)).yea e in
             crowd_holds ds m n (slice_index tracks s) s (each s h.0 h.1)

@@ -3,7 +3,7 @@ use Rattle.std.specs.Prelude.{◌≡◌, ℕ, ◌+◌, ◌<◌, ◌≤◌, Bool,
 use Rattle.rules.specs.declared.conflicts.Layout.{Layout}
 use Rattle.rules.specs.declared.passages.Passage.{Passage}
 use Rattle.rules.specs.declared.stations.Stays.{Stays}
-use Rattle.rules.specs.Conflict.Conflicts.{stay, stands_at, came_to}
+use Rattle.rules.specs.Conflict.Conflicts.{passes, stands_at, came_to}
 
 -- ---- two trains on a segment
 
@@ -54,4 +54,4 @@ pub record StaysOf (ds m : List ℕ) (n s : ℕ) (x : Stays) : Type 0 where
   pub came_size : length x.came ≡ 16
   pub leaves_size : length x.leaves ≡ 16
   pub stands : (t i : ℕ) → i < 16 → stands_by x.came x.leaves t i ≡ nat_lt i n && stands_at ds m s t i
-  pub comes : (i : ℕ) → i < n → (stay ds m s i).passes ≡ true → slice_index x.came i ≡ came_to ds m s i
+  pub comes : (i : ℕ) → i < n → passes ds s i ≡ true → slice_index x.came i ≡ came_to ds m s i

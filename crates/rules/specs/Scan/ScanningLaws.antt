@@ -1,6 +1,6 @@
 -- Laws of what the scan collects of a station: its entries tell how many stand there. Assumes nothing.
-use Rattle.std.specs.Prelude.{◌≡◌, ℕ, ◌+◌, ◌<◌, ◌≤◌, Bool, true, false, ◌&&◌, List, length, replicate, ◌≢◌, slice_index, slice_index_or, slice_set, refl}
-use Rattle.std.proofs.Common.{sym, ◌∙◌, true≢false, arith, length-set}
+use Rattle.std.specs.Prelude.{◌≡◌, ℕ, ◌+◌, ◌<◌, ◌≤◌, Bool, true, false, ◌&&◌, List, length, replicate, ◌≢◌, slice_index, slice_index_or, slice_set, refl, Option, Some, None}
+use Rattle.std.proofs.Common.{◌∙◌, arith, length-set}
 use Rattle.std.proofs.Math.Path.{ap}
 use Rattle.std.proofs.Math.Decide.{ℕ_discrete}
 use Rattle.std.proofs.lemmas.List.{get_or-replicate}
@@ -12,7 +12,7 @@ use Rattle.finite.specs.BelowLaws.{count_same, count_within}
 use Rattle.rules.specs.declared.stations.Stay.{Stay}
 use Rattle.rules.specs.declared.stations.Stays.{Stays}
 use Rattle.rules.specs.Conflict.DirectionsLaws.{same_test}
-use Rattle.rules.specs.Conflict.Conflicts.{came_to, stay, stands_in, stands_at, standing_at}
+use Rattle.rules.specs.Conflict.Conflicts.{came_to, passes, stay, stands_in, stands_at, standing_at}
 use Rattle.rules.specs.Scan.Scanning.{stands_by, StaysOf}
 
 module _ (came leaves : List ℕ) (t i : ℕ) where
@@ -24,6 +24,17 @@ module _ (came leaves : List ℕ) (t i : ℕ) where
   pub stands-not : ((slice_index came i ≤ t) × (t ≤ slice_index leaves i) → ⊥) → stands_by came leaves t i ≡ false
   unfolding stands_by
   stands-not h = is_false (decides_and (decides_le (slice_index came i) t) (decides_le t (slice_index leaves i))) (λ q. h (q.0, q.1))
+
+-- two stays that are the same, and nothing is none
+came_of : (x y : Stay) → Some x ≡ Some y → x.came ≡ y.came
+came_of x y e = ap (λ (z : Option Stay). came_in z) e
+  where
+    came_in : Option Stay → ℕ
+    came_in None = 0
+    came_in (Some z) = z.came
+
+no_stay : (x : Stay) → ◌≡◌ {A = Option Stay} None (Some x) → ⊥
+no_stay x e = let z : ◌≡◌ {A = ℕ} 0 1 = cc in omega arith
 
 module _ (ds m : List ℕ) (s : ℕ) where
   -- no train yet: each leaves before it comes
@@ -41,7 +52,7 @@ module _ (ds m : List ℕ) (s : ℕ) where
     stays_more : (y : Stays) → length y.came ≡ 16 → length y.leaves ≡ 16 →
         ((j : ℕ) → (j ≢ i) → (slice_index y.came j ≡ slice_index x.came j) × (slice_index y.leaves j ≡ slice_index x.leaves j)) →
         ((t : ℕ) → stands_by y.came y.leaves t i ≡ stands_at ds m s t i) →
-        ((stay ds m s i).passes ≡ true → slice_index y.came i ≡ came_to ds m s i) →
+        (passes ds s i ≡ true → slice_index y.came i ≡ came_to ds m s i) →
         StaysOf ds m (i + 1) s y
     unfolding stands_by
     stays_more y a b others here arrives = record {
@@ -58,29 +69,27 @@ module _ (ds m : List ℕ) (s : ℕ) where
       ];
     }
 
-    module _ (y : Stay) (told : y ≡ stay ds m s i) where
-      -- it does not stop there
-      pub stays_out : y.passes ≡ false → StaysOf ds m (i + 1) s x
-      unfolding stands_in
-      stays_out p =
-          let q : (stay ds m s i).passes ≡ false = ap (λ (z : Stay). z.passes) (sym told) ∙ p in
-          stays_more x h.came_size h.leaves_size (λ j k. (refl, refl))
-          (λ t. h.stands t i l ∙ rw (le-ltb i i (omega arith), q) refl)
-          (λ r. absurd (true≢false (sym r ∙ q)))
+    -- it does not stop there
+    pub stays_out : None ≡ stay ds m s i → StaysOf ds m (i + 1) s x
+    unfolding stands_in
+    stays_out told =
+        stays_more x h.came_size h.leaves_size (λ j k. (refl, refl))
+        (λ t. h.stands t i l ∙ rw (le-ltb i i (omega arith)) (ap (λ (z : Option Stay). stands_in z t) told))
+        (λ r. absurd (no_stay _ (rw r at told)))
 
-      -- it does
-      pub stays_in : y.passes ≡ true → StaysOf ds m (i + 1) s (record { came = slice_set x.came i y.came; leaves = slice_set x.leaves i y.leaves })
-      unfolding stands_in stands_by
-      stays_in p =
-          let q : (stay ds m s i).passes ≡ true = ap (λ (z : Stay). z.passes) (sym told) ∙ p in
-          let c = get_or-set_same x.came i y.came 0 (omega (arith, h.came_size)) ∙ ap (λ (z : Stay). z.came) told in
-          let v = get_or-set_same x.leaves i y.leaves 0 (omega (arith, h.leaves_size)) ∙ ap (λ (z : Stay). z.leaves) told in
-          stays_more (record { came = slice_set x.came i y.came; leaves = slice_set x.leaves i y.leaves })
-          (length-set x.came i y.came ∙ h.came_size)
-          (length-set x.leaves i y.leaves ∙ h.leaves_size)
-          (λ j k. (get_or-set_other x.came i j y.came 0 k, get_or-set_other x.leaves i j y.leaves 0 k))
-          (λ t. rw (c, v, q) refl)
-          (λ r. c)
+    -- it does
+    pub stays_in : (y : Stay) → Some y ≡ stay ds m s i →
+        StaysOf ds m (i + 1) s (record { came = slice_set x.came i y.came; leaves = slice_set x.leaves i y.leaves })
+    unfolding stands_in stands_by
+    stays_in y told =
+        let c = get_or-set_same x.came i y.came 0 (omega (arith, h.came_size)) in
+        let v = get_or-set_same x.leaves i y.leaves 0 (omega (arith, h.leaves_size)) in
+        stays_more (record { came = slice_set x.came i y.came; leaves = slice_set x.leaves i y.leaves })
+        (length-set x.came i y.came ∙ h.came_size)
+        (length-set x.leaves i y.leaves ∙ h.leaves_size)
+        (λ j k. (get_or-set_other x.came i j y.came 0 k, get_or-set_other x.leaves i j y.leaves 0 k))
+        (λ t. rw (c, v) (ap (λ (z : Option Stay). stands_in z t) told))
+        (λ r. c ∙ came_of y _ (rw r at told))
 
 -- so many stand there as the entries tell
 pub standing_of : (ds m : List ℕ) (n s : ℕ) (x : Stays) → StaysOf ds m n s x → n ≤ 16 → (t k : ℕ) → k ≡ count (stands_by x.came x.leaves t) 16 →

@@ -1,14 +1,15 @@
 -- Demand 3 of every file, from what solving promises: what is printed passes the check with that file and is the best timetable; 5 comes exactly when no
 -- timetable keeps every rule; every other accepted file's timetable is printed where its text is no longer than the lent bytes, as it is with 4,096 of them;
 -- and nothing is left free: there is exactly one answer, with one content of the lent bytes.
-use Rattle.std.specs.Prelude.{ℕ, ◌≤◌, ◌<◌, ◌≡◌, refl, ◌⊎◌, List, ◌++◌, length, take, drop}
+use Rattle.std.specs.Prelude.{ℕ, ◌≤◌, ◌<◌, ◌≡◌, refl, ◌⊎◌, List, Result, Ok, Err, ◌++◌, length, take, drop}
 use Rattle.std.proofs.Common.{sym, ap, ◌∙◌, subst, inl, inr, ⊎_elim, arith}
 use Rattle.std.proofs.Math.Path.{subst⁻¹}
 use Rattle.std.proofs.Math.Decide.{dec_le}
 use Rattle.std.proofs.Math.Seq.{take-append_seam}
 use Rattle.text.specs.declared.Cursor.{Cursor}
-use Rattle.text.specs.declared.Written.{Written}
+use Rattle.text.specs.declared.Refusal.{Refusal}
 use Rattle.text.specs.Reading.Parsed.{Parsed}
+use Rattle.text.specs.Reading.Told.{refusal}
 use Rattle.text.specs.Writing.Lend.{Spelling, Lent}
 use Rattle.text.specs.Writing.LendLaws.{lent_there, lent_only, text_written, text_refused}
 use Rattle.line.specs.declared.Line.{Line}
@@ -18,7 +19,6 @@ use Rattle.line.specs.PlaceLaws.{FileNumber, file_refusal}
 use Rattle.line.specs.RoundTripLaws.{accepts_read}
 use Rattle.rules.specs.Statement.Rules.{Lawful}
 use Rattle.rules.specs.Statement.Delay.{Best}
-use Rattle.timetable.specs.declared.checking.Verdict.{Verdict}
 use Rattle.timetable.specs.Spell.{timetable_text}
 use Rattle.timetable.specs.Check.{check_of}
 use Rattle.timetable.specs.FitsLaws.{timetable_fits}
@@ -45,19 +45,22 @@ decided l w a = go (walk (planning l)).best refl
 
 -- ---- answers that differ
 
-not-length : {n m p : ℕ} → Written.Length n ≡ Written.Refused m p → ⊥
-not-length e = let z : ◌≡◌ {A = ℕ} 0 1 = cc in omega arith
+not-length : {n m p : ℕ} → ◌≡◌ {A = Result ℕ Refusal} (Ok n) (refusal m p) → ⊥
+not-length e = cc
 
-five_six : Written.Refused 5 0 ≡ Written.Refused 6 0 → ⊥
-five_six e = let z : ◌≡◌ {A = ℕ} 5 6 = cc in omega arith
+five_six : ◌≡◌ {A = Result ℕ Refusal} (refusal 5 0) (refusal 6 0) → ⊥
+five_six e =
+    let same : ◌≡◌ {A = Refusal} (record { number = 5; place = 0 }) (record { number = 6; place = 0 }) = cc in
+    let z : ◌≡◌ {A = ℕ} 5 6 = ap (λ (x : Refusal). x.number) same in
+    omega arith
 
-length_is : {n m : ℕ} → Written.Length n ≡ Written.Length m → n ≡ m
+length_is : {n m : ℕ} → ◌≡◌ {A = Result ℕ Refusal} (Ok n) (Ok m) → n ≡ m
 length_is e = cc
 
 -- ---- a text that was written stands at the front of the lent bytes
 
-module _ {t entry exit : List ℕ} {r : Written} (lent : Lent (Spelling.text t) entry exit r) where
-  written_front : (n : ℕ) → r ≡ Written.Length n → take n exit ≡ t
+module _ {t entry exit : List ℕ} {r : Result ℕ Refusal} (lent : Lent (Spelling.text t) entry exit r) where
+  written_front : (n : ℕ) → r ≡ Ok n → take n exit ≡ t
   written_front n e = elim (dec_le (length t) (length entry)) [
     | yes h ↦ (
         let w = text_written lent h in
@@ -66,7 +69,7 @@ module _ {t entry exit : List ℕ} {r : Written} (lent : Lent (Spelling.text t) 
   ]
 
   -- it is not refused but by 6
-  not_five : r ≡ Written.Refused 5 0 → ⊥
+  not_five : r ≡ refusal 5 0 → ⊥
   not_five e = elim (dec_le (length t) (length entry)) [
     | yes h ↦ not-length (sym (text_written lent h).0 ∙ e)
     | no h ↦ five_six (sym e ∙ (text_refused lent (omega arith)).0)
@@ -80,26 +83,26 @@ pub record Printed (l : Line) (exit : List ℕ) (n : ℕ) : Type 0 where
   pub best : Best l minutes
   pub text : take n exit ≡ timetable_text l minutes
 
-module _ (l : Line) (w : Within l) (a : Arrays l) {entry exit : List ℕ} {r : Written} (solved : LineSolved l entry exit r) where
-  line_printed : (n : ℕ) → r ≡ Written.Length n → Printed l exit n
+module _ (l : Line) (w : Within l) (a : Arrays l) {entry exit : List ℕ} {r : Result ℕ Refusal} (solved : LineSolved l entry exit r) where
+  line_printed : (n : ℕ) → r ≡ Ok n → Printed l exit n
   line_printed n e =
       ⊎_elim
       (λ h. record { minutes = h.minutes; best = h.best; text = written_front (solved.best h.minutes h.best) n e })
       (λ h. absurd (not-length (sym e ∙ (solved.none h).0)))
       (decided l w a)
 
-  line_five : r ≡ Written.Refused 5 0 → (m : List ℕ) → Lawful l m → ⊥
+  line_five : r ≡ refusal 5 0 → (m : List ℕ) → Lawful l m → ⊥
   line_five e = ⊎_elim (λ h. absurd (not_five (solved.best h.minutes h.best) e)) (λ h. h) (decided l w a)
 
 -- of one line and lent bytes there is one answer and one content
-line_solution : (l : Line) → Within l → Arrays l → (entry : List ℕ) → (exit : List ℕ) × (r : Written) × LineSolved l entry exit r
+line_solution : (l : Line) → Within l → Arrays l → (entry : List ℕ) → (exit : List ℕ) × (r : Result ℕ Refusal) × LineSolved l entry exit r
 line_solution l w a entry =
     ⊎_elim
     (λ h. (_, _, line_best l w a h.minutes h.best (lent_there (Spelling.text (timetable_text l h.minutes)) entry)))
-    (λ h. (entry, Written.Refused 5 0, line_none entry h))
+    (λ h. (entry, refusal 5 0, line_none entry h))
     (decided l w a)
 
-line_only : (l : Line) → Within l → Arrays l → {entry exit exit' : List ℕ} {r r' : Written} → LineSolved l entry exit r → LineSolved l entry exit' r' →
+line_only : (l : Line) → Within l → Arrays l → {entry exit exit' : List ℕ} {r r' : Result ℕ Refusal} → LineSolved l entry exit r → LineSolved l entry exit' r' →
     (r ≡ r') × (exit ≡ exit')
 line_only l w a x y =
     ⊎_elim
@@ -112,7 +115,7 @@ line_only l w a x y =
 accepted_within : (file : List ℕ) (l : Line) (c : Cursor) → line_file file ≡ Parsed.got l c → Within l × Arrays l
 accepted_within file l c e = let r = accepts_read file l (ap answered e) in (r.limits, r.arrays)
 
-module _ (file entry exit : List ℕ) (r : Written) (solving : Solving file entry exit r) where
+module _ (file entry exit : List ℕ) (r : Result ℕ Refusal) (solving : Solving file entry exit r) where
   -- a refused file is refused with its number and its place
   pub refused_so : (n p : ℕ) → line_file file ≡ Parsed.bad n p → Refuses n p entry exit r
   refused_so n p e = subst (λ (x : Parsed Line). SolvedAs x entry exit r) e solving
@@ -125,11 +128,11 @@ module _ (file entry exit : List ℕ) (r : Written) (solving : Solving file entr
     within = accepted_within file l c accepted
 
     -- what is printed is the text of the best timetable
-    pub printed_best : (n : ℕ) → r ≡ Written.Length n → Printed l exit n
+    pub printed_best : (n : ℕ) → r ≡ Ok n → Printed l exit n
     printed_best n e = line_printed l within.0 within.1 solved n e
 
     -- 5 exactly when no timetable keeps every rule
-    pub five_only : r ≡ Written.Refused 5 0 → (m : List ℕ) → Lawful l m → ⊥
+    pub five_only : r ≡ refusal 5 0 → (m : List ℕ) → Lawful l m → ⊥
     five_only e = line_five l within.0 within.1 solved e
 
     pub five_then : ((m : List ℕ) → Lawful l m → ⊥) → Refuses 5 0 entry exit r
@@ -137,7 +140,7 @@ module _ (file entry exit : List ℕ) (r : Written) (solving : Solving file entr
 
     -- the best timetable is printed exactly where its text is no longer than the lent bytes; 6 comes otherwise
     pub room_then : (m : List ℕ) → Best l m → length (timetable_text l m) ≤ length entry →
-        (r ≡ Written.Length (length (timetable_text l m))) × (exit ≡ timetable_text l m ++ drop (length (timetable_text l m)) entry)
+        (r ≡ Ok (length (timetable_text l m))) × (exit ≡ timetable_text l m ++ drop (length (timetable_text l m)) entry)
     room_then m b h = text_written (solved.best m b) h
 
     pub six_then : (m : List ℕ) → Best l m → length entry < length (timetable_text l m) → Refuses 6 0 entry exit r
@@ -146,7 +149,7 @@ module _ (file entry exit : List ℕ) (r : Written) (solving : Solving file entr
     -- so with 4,096 lent bytes the timetable of every other accepted file is printed: never 6
     pub record Length : Type 0 where
       pub length_of : ℕ
-      pub written : r ≡ Written.Length length_of
+      pub written : r ≡ Ok length_of
 
     pub room_printed : (m : List ℕ) → Lawful l m → 4096 ≤ length entry → Length
     room_printed m lawful room =
@@ -158,10 +161,10 @@ module _ (file entry exit : List ℕ) (r : Written) (solving : Solving file entr
         (decided l within.0 within.1)
 
   -- what is printed passes the check with that file
-  pub printed_passes : (n : ℕ) → r ≡ Written.Length n → check_of file (take n exit) ≡ Verdict.Passed
+  pub printed_passes : (n : ℕ) → r ≡ Ok n → check_of file (take n exit) ≡ Ok tt
   printed_passes n e = go (line_file file) refl
     where
-      go : (a : Parsed Line) → line_file file ≡ a → check_of file (take n exit) ≡ Verdict.Passed
+      go : (a : Parsed Line) → line_file file ≡ a → check_of file (take n exit) ≡ Ok tt
       go (Parsed.got l c) accepted =
           let p = printed_best l c accepted n e in
           passed file (take n exit) (record { line = l; end = c; accepted = accepted; minutes = p.minutes; lawful = p.best.lawful; text = p.text })
@@ -169,11 +172,11 @@ module _ (file entry exit : List ℕ) (r : Written) (solving : Solving file entr
 
 -- ---- the bounds of an answer: a length is at most 4,096; a refusal is by 1 to 6 or by 19, at a place of at most 4,097
 
-abbrev pub AnswerBounded : Written → Type 0
-AnswerBounded (Written.Length n) = n ≤ 4096
-AnswerBounded (Written.Refused n p) = (((1 ≤ n) × (n ≤ 6)) ⊎ (n ≡ 19)) × (p ≤ 4097)
+abbrev pub AnswerBounded : Result ℕ Refusal → Type 0
+AnswerBounded (Ok n) = n ≤ 4096
+AnswerBounded (Err e) = (((1 ≤ e.number) × (e.number ≤ 6)) ⊎ (e.number ≡ 19)) × (e.place ≤ 4097)
 
-line_bounded : (l : Line) → Within l → Arrays l → {entry exit : List ℕ} {r : Written} → LineSolved l entry exit r → AnswerBounded r
+line_bounded : (l : Line) → Within l → Arrays l → {entry exit : List ℕ} {r : Result ℕ Refusal} → LineSolved l entry exit r → AnswerBounded r
 line_bounded l w a {entry} {exit} {r} solved = ⊎_elim found_one (λ h. rw (solved.none h).0 (inl (omega arith, omega arith), omega arith)) (decided l w a)
   where
     found_one : HasBest l → AnswerBounded r
@@ -184,7 +187,7 @@ line_bounded l w a {entry} {exit} {r} solved = ⊎_elim found_one (λ h. rw (sol
           | no long ↦ rw (text_refused lent (omega arith)).0 (inl (omega arith, omega arith), omega arith)
         ]
 
-pub answer_bounded : (file entry exit : List ℕ) (r : Written) → Solving file entry exit r → AnswerBounded r
+pub answer_bounded : (file entry exit : List ℕ) (r : Result ℕ Refusal) → Solving file entry exit r → AnswerBounded r
 answer_bounded file entry exit r solving = go (line_file file) refl
   where
     by_file : {n : ℕ} → FileNumber n → ((1 ≤ n) × (n ≤ 6)) ⊎ (n ≡ 19)
@@ -204,7 +207,7 @@ answer_bounded file entry exit r solving = go (line_file file) refl
 -- an answer with what stands in the lent bytes then
 pub record Solution (file entry : List ℕ) : Type 0 where
   pub content : List ℕ
-  pub answer : Written
+  pub answer : Result ℕ Refusal
   pub solving : Solving file entry content answer
 
 -- for every file and all lent bytes there is one
@@ -217,10 +220,10 @@ solution file entry = go (line_file file) refl
         let s = line_solution l within.0 within.1 entry in
         record { content = s.0; answer = s.1; solving = subst⁻¹ (λ (x : Parsed Line). SolvedAs x entry s.0 s.1) e s.2 }
     go (Parsed.bad n p) e =
-        record { content = entry; answer = Written.Refused n p; solving = subst⁻¹ (λ (x : Parsed Line). SolvedAs x entry entry (Written.Refused n p)) e (refl, refl) }
+        record { content = entry; answer = refusal n p; solving = subst⁻¹ (λ (x : Parsed Line). SolvedAs x entry entry (refusal n p)) e (refl, refl) }
 
 -- and no other
-pub solution_only : (file entry : List ℕ) {exit exit' : List ℕ} {r r' : Written} → Solving file entry exit r → Solving file entry exit' r' →
+pub solution_only : (file entry : List ℕ) {exit exit' : List ℕ} {r r' : Result ℕ Refusal} → Solving file entry exit r → Solving file entry exit' r' →
     (r ≡ r') × (exit ≡ exit')
 solution_only file entry {exit} {exit'} {r} {r'} x y = go (line_file file) refl
   where

@@ -5,7 +5,6 @@ use Rattle.std.specs.Prelude.{ℕ, ◌<◌, ◌≡◌, true, false, List}
 use Rattle.line.specs.declared.Kind.{Kind}
 use Rattle.line.specs.declared.Line.{Line}
 use Rattle.line.specs.declared.Segment.{Segment}
-use Rattle.rules.specs.declared.conflicts.Layout.{Layout}
 use Rattle.rules.specs.Statement.Paths.{segment_count, segment}
 use Rattle.rules.specs.Conflict.Directions.{way}
 use Rattle.rules.specs.Conflict.Conflicts.{layout_of}
@@ -14,6 +13,7 @@ use Rattle.orders.specs.Plan.TidyPlans.{Fitting}
 use Rattle.plans.specs.Instance.Planning.{planning}
 use Rattle.plans.specs.Theory.Search.{Under}
 use Rattle.plans.specs.Clauses.Choosing.{Tabled, Planned}
+use Rattle.plans.specs.declared.day.Day.{Day}
 use Rattle.plans.specs.declared.ways.Way.{Way}
 
 -- ---- a plan to search, and what becomes of it
@@ -24,11 +24,10 @@ pub record Searchable (l : Line) (marks m : List ℕ) (cost : ℕ) : Type 0 wher
   pub under : Under (planning l) marks m
 
 -- a plan to search on some line among these
-pub record CanKeep (Among : Line → Type 0) (marks m : List ℕ) (cost cut : ℕ) : Type 0 where
+pub record CanKeep (Among : Line → Type 0) (marks m : List ℕ) (cost : ℕ) : Type 0 where
   pub line : Line
   pub among : Among line
   pub searchable : Searchable line marks m cost
-  pub cut_low : cut < 4294967295
 
 -- on every line among these: where the first is a plan to search, so is the second
 pub record Leads (Among : Line → Type 0) (marks m : List ℕ) (cost : ℕ) (marks' m' : List ℕ) (cost' : ℕ) : Type 0 where
@@ -37,26 +36,20 @@ pub record Leads (Among : Line → Type 0) (marks m : List ℕ) (cost : ℕ) (ma
 -- ---- the lines
 
 -- those with these tables where train i can go before train j on segment p
-pub record WithChoice (t ds : List ℕ) (p i j : ℕ) (l : Line) : Type 0 where
-  pub tabled : Tabled l t ds
+pub record WithChoice (d : Day) (p i j : ℕ) (l : Line) : Type 0 where
+  pub tabled : Tabled l d.tables d.ds
   pub fitting : Fitting l (on_segment p i j)
 
 -- those with these tables whose segment p is g
-pub record OnSegment (t ds : List ℕ) (g : Segment) (p : ℕ) (l : Line) : Type 0 where
-  pub tabled : Tabled l t ds
+pub record OnSegment (d : Day) (g : Segment) (p : ℕ) (l : Line) : Type 0 where
+  pub tabled : Tabled l d.tables d.ds
   pub place : p < segment_count l
   pub segment_is : g ≡ segment l p
 
--- those with these tables and these segments, so many
-pub record OnSegments (t ds : List ℕ) (segments : List Segment) (count : ℕ) (l : Line) : Type 0 where
-  pub tabled : Tabled l t ds
-  pub segments_are : segments ≡ l.track.segments
-  pub count_is : count ≡ segment_count l
-
 -- those with these tables and this layout
-pub record OnLayout (t ds : List ℕ) (layout : Layout) (l : Line) : Type 0 where
-  pub tabled : Tabled l t ds
-  pub layout_is : layout ≡ layout_of l
+pub record OnLayout (d : Day) (l : Line) : Type 0 where
+  pub tabled : Tabled l d.tables d.ds
+  pub layout_is : d.layout ≡ layout_of l
 
 -- ---- an order to keep
 
@@ -68,4 +61,4 @@ pub record OrderToKeep (g : Segment) (ds : List ℕ) (p i j : ℕ) : Type 0 wher
 
 -- the way that tells the choice that train j comes second, with its mark and its leg at e
 abbrev pub way_for : ℕ → ℕ → Way
-way_for e j = record { some = true; step = 1; station = false; row = e; leg = e; second = j }
+way_for e j = record { station = false; row = e; leg = e; second = j }

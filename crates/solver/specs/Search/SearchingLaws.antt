@@ -1,17 +1,15 @@
 -- The laws of searching in the terms of the search's contracts: each is what one way out of a function, or one call in it, asks for.
-use Rattle.std.specs.Prelude.{ℕ, ◌+◌, ◌≤◌, ◌<◌, ◌≡◌, refl, Bool, true, false, not, get_or, set}
+use Rattle.std.specs.Prelude.{ℕ, ◌+◌, ◌≤◌, ◌<◌, ◌≡◌, refl, Bool, true, false, not, get_or, set, Option, Some, None}
 use Rattle.std.proofs.Common.{sym, ◌∙◌, ap, subst, inl, inr, ⊎_elim, arith}
 use mathlib.Core.List.Memᴰ
 use mathlib.Core.List.{List, [], ◌∷◌, Memᴰ}
 use Rattle.std.proofs.lemmas.Bool.{not-true, not-false}
 use Rattle.line.specs.declared.Line.{Line}
-use Rattle.line.specs.RunnableLaws.{within_runnable}
 use Rattle.rules.specs.declared.conflicts.Conflict.{Conflict}
-use Rattle.rules.specs.declared.conflicts.Layout.{Layout}
 use Rattle.orders.specs.Plan.Bits.{with_bit}
 use Rattle.orders.specs.Plan.Choices.{Choice}
 use Rattle.orders.specs.Plan.Marks.{Plan, also}
-use Rattle.orders.specs.Lift.Lifting.{Alive}
+use Rattle.orders.specs.Lift.Lifting.{Alive, told_cost}
 use Rattle.plans.specs.Theory.Problem.{Laws}
 use Rattle.plans.specs.Theory.BestSoFar.{improves_true, improves_false}
 use Rattle.plans.specs.Theory.Search.{Under, NoneBetter}
@@ -26,9 +24,9 @@ use Rattle.plans.specs.Clauses.Keys.{better_by}
 use Rattle.plans.specs.Clauses.Tallies.{best_of, cut_of, cut_off, Tallied}
 use Rattle.plans.specs.Clauses.Choosing.{Planned, Given, NoRaise, RaisesChoice, IsWay}
 use Rattle.plans.proofs.Clauses.TryingLaws.{put_back}
-use Rattle.orders.specs.LeastMinutes.CarriedLaws.{delay-most}
-use Rattle.plans.proofs.Clauses.NextPlansLaws.{cut_low, recounted, recounted_best, none_raised, way_added, way_raises, way-least, next_planned}
+use Rattle.plans.proofs.Clauses.NextPlansLaws.{recounted, recounted_best, none_raised, way_added, way_raises, way-least, next_planned}
 use Rattle.plans.proofs.Clauses.GivenLaws.{told}
+use Rattle.plans.specs.declared.day.Day.{Day}
 use Rattle.plans.specs.declared.tally.Tally.{Tally}
 use Rattle.plans.specs.declared.ways.Way.{Way}
 use Rattle.solver.specs.Selection.Pricing.{Cheapest}
@@ -40,28 +38,28 @@ use Rattle.solver.specs.Lookahead.Ahead.{PricesBetter}
 -- ---- the plans that are counted
 
 -- what is whole at its end was whole before
-pub whole_before : (limit : ℕ) (y r : Tally) → y.steps ≤ r.steps → Whole limit r → Whole limit y
-whole_before limit y r rise (inl e) = inl e
-whole_before limit y r rise (inr h) = inr (omega arith)
+pub whole_before : (limit : Option ℕ) (y r : Tally) → y.steps ≤ r.steps → Whole limit r → Whole limit y
+whole_before None y r rise h = tt
+whole_before (Some n) y r rise h = omega arith
 
 -- the tally with one plan more
 abbrev pub CountedOf : Tally → Tally → Type 0
-CountedOf y b = (b.found ≡ y.found) × (b.delay ≡ y.delay) × (b.steps ≡ cut_off (y.steps + 1))
+CountedOf y b = (b.delay ≡ y.delay) × (b.steps ≡ cut_off (y.steps + 1))
 
 module _ (l : Line) (best : List ℕ) (y b : Tally) (t : Tallied l best y) (counted : CountedOf y b) where
   pub counted_tallied : Tallied l best b
-  counted_tallied = recounted l best y b counted.0 counted.1 (omega (arith, counted.2)) t
+  counted_tallied = recounted l best y b counted.0 (omega (arith, counted.1)) t
 
   counted_rise : y.steps ≤ b.steps
-  counted_rise = omega (arith, counted.2, t.steps_low)
+  counted_rise = omega (arith, counted.1, t.steps_low)
 
   counted_best : best_of b best ≡ best_of y best
-  counted_best = recounted_best l best y b counted.0 counted.1
+  counted_best = recounted_best l best y b counted.0
 
 -- ---- taking up a plan
 
-module _ (l : Line) (m marks best t ds key : List ℕ) (layout : Layout) (cost limit : ℕ) (y : Tally) (h : Held l m marks best t ds key layout cost y) where
-  abbrev g : Given l m marks best t ds key layout cost y
+module _ (l : Line) (m marks best : List ℕ) (d : Day) (cost : ℕ) (limit : Option ℕ) (y : Tally) (h : Held l m marks best d cost y) where
+  abbrev g : Given l m marks best d.tables d.ds d.key d.layout cost y
   g = h.given
 
   abbrev L : Laws (planning l)
@@ -74,46 +72,37 @@ module _ (l : Line) (m marks best t ds key : List ℕ) (layout : Layout) (cost l
   pub sought_spent : (r : Bool) → r ≡ true → (r ≡ true → Whole limit y → ⊥) → Sought l marks marks best limit y marks best y
   sought_spent r e over = sought_none (λ whole. absurd (over e whole))
 
-  module _ (r : Bool) (r-is : r ≡ better_by key m cost best y) where
+  module _ (r : Bool) (r-is : r ≡ better_by d.key m cost best y) where
     pub sought_cut : not r ≡ true → Sought l marks marks best limit y marks best y
     sought_cut n =
         sought_none
         (λ _. none_worse (planning l) L marks m (best_of y best) h.under
-        (improves_false (planning l) m (best_of y best) (told l m marks best t ds key layout cost y g r r-is ∙ not-true r n)))
+        (improves_false (planning l) m (best_of y best) (told l m marks best d.tables d.ds d.key d.layout cost y g r r-is ∙ not-true r n)))
 
-    pub sought_clear : not r ≡ false → (conflict : Conflict) → Chosen layout ds m conflict → (n : ℕ) → n ≡ way_count conflict → n ≡ 0 →
-        (best' : List ℕ) → best' ≡ m → Sought l marks marks best limit y marks best' (record { found = true; delay = cost; steps = y.steps })
-    sought_clear better conflict chosen n n-is none best' same =
+    pub sought_clear : not r ≡ false → Chosen d m None → (best' : List ℕ) → best' ≡ m →
+        Sought l marks marks best limit y marks best' (record { delay = Some cost; steps = y.steps })
+    sought_clear better chosen best' same =
         let p = g.planned in
         let w = g.tabled.within in
         let a = g.tabled.raisable.arrays in
         let c = chosen l w a g.layout_is g.tabled.raisable.directions in
-        let lawful = clear_lawful l w a marks m p.carried.least.fit p.carried.least.keeps p.timely (c.none (nothing_of conflict (sym n-is ∙ none))) in
-        let i = improves_true (planning l) m (best_of y best) (told l m marks best t ds key layout cost y g r r-is ∙ not-false r better) in
+        let lawful = clear_lawful l w a marks m p.carried.least.fit p.carried.least.keeps p.timely (c.none refl) in
+        let i = improves_true (planning l) m (best_of y best) (told l m marks best d.tables d.ds d.key d.layout cost y g r r-is ∙ not-false r better) in
         let s = searched_clear (planning l) L marks m (best_of y best) h.under lawful i in
         record {
           marks_same = refl;
           tallied = record {
             size = rw same p.carried.least.fit.size;
-            delay_is = λ _. rw same p.carried.cost_is;
-            delay_low = λ _. omega (arith, p.carried.cost_is, delay-most l (within_runnable l w) m p.carried.least.fit);
+            delay_is = λ c e. let now : c ≡ cost = cc in rw (now, same) p.carried.cost_is;
             steps_low = g.tallied.steps_low;
           };
           steps_rise = omega arith;
           onward = rw same s.onward;
           none_better = λ _. rw same s.none_better;
         }
-      where
-        nothing_of : (c : Conflict) → way_count c ≡ 0 → c ≡ Conflict.Nothing
-        nothing_of Conflict.Nothing e = refl
-        nothing_of (Conflict.OnSegment x) e = absurd (omega arith)
-        nothing_of (Conflict.AtStation x) e = absurd (omega arith)
-
-  pub cut_few : (cut : ℕ) → cut ≡ cut_of y → cut < 4294967295
-  cut_few cut is = omega (arith, cut_low l best y g.tallied)
 
   -- what is held stays so
-  pub held_after : (marks' best' : List ℕ) (r : Tally) → marks' ≡ marks → Tallied l best' r → Held l m marks' best' t ds key layout cost r
+  pub held_after : (marks' best' : List ℕ) (r : Tally) → marks' ≡ marks → Tallied l best' r → Held l m marks' best' d cost r
   held_after marks' best' r same tallied =
       record {
         given = record {
@@ -126,22 +115,22 @@ module _ (l : Line) (m marks best t ds key : List ℕ) (layout : Layout) (cost l
         under = subst (λ (q : List ℕ). Under (planning l) q m) (sym same) h.under;
       }
 
-  pub held_by : (marks' : List ℕ) → marks' ≡ marks → Held l m marks' best t ds key layout cost y
+  pub held_by : (marks' : List ℕ) → marks' ≡ marks → Held l m marks' best d cost y
   held_by marks' same = held_after marks' best y same g.tallied
 
   -- ---- trying a way
 
-  module _ (c : Choice) (way : Way) (i : IsWay l m ds c way) (b : Tally) (counted : CountedOf y b)
+  module _ (c : Choice) (way : Way) (i : IsWay l m d.ds c way) (b : Tally) (counted : CountedOf y b)
       (v : ℕ) (v-is : v ≡ with_bit way.second (get_or marks way.row 0)) (q : List ℕ) (same : q ≡ m) (cut : ℕ) (cut-is : cut ≡ cut_of b)
-      (n : List ℕ) (r : ℕ) (raised : RaisesChoice q (set marks way.row v) t ds way cost cut n r) where
+      (n : List ℕ) (r : Option ℕ) (raised : RaisesChoice q (set marks way.row v) d.tables d.ds way cost cut n r) where
     tallied : Tallied l best b
     tallied = counted_tallied l best y b g.tallied counted
 
     added : set marks way.row v ≡ also c marks
-    added = way_added l m marks t ds cost g.tabled g.planned c way i v v-is
+    added = way_added l m marks d.tables d.ds cost g.tabled g.planned c way i v v-is
 
     -- there are no minutes
-    pub sought_dead : r ≡ 4294967295 → Sought l (also c marks) marks best limit y (set (set marks way.row v) way.row (get_or marks way.row 0)) best b
+    pub sought_dead : r ≡ None → Sought l (also c marks) marks best limit y (set (set marks way.row v) way.row (get_or marks way.row 0)) best b
     sought_dead dead =
         record {
           marks_same = put_back marks way.row v;
@@ -150,19 +139,19 @@ module _ (l : Line) (m marks best t ds key : List ℕ) (layout : Layout) (cost l
           onward = inl (counted_best l best y b g.tallied counted);
           none_better = λ _.
               none_raised l g.tabled.within g.tabled.raisable.arrays c marks m best b h.under tallied
-              (subst (NoRaise l c marks m) cut-is ((way_raises l m marks t ds cost g.tabled g.planned c way i v v-is q same cut n r raised).none dead));
+              (subst (NoRaise l c marks m) cut-is ((way_raises l m marks d.tables d.ds cost g.tabled g.planned c way i v v-is q same cut n r raised).none dead));
         }
 
     -- there are: the plan with the choice is one to search
-    pub next_held : Alive r → Held l n (set marks way.row v) best t ds key layout r b
+    pub next_held : Alive r → Held l n (set marks way.row v) best d (told_cost r) b
     next_held alive =
-        let least = way-least l m marks t ds cost g.tabled g.planned c way i v v-is q same cut n r raised alive in
+        let least = way-least l m marks d.tables d.ds cost g.tabled g.planned c way i v v-is q same cut n r raised alive in
         record {
           given = record {
             tabled = g.tabled;
             keys = g.keys;
             layout_is = g.layout_is;
-            planned = next_planned l m marks t ds cost g.tabled g.planned c way i v v-is q same cut n r raised alive;
+            planned = next_planned l m marks d.tables d.ds cost g.tabled g.planned c way i v v-is q same cut n r raised alive;
             tallied = tallied;
           };
           under =
@@ -183,11 +172,11 @@ module _ (l : Line) (m marks best t ds key : List ℕ) (layout : Layout) (cost l
 
   -- ---- trying all ways
 
-  module _ (conflict : Conflict) (real : Real l m conflict) (n : ℕ) where
+  module _ (conflict : Conflict) (real : Real l m (Some conflict)) where
     -- before the first: the marks are those after pricing, which are those of before
-    pub ways_priced : (marks₀ prices : List ℕ) → PricesBetter m marks₀ best t ds key layout cost y conflict n marks prices →
-        WaysSought l marks best limit y conflict n prices marks best y
-    ways_priced marks₀ prices e =
+    pub ways_priced : (marks₀ : List ℕ) (prices : List (Option ℕ)) → PricesBetter m marks₀ best d cost y conflict marks prices → (n : ℕ) →
+        n ≡ way_count (Some conflict) → WaysSought l marks best limit y conflict n prices marks best y
+    ways_priced marks₀ prices e n n-is =
         record {
           marks_same = refl;
           tallied = g.tallied;
@@ -195,44 +184,44 @@ module _ (l : Line) (m marks best t ds key : List ℕ) (layout : Layout) (cost l
           onward = inl refl;
           done = λ _ k b dead c there.
               subst (λ (q : List ℕ). NoneBetter (planning l) (also c q) (best_of y best)) (sym e.marks_same)
-              (e.dead l (held_by marks₀ (sym e.marks_same)) real k b dead c there);
+              (e.dead l (held_by marks₀ (sym e.marks_same)) real k (omega arith) dead c there);
         }
 
     -- with none left the plan is searched
-    pub ways_done : n ≡ way_count conflict → (n ≡ 0 → ⊥) → (prices marks' best' : List ℕ) (r : Tally) →
-        WaysSought l marks best limit y conflict n prices marks' best' r → (w : ℕ) → Cheapest prices n w → n ≤ w →
-        Sought l marks marks best limit y marks' best' r
-    ways_done n-is some prices marks' best' r s w next last =
+    pub ways_done : (n : ℕ) → n ≡ way_count (Some conflict) → (prices : List (Option ℕ)) (marks' best' : List ℕ) (r : Tally) →
+        WaysSought l marks best limit y conflict n prices marks' best' r → Cheapest prices n None → Sought l marks marks best limit y marks' best' r
+    ways_done n n-is prices marks' best' r s next =
         record {
           marks_same = s.marks_same;
           tallied = s.tallied;
           steps_rise = s.steps_rise;
           onward = s.onward;
           none_better = λ whole.
-              none_split (planning l) L marks m (ways_of conflict)
-              (conflict_splits l g.tabled.within g.tabled.raisable.arrays marks m conflict real (λ e. some (n-is ∙ ap way_count e)))
+              none_split (planning l) L marks m (ways_of (Some conflict))
+              (conflict_splits l g.tabled.within g.tabled.raisable.arrays marks m (Some conflict) real (λ e. absurd (cc)))
               (best_of r best')
               (λ c there.
-              let (k, low, here) = way-number conflict c there in
+              let (k, low, here) = way-number (Some conflict) c there in
               let low' : k < n = omega arith in
-              s.done whole k low' (next.none_left last k low') c here);
+              s.done whole k low' (next.none_left refl k low') c here);
         }
 
 -- the marks are as before, whichever of the two names them
-pub sought_marks : (l : Line) (p : Plan) (marks best : List ℕ) (limit : ℕ) (y : Tally) (marks' best' : List ℕ) (r : Tally) → marks' ≡ marks →
+pub sought_marks : (l : Line) (p : Plan) (marks best : List ℕ) (limit : Option ℕ) (y : Tally) (marks' best' : List ℕ) (r : Tally) → marks' ≡ marks →
     Sought l p marks best limit y marks best' r → Sought l p marks best limit y marks' best' r
 sought_marks l p marks best limit y marks' best' r same s = subst (λ (q : List ℕ). Sought l p marks best limit y q best' r) (sym same) s
 
-pub sought_by : (l : Line) (marks₀ marks best : List ℕ) (limit : ℕ) (y : Tally) (marks' best' : List ℕ) (r : Tally) → marks ≡ marks₀ →
+pub sought_by : (l : Line) (marks₀ marks best : List ℕ) (limit : Option ℕ) (y : Tally) (marks' best' : List ℕ) (r : Tally) → marks ≡ marks₀ →
     Sought l marks marks best limit y marks' best' r → Sought l marks₀ marks₀ best limit y marks' best' r
 sought_by l marks₀ marks best limit y marks' best' r same s = subst (λ (q : List ℕ). Sought l q q best limit y marks' best' r) same s
 
 -- ---- one way more
 
-module _ (l : Line) (marks best : List ℕ) (limit : ℕ) (y : Tally) (conflict : Conflict) (n : ℕ) (prices marks₁ best₁ : List ℕ) (r₁ : Tally)
+module _ (l : Line) (marks best : List ℕ) (limit : Option ℕ) (y : Tally) (conflict : Conflict) (n : ℕ)
+    (prices : List (Option ℕ)) (marks₁ best₁ : List ℕ) (r₁ : Tally)
     (s : WaysSought l marks best limit y conflict n prices marks₁ best₁ r₁) (w : ℕ) where
   -- there is no such way
-  pub ways_skip : way_of conflict w ≡ [] → WaysSought l marks best limit y conflict n (set prices w 4294967295) marks₁ best₁ r₁
+  pub ways_skip : way_of (Some conflict) w ≡ [] → WaysSought l marks best limit y conflict n (set prices w None) marks₁ best₁ r₁
   ways_skip none =
       record {
         marks_same = s.marks_same;
@@ -241,15 +230,15 @@ module _ (l : Line) (marks best : List ℕ) (limit : ℕ) (y : Tally) (conflict 
         onward = s.onward;
         done = λ whole k b dead c there.
             ⊎_elim
-            (λ e. absurd (Memᴰ.not-nil (subst (Memᴰ c) none (subst (λ (j : ℕ). Memᴰ c (way_of conflict j)) e.0 there))))
+            (λ e. absurd (Memᴰ.not-nil (subst (Memᴰ c) none (subst (λ (j : ℕ). Memᴰ c (way_of (Some conflict) j)) e.0 there))))
             (λ e. s.done whole k b (sym e ∙ dead) c there)
-            (set_cases prices w 4294967295 k);
+            (set_cases prices w None k);
       }
 
   -- it was tried: it holds nothing better, and the ways before it do not as the best goes on
-  pub ways-more : (c : Choice) → way_of conflict w ≡ c ∷ [] → (marks₂ best₂ : List ℕ) (r₂ : Tally) →
+  pub ways-more : (c : Choice) → way_of (Some conflict) w ≡ c ∷ [] → (marks₂ best₂ : List ℕ) (r₂ : Tally) →
       Sought l (also c marks₁) marks₁ best₁ limit r₁ marks₂ best₂ r₂ →
-      WaysSought l marks best limit y conflict n (set prices w 4294967295) marks₂ best₂ r₂
+      WaysSought l marks best limit y conflict n (set prices w None) marks₂ best₂ r₂
   ways-more c one marks₂ best₂ r₂ k =
       record {
         marks_same = k.marks_same ∙ s.marks_same;
@@ -259,11 +248,11 @@ module _ (l : Line) (marks best : List ℕ) (limit : ℕ) (y : Tally) (conflict 
         done = λ whole j b dead d there.
             ⊎_elim
             (λ e.
-            let same : d ≡ c = only (subst (Memᴰ d) one (subst (λ (j : ℕ). Memᴰ d (way_of conflict j)) e.0 there)) in
+            let same : d ≡ c = only (subst (Memᴰ d) one (subst (λ (j : ℕ). Memᴰ d (way_of (Some conflict) j)) e.0 there)) in
             subst (λ (x : Choice). NoneBetter (planning l) (also x marks) (best_of r₂ best₂)) (sym same)
             (subst (λ (p : Plan). NoneBetter (planning l) (also c p) (best_of r₂ best₂)) s.marks_same (k.none_better whole)))
             (λ e.
             none_onward (planning l) (also d marks) _ _ k.onward
             (s.done (whole_before limit r₁ r₂ k.steps_rise whole) j b (sym e ∙ dead) d there))
-            (set_cases prices w 4294967295 j);
+            (set_cases prices w None j);
       }

@@ -1,6 +1,6 @@
--- The contracts of pricing the ways out of a conflict. A price of 4294967295 says that a way is dead: no minutes keep the plan with its choice for no more
--- than the cut. The line is not among the parameters: what is promised holds for every line of which what is asked for holds.
-use Rattle.std.specs.Prelude.{ℕ, ◌≤◌, ◌<◌, ◌≡◌, Bool, not, get_or, eqb}
+-- The contracts of pricing the ways out of a conflict. A way without a price is dead: no minutes keep the plan with its choice for no more than
+-- the cut. The line is not among the parameters: what is promised holds for every line of which what is asked for holds.
+use Rattle.std.specs.Prelude.{ℕ, ◌≤◌, ◌<◌, ◌≡◌, Bool, Option, Some, None, is_some, get_or}
 use mathlib.Core.List.{List, Memᴰ}
 use Rattle.line.specs.declared.Line.{Line}
 use Rattle.rules.specs.declared.conflicts.Conflict.{Conflict}
@@ -8,41 +8,44 @@ use Rattle.orders.specs.Plan.Choices.{Choice}
 use Rattle.plans.specs.Conflict.Ways.{way_of, way_count}
 use Rattle.plans.specs.Conflict.RealConflicts.{Real}
 use Rattle.plans.specs.Clauses.Choosing.{Tabled, Planned, NoRaise, IsWay}
+use Rattle.plans.specs.declared.day.Day.{Day}
 use Rattle.plans.specs.declared.ways.Way.{Way}
 
 -- ---- one way
 
-pub record CanPrice (m marks t ds : List ℕ) (way : Way) (cost cut : ℕ) : Type 0 where
+pub record CanPrice (m marks : List ℕ) (d : Day) (way : Way) (cost : ℕ) : Type 0 where
   pub line : Line
   pub choice : Choice
-  pub tabled : Tabled line t ds
+  pub tabled : Tabled line d.tables d.ds
   pub planned : Planned line marks m cost
-  pub is_way : IsWay line m ds choice way
-  pub cut_low : cut < 4294967295
+  pub is_way : IsWay line m d.ds choice way
 
-pub record Prices (m marks t ds : List ℕ) (way : Way) (cost cut : ℕ) (marks' : List ℕ) (r : ℕ) : Type 0 where
+pub record Prices (m marks : List ℕ) (d : Day) (way : Way) (cost cut : ℕ) (marks' : List ℕ) (r : Option ℕ) : Type 0 where
   pub marks_same : marks' ≡ marks
-  pub dead : (l : Line) (c : Choice) → Tabled l t ds → Planned l marks m cost → IsWay l m ds c way → r ≡ 4294967295 → NoRaise l c marks m cut
+  pub dead : (l : Line) (c : Choice) → Tabled l d.tables d.ds → Planned l marks m cost → IsWay l m d.ds c way → r ≡ None → NoRaise l c marks m cut
 
 -- ---- all ways
 
-pub record CanPriceWays (m marks t ds : List ℕ) (cost cut : ℕ) (conflict : Conflict) (n : ℕ) : Type 0 where
+pub record CanPriceWays (m marks : List ℕ) (d : Day) (cost : ℕ) (conflict : Conflict) : Type 0 where
   pub line : Line
-  pub tabled : Tabled line t ds
+  pub tabled : Tabled line d.tables d.ds
   pub planned : Planned line marks m cost
-  pub real : Real line m conflict
-  pub count_is : n ≡ way_count conflict
-  pub cut_low : cut < 4294967295
+  pub real : Real line m (Some conflict)
 
 -- of the numbers below n those priced as dead have choices of which D holds
-abbrev pub DeadBelow : (Choice → Type 0) → Conflict → ℕ → List ℕ → Type 0
+abbrev pub DeadBelow : (Choice → Type 0) → Conflict → ℕ → List (Option ℕ) → Type 0
 DeadBelow D conflict n prices =
-    (k : ℕ) → k < n → get_or prices k 0 ≡ 4294967295 → (c : Choice) → Memᴰ c (way_of conflict k) → D c
+    (k : ℕ) → k < n → get_or prices k None ≡ None → (c : Choice) → Memᴰ c (way_of (Some conflict) k) → D c
 
 -- of the first n numbers those priced as dead are
-pub record PricesWays (m marks t ds : List ℕ) (cost cut : ℕ) (conflict : Conflict) (n : ℕ) (marks' prices : List ℕ) : Type 0 where
+pub record PricesBelow (m marks : List ℕ) (d : Day) (cost cut : ℕ) (conflict : Conflict) (n : ℕ) (marks' : List ℕ) (prices : List (Option ℕ)) : Type 0 where
   pub marks_same : marks' ≡ marks
-  pub dead : (l : Line) → Tabled l t ds → Planned l marks m cost → Real l m conflict → DeadBelow (λ c. NoRaise l c marks m cut) conflict n prices
+  pub dead : (l : Line) → Tabled l d.tables d.ds → Planned l marks m cost → Real l m (Some conflict) →
+      DeadBelow (λ c. NoRaise l c marks m cut) conflict n prices
+
+-- of all
+abbrev pub PricesWays : List ℕ → List ℕ → Day → ℕ → ℕ → Conflict → List ℕ → List (Option ℕ) → Type 0
+PricesWays m marks d cost cut conflict marks' prices = PricesBelow m marks d cost cut conflict (way_count (Some conflict)) marks' prices
 
 -- ---- the score by the prices, which is never 0
 
@@ -52,11 +55,11 @@ pub record Scores (marks marks' : List ℕ) (r : ℕ) : Type 0 where
 
 -- ---- the next to try
 
--- one that is not dead; n where all are
-pub record Cheapest (prices : List ℕ) (n r : ℕ) : Type 0 where
-  pub alive : r < n → get_or prices r 0 ≡ 4294967295 → ⊥
-  pub none_left : n ≤ r → (k : ℕ) → k < n → get_or prices k 0 ≡ 4294967295
+-- one that is not dead, or all are
+pub record Cheapest (prices : List (Option ℕ)) (n : ℕ) (r : Option ℕ) : Type 0 where
+  pub alive : (k : ℕ) → r ≡ Some k → (k < n) × (get_or prices k None ≡ None → ⊥)
+  pub none_left : r ≡ None → (k : ℕ) → k < n → get_or prices k None ≡ None
 
 -- which are left
-unfoldable pub untried : List ℕ → ℕ → Bool
-untried prices k = not (eqb (get_or prices k 0) 4294967295)
+unfoldable pub untried : List (Option ℕ) → ℕ → Bool
+untried prices k = is_some (get_or prices k None)

@@ -4,25 +4,23 @@
 use Prim.Native.Nat.{ℕ, zero, suc, ◌+◌, ◌-◌, ◌*◌, ◌≤◌}
 use Rattle.std.proofs.Math.Path.{◌≡◌, refl}
 use Rattle.std.proofs.Common.{sym, ap, ◌∙◌, arith, add-one, ne_eqb, length-take}
-use Rattle.std.specs.Prelude.{Bool, eqb, length, get_or, take}
+use Rattle.std.specs.Prelude.{Bool, eqb, length, get_or, take, Option, Some, None, Result, Ok}
 use Rattle.std.proofs.Math.Bool.{true, false}
+use Rattle.std.proofs.lemmas.Option.{some_pair_parts}
 use mathlib.Core.List.{List, [], ◌∷◌}
 use Rattle.text.specs.declared.Cursor.{Cursor}
-use Rattle.text.specs.declared.Digit.{Digit}
-use Rattle.text.specs.declared.Number.{Number}
-use Rattle.text.specs.declared.Step.{Step}
-use Rattle.text.specs.declared.NumberField.{NumberField}
-use Rattle.text.specs.declared.Bounded.{Bounded}
-use Rattle.text.specs.declared.Field.{Field}
-use Rattle.text.specs.Reading.Choice.{pick, on_digit, on_number, on_step, on_bounded}
+use Rattle.text.specs.declared.Refusal.{Refusal}
+use Rattle.text.specs.Reading.Choice.{pick, on_some}
 use Rattle.text.specs.Reading.Bytes.{byte_at, ahead, passing, digit_of, past_of}
 use Rattle.text.specs.Reading.BytesLaws.{digit_worth, past_found}
+use Rattle.text.specs.Reading.ChoiceLaws.{some_gave}
+use Rattle.text.specs.Reading.NumbersLaws.{field_found}
 use Rattle.text.specs.Reading.Numbers.{more, number_at, field_at}
 use Rattle.text.specs.Reading.Limits.{bounded_of}
 use Rattle.text.specs.Reading.Parsed.{Parsed, then_read, many, limited, ranged_at}
 use Rattle.text.specs.Reading.Fixed.{past_all, text_at, pair_at, pair_field_at, paired_at}
 use Rattle.text.proofs.Reading.FixedLaws.{pair_found}
-use Rattle.text.specs.Reading.Told.{told_field}
+use Rattle.text.specs.Reading.Told.{told, told_ending}
 use Rattle.text.specs.Places.Lines.{feeds, LineAt, Counted, Stood, HoldsOn, AnyNumber, OnLine}
 
 -- going past any byte of the text keeps P
@@ -105,6 +103,12 @@ module _ (P : Cursor → Type 0) (Q : ℕ → Type 0) where
   stands_then (Parsed.got x c) f w g = g x c w
   stands_then (Parsed.bad n p) f w g = w
 
+  -- refused at a cursor where an answer is missing, or else read on
+  pub stands_some : {A B : Type 0} (o : Option B) (f : B → Parsed A) (n : ℕ) (c : Cursor) → Q n → P c → ((x : B) → o ≡ Some x → HoldsOn P Q (f x)) →
+      HoldsOn P Q (on_some o f (Parsed.bad n c.line))
+  stands_some (Some x) f n c q h w = w x refl
+  stands_some None f n c q h w = record { cursor = c; keeps = h; line = refl; number = q }
+
   -- refused at a cursor by a test, or else read on
   pub stands_test : {A : Type 0} (b : Bool) (n : ℕ) (c : Cursor) (r : Parsed A) → Q n → P c → HoldsOn P Q r → HoldsOn P Q (pick b (Parsed.bad n c.line) r)
   stands_test true n c r q h w = record { cursor = c; keeps = h; line = refl; number = q }
@@ -114,48 +118,38 @@ module _ (P : Cursor → Type 0) (Q : ℕ → Type 0) where
 
 -- digits are no line feeds
 module _ (s : List ℕ) (P : Cursor → Type 0) (k : KeepsAhead s P) where
-  digit_ahead : (c : Cursor) (d : ℕ) → digit_of (byte_at s c) ≡ Digit.Worth d → P c → P (ahead c)
+  digit_ahead : (c : Cursor) (d : ℕ) → digit_of (byte_at s c) ≡ Some d → P c → P (ahead c)
   digit_ahead c d e h =
       let w = digit_worth (byte_at s c) d e in
       k.past c (λ z. omega (arith, w.low)) h
 
-  more-ahead : (m : ℕ) (c : Cursor) (v n : ℕ) (next : Cursor) → P c → more m s c v ≡ Number.Value n next → P next
+  more-ahead : (m : ℕ) (c : Cursor) (v n : ℕ) (next : Cursor) → P c → more m s c v ≡ Some (n, next) → P next
   unfolding more
-  more-ahead zero c v n next h e = let z : c ≡ next = cc in rw z at h
+  more-ahead zero c v n next h e = rw (some_pair_parts v n c next e).1 at h
   more-ahead (suc m) c v n next h e = go (digit_of (byte_at s c)) refl e (λ w f. more-ahead m (ahead c) w n next f)
     where
-      go : (x : Digit) → digit_of (byte_at s c) ≡ x → on_digit x (λ d. more m s (ahead c) (v * 10 + d)) (Number.Value v c) ≡ Number.Value n next →
-          ((w : ℕ) → P (ahead c) → more m s (ahead c) w ≡ Number.Value n next → P next) → P next
-      go (Digit.Worth d) hx f ih = ih (v * 10 + d) (digit_ahead c d hx h) f
-      go Digit.Other hx f ih = let z : c ≡ next = cc in rw z at h
+      go : (x : Option ℕ) → digit_of (byte_at s c) ≡ x → on_some x (λ d. more m s (ahead c) (v * 10 + d)) (Some (v, c)) ≡ Some (n, next) →
+          ((w : ℕ) → P (ahead c) → more m s (ahead c) w ≡ Some (n, next) → P next) → P next
+      go (Some d) hx f ih = ih (v * 10 + d) (digit_ahead c d hx h) f
+      go None hx f ih = rw (some_pair_parts v n c next f).1 at h
 
-  pub number-ahead : (m : ℕ) (c : Cursor) (n : ℕ) (next : Cursor) → P c → number_at m s c ≡ Number.Value n next → P next
+  pub number-ahead : (m : ℕ) (c : Cursor) (n : ℕ) (next : Cursor) → P c → number_at m s c ≡ Some (n, next) → P next
   unfolding number_at
-  number-ahead m c n next h e = go (digit_of (byte_at s c)) refl e
+  number-ahead m c n next h e =
+      let d = some_gave (digit_of (byte_at s c)) _ e in
+      first d.value (digit_ahead c d.value d.is h) (eqb d.value 0) d.gave
     where
-      first : (d : ℕ) → P (ahead c) → (q : Bool) → pick q (Number.Value 0 (ahead c)) (more (m - 1) s (ahead c) d) ≡ Number.Value n next → P next
-      first d w true f = let z : ahead c ≡ next = cc in rw z at w
+      first : (d : ℕ) → P (ahead c) → (q : Bool) → pick q (Some (0, ahead c)) (more (m - 1) s (ahead c) d) ≡ Some (n, next) → P next
+      first d w true f = rw (some_pair_parts 0 n (ahead c) next f).1 at w
       first d w false f = more-ahead (m - 1) (ahead c) d n next w f
 
-      go : (x : Digit) → digit_of (byte_at s c) ≡ x →
-          on_digit x (λ d. pick (eqb d 0) (Number.Value 0 (ahead c)) (more (m - 1) s (ahead c) d)) Number.Malformed ≡ Number.Value n next → P next
-      go (Digit.Worth d) hx f = first d (digit_ahead c d hx h) (eqb d 0) f
-      go Digit.Other hx f = let z : ◌≡◌ {A = ℕ} 0 1 = cc in absurd (omega arith)
-
-  pub pair-ahead : (c : Cursor) (n : ℕ) (next : Cursor) → P c → pair_at s c ≡ Number.Value n next → P next
+  pub pair-ahead : (c : Cursor) (n : ℕ) (next : Cursor) → P c → pair_at s c ≡ Some (n, next) → P next
   unfolding pair_at
-  pair-ahead c n next h e = go (digit_of (byte_at s c)) refl e
-    where
-      units : (t : ℕ) → P (ahead c) → (y : Digit) → digit_of (byte_at s (ahead c)) ≡ y →
-          on_digit y (λ u. Number.Value (t * 10 + u) (ahead (ahead c))) Number.Malformed ≡ Number.Value n next → P next
-      units t w (Digit.Worth u) hy f = let z : ahead (ahead c) ≡ next = cc in rw z at (digit_ahead (ahead c) u hy w)
-      units t w Digit.Other hy f = let z : ◌≡◌ {A = ℕ} 0 1 = cc in absurd (omega arith)
-
-      go : (x : Digit) → digit_of (byte_at s c) ≡ x →
-          on_digit x (λ t. on_digit (digit_of (byte_at s (ahead c))) (λ u. Number.Value (t * 10 + u) (ahead (ahead c))) Number.Malformed) Number.Malformed
-          ≡ Number.Value n next → P next
-      go (Digit.Worth t) hx f = units t (digit_ahead c t hx h) (digit_of (byte_at s (ahead c))) refl f
-      go Digit.Other hx f = let z : ◌≡◌ {A = ℕ} 0 1 = cc in absurd (omega arith)
+  pair-ahead c n next h e =
+      let t = some_gave (digit_of (byte_at s c)) _ e in
+      let u = some_gave (digit_of (byte_at s (ahead c))) _ t.gave in
+      let end = (some_pair_parts (t.value * 10 + u.value) n (ahead (ahead c)) next u.gave).1 in
+      rw end at (digit_ahead (ahead c) u.value u.is (digit_ahead c t.value t.is h))
 
 module _ (s : List ℕ) (P : Cursor → Type 0) (k : KeepsPassing s P) where
   pub ahead_keeps : (c : Cursor) → (byte_at s c ≡ 10 → ⊥) → P c → P (ahead c)
@@ -164,54 +158,35 @@ module _ (s : List ℕ) (P : Cursor → Type 0) (k : KeepsPassing s P) where
   keeps_ahead : KeepsAhead s P
   keeps_ahead = record { past = ahead_keeps }
 
-  pub past_keeps : (c : Cursor) (b : ℕ) (next : Cursor) → P c → past_of s c b ≡ Step.Next next → P next
+  pub past_keeps : (c : Cursor) (b : ℕ) (next : Cursor) → P c → past_of s c b ≡ Some next → P next
   past_keeps c b next h e = let w = past_found s c b next e in rw w.1 at (k.past c b w.0 h)
 
-  pub number_keeps : (m : ℕ) (c : Cursor) (n : ℕ) (next : Cursor) → P c → number_at m s c ≡ Number.Value n next → P next
+  pub number_keeps : (m : ℕ) (c : Cursor) (n : ℕ) (next : Cursor) → P c → number_at m s c ≡ Some (n, next) → P next
   number_keeps = number-ahead s P keeps_ahead
 
-  pub field_keeps : (m : ℕ) (c : Cursor) (b n : ℕ) (next : Cursor) → P c → field_at m s c b ≡ NumberField.Value n next → P next
-  unfolding field_at
-  field_keeps m c b n next h e = go (number_at m s c) refl e
-    where
-      step : (x : ℕ) (after : Cursor) → P after → (y : Step) → past_of s after b ≡ y →
-          on_step y (λ z. NumberField.Value x z) NumberField.Malformed ≡ NumberField.Value n next → P next
-      step x after w (Step.Next z) hy f =
-          let q : z ≡ next = cc in
-          rw q at (past_keeps after b z w hy)
-      step x after w Step.Wrong hy f = let z : ◌≡◌ {A = ℕ} 0 1 = cc in absurd (omega arith)
+  pub field_keeps : (m : ℕ) (c : Cursor) (b n : ℕ) (next : Cursor) → P c → field_at m s c b ≡ Some (n, next) → P next
+  field_keeps m c b n next h e =
+      let f = field_found m s c b n next e in
+      past_keeps f.after b next (number_keeps m c n f.after h f.number) f.past
 
-      go : (x : Number) → number_at m s c ≡ x →
-          on_number x (λ y after. on_step (past_of s after b) (λ z. NumberField.Value y z) NumberField.Malformed) NumberField.Malformed
-          ≡ NumberField.Value n next → P next
-      go (Number.Value x after) hx f = step x after (number_keeps m c x after h hx) (past_of s after b) refl f
-      go Number.Malformed hx f = let z : ◌≡◌ {A = ℕ} 0 1 = cc in absurd (omega arith)
-
-  pair_keeps : (c : Cursor) (n : ℕ) (next : Cursor) → P c → pair_at s c ≡ Number.Value n next → P next
+  pair_keeps : (c : Cursor) (n : ℕ) (next : Cursor) → P c → pair_at s c ≡ Some (n, next) → P next
   pair_keeps = pair-ahead s P keeps_ahead
 
-  pub all_keeps : (t : List ℕ) (c next : Cursor) → P c → past_all t s c ≡ Step.Next next → P next
+  pub all_keeps : (t : List ℕ) (c next : Cursor) → P c → past_all t s c ≡ Some next → P next
   unfolding past_all
   all_keeps [] c next h e = let z : c ≡ next = cc in rw z at h
-  all_keeps (b ∷ t) c next h e = go (past_of s c b) refl e (λ x w f. all_keeps t x next w f)
-    where
-      go : (x : Step) → past_of s c b ≡ x → on_step x (λ y. past_all t s y) Step.Wrong ≡ Step.Next next →
-          ((y : Cursor) → P y → past_all t s y ≡ Step.Next next → P next) → P next
-      go (Step.Next y) hx f ih = ih y (past_keeps c b y h hx) f
-      go Step.Wrong hx f ih = let z : ◌≡◌ {A = ℕ} 0 1 = cc in absurd (omega arith)
+  all_keeps (b ∷ t) c next h e =
+      let p = some_gave (past_of s c b) _ e in
+      all_keeps t p.value next (past_keeps c b p.value h p.is) p.gave
 
   -- ---- what is read, or refused by a number of which Q holds
 
   module _ (Q : ℕ → Type 0) where
     -- a field in its range: a fault's place is the line at the cursor where the field began
-    pub stands-limited : (form range lo hi : ℕ) → Q form → Q range → (c : Cursor) → P c → (f : NumberField) →
-        ((n : ℕ) (next : Cursor) → f ≡ NumberField.Value n next → P next) → HoldsOn P Q (limited form range lo hi c.line f)
-    stands-limited form range lo hi qf qr c h (NumberField.Value m x) after = bounded x (after m x refl) (bounded_of lo hi m)
-      where
-        bounded : (next : Cursor) → P next → (a : Bounded) → HoldsOn P Q (on_bounded a (λ v. Parsed.got v next) (Parsed.bad range c.line))
-        bounded next w (Bounded.Within v) = w
-        bounded next w Bounded.Outside = record { cursor = c; keeps = h; line = refl; number = qr }
-    stands-limited form range lo hi qf qr c h NumberField.Malformed after = record { cursor = c; keeps = h; line = refl; number = qf }
+    pub stands-limited : (form range lo hi : ℕ) → Q form → Q range → (c : Cursor) → P c → (f : Option (ℕ × Cursor)) →
+        ((n : ℕ) (next : Cursor) → f ≡ Some (n, next) → P next) → HoldsOn P Q (limited form range lo hi c.line f)
+    stands-limited form range lo hi qf qr c h f after =
+        stands_some P Q f _ form c qf h (λ (n, next) is. stands_some P Q (bounded_of lo hi n) _ range c qr h (λ v within. after n next is))
 
     pub stands_ranged : (form range lo hi b : ℕ) → Q form → Q range → (c : Cursor) → P c → HoldsOn P Q (ranged_at form range lo hi b s c)
     unfolding ranged_at
@@ -221,15 +196,11 @@ module _ (s : List ℕ) (P : Cursor → Type 0) (k : KeepsPassing s P) where
     pub stands_paired : (form range lo hi b : ℕ) → Q form → Q range → (c : Cursor) → P c → HoldsOn P Q (paired_at form range lo hi b s c)
     unfolding paired_at
     stands_paired form range lo hi b qf qr c h = stands-limited form range lo hi qf qr c h (pair_field_at s c b)
-        (λ n next e. let w = pair_found s c b n next e in past_keeps w.after b next (pair_keeps c n w.after h w.pair) w.past)
+        (λ n next e. let w = pair_found s c b n next e in past_keeps w.after b next (pair_keeps c n w.after h w.number) w.past)
 
     pub stands_text : (form : ℕ) (t : List ℕ) → Q form → (c : Cursor) → P c → HoldsOn P Q (text_at form t s c)
     unfolding text_at
-    stands_text form t q c h = go (past_all t s c) refl
-      where
-        go : (x : Step) → past_all t s c ≡ x → HoldsOn {A = Unit {0}} P Q (on_step x (λ next. Parsed.got tt next) (Parsed.bad form c.line))
-        go (Step.Next next) e = all_keeps t c next h e
-        go Step.Wrong e = record { cursor = c; keeps = h; line = refl; number = q }
+    stands_text form t q c h = stands_some P Q (past_all t s c) _ form c q h (λ next is. all_keeps t c next h is)
 
     -- ---- parts in a row
 
@@ -241,10 +212,34 @@ module _ (s : List ℕ) (P : Cursor → Type 0) (k : KeepsPassing s P) where
         stands_then P Q (part m s c) _ (one m c h)
         (λ x c₁ h₁. stands_then P Q (many m part s c₁) _ (stands-many m part one c₁ h₁) (λ xs c₂ h₂. h₂))
 
--- ---- for the reader's code
+-- ---- for the reader's code: after each part that was read there are still no more lines than bytes
 
--- after a field f, which was read as v, there are still no more lines than bytes
-pub field_counted : (form range lo hi b : ℕ) (s : List ℕ) {c : Cursor} {f : Field} {v : ℕ} {next : Cursor} → Counted c →
-    told_field f ≡ ranged_at form range lo hi b s c → f ≡ Field.Value v next → Counted next
-field_counted form range lo hi b s {c} h told is =
-    stands_got Counted AnyNumber _ (stands_ranged s Counted (keeps_counted s) AnyNumber form range lo hi b tt tt c h) (sym told ∙ ap told_field is)
+module _ (s : List ℕ) {c next : Cursor} (h : Counted c) where
+  pub past_counted : (b : ℕ) {o : Option Cursor} → o ≡ past_of s c b → o ≡ Some next → Counted next
+  past_counted b gives is = past_keeps s Counted (keeps_counted s) c b next h (sym gives ∙ is)
+
+  pub number_counted : (m : ℕ) {o : Option (ℕ × Cursor)} {n : ℕ} → o ≡ number_at m s c → o ≡ Some (n, next) → Counted next
+  number_counted m gives is = number_keeps s Counted (keeps_counted s) m c _ next h (sym gives ∙ is)
+
+  pub number_field_counted : (m b : ℕ) {o : Option (ℕ × Cursor)} {n : ℕ} → o ≡ field_at m s c b → o ≡ Some (n, next) → Counted next
+  number_field_counted m b gives is = field_keeps s Counted (keeps_counted s) m c b _ next h (sym gives ∙ is)
+
+  pub text_counted : (form : ℕ) (t : List ℕ) {r : Result Cursor Refusal} → told_ending r tt ≡ text_at form t s c → r ≡ Ok next → Counted next
+  text_counted form t told_r is =
+      stands_got Counted AnyNumber _ (stands_text s Counted (keeps_counted s) AnyNumber form t tt c h)
+      (sym told_r ∙ ap (λ (k : Result Cursor Refusal). told_ending k tt) is)
+
+  -- of a part with a value, whose every reading keeps that
+  pub told_counted : {A : Type 0} {p : Parsed A} {r : Result (A × Cursor) Refusal} {x : A} → HoldsOn Counted AnyNumber p → told r ≡ p → r ≡ Ok (x, next) →
+      Counted next
+  told_counted w told_r is = stands_got Counted AnyNumber _ w (sym told_r ∙ ap told is)
+
+pub field_counted : (form range lo hi b : ℕ) (s : List ℕ) {c : Cursor} {f : Result (ℕ × Cursor) Refusal} {v : ℕ} {next : Cursor} → Counted c →
+    told f ≡ ranged_at form range lo hi b s c → f ≡ Ok (v, next) → Counted next
+field_counted form range lo hi b s {c} h told_f is =
+    told_counted s h (stands_ranged s Counted (keeps_counted s) AnyNumber form range lo hi b tt tt c h) told_f is
+
+pub paired_counted : (form range lo hi b : ℕ) (s : List ℕ) {c : Cursor} {f : Result (ℕ × Cursor) Refusal} {v : ℕ} {next : Cursor} → Counted c →
+    told f ≡ paired_at form range lo hi b s c → f ≡ Ok (v, next) → Counted next
+paired_counted form range lo hi b s {c} h told_f is =
+    told_counted s h (stands_paired s Counted (keeps_counted s) AnyNumber form range lo hi b tt tt c h) told_f is

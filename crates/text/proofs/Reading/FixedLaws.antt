@@ -1,69 +1,62 @@
 -- Laws of parts of a fixed form: each step, what is read is its text, and a text is read as its value.
-use Rattle.std.specs.Prelude.{ℕ, ◌+◌, ◌*◌, ◌/◌, ◌%◌, ◌<◌, ◌≤◌, length, get_or, drop}
+use Rattle.std.specs.Prelude.{ℕ, ◌+◌, ◌*◌, ◌/◌, ◌%◌, ◌<◌, ◌≤◌, length, get_or, drop, Some, None}
 use Rattle.std.proofs.Math.Path.{◌≡◌, refl, ap}
 use Rattle.std.proofs.Common.{◌∙◌, drop_of_length-le, drop-cons}
 use mathlib.Core.List.{List, [], ◌∷◌, ◌++◌}
 use native.Mathlib.Omega.{arith}
+use Rattle.std.proofs.lemmas.Option.{some_pair_parts}
 use Rattle.std.proofs.Math.Numerals.{add-one}
 use Rattle.finite.specs.Each.{Each}
 use Rattle.text.specs.declared.Cursor.{Cursor}
-use Rattle.text.specs.declared.Digit.{Digit}
-use Rattle.text.specs.declared.Number.{Number}
-use Rattle.text.specs.declared.NumberField.{NumberField}
-use Rattle.text.specs.declared.Step.{Step}
-use Rattle.text.specs.Reading.Choice.{on_digit, on_number, on_step}
 use Rattle.text.specs.Reading.Bytes.{byte_at, from, ahead, passing, digit_of, past_of}
 use Rattle.text.specs.Reading.BytesLaws.{from_byte, from-ahead, past_spelt, past_reads, digit_byte, digit_small, digit_spelt}
 use Rattle.text.specs.Reading.Parsed.{Parsed}
-use Rattle.text.proofs.Reading.ParsedLaws.{bad_got, bounded_fits, limited_value, limited_got, Reads}
+use Rattle.text.specs.Reading.ChoiceLaws.{some_gave}
+use Rattle.text.specs.Reading.NumbersLaws.{Followed, followed}
+use Rattle.text.proofs.Reading.ParsedLaws.{some_got, got_is, bounded_fits, limited_value, limited_got, Reads}
 use Rattle.text.specs.Reading.Fixed.{past_all, text_at, pair_at, pair_field_at, paired_at}
 use Rattle.text.specs.Writing.Digits.{pair_text}
 
 -- ---- a text, of which i bytes are passed
 
 module _ (t s : List ℕ) (i : ℕ) (c : Cursor) where
-  pub all_step : {next : Cursor} → i < length t → past_of s c (get_or t i 0) ≡ Step.Next next → past_all (drop i t) s c ≡ past_all (drop (i + 1) t) s next
+  pub all_step : {next : Cursor} → i < length t → past_of s c (get_or t i 0) ≡ Some next → past_all (drop i t) s c ≡ past_all (drop (i + 1) t) s next
   unfolding past_all
   all_step h e = rw (drop-cons t i 0 h, add-one i, e) refl
 
-  pub all-stop : i < length t → past_of s c (get_or t i 0) ≡ Step.Wrong → past_all (drop i t) s c ≡ Step.Wrong
+  pub all-stop : i < length t → past_of s c (get_or t i 0) ≡ None → past_all (drop i t) s c ≡ None
   unfolding past_all
   all-stop h e = rw (drop-cons t i 0 h, e) refl
 
-  pub all_end : length t ≤ i → past_all (drop i t) s c ≡ Step.Next c
+  pub all_end : length t ≤ i → past_all (drop i t) s c ≡ Some c
   unfolding past_all
   all_end h = rw (drop_of_length-le t h) refl
 
 module _ (form : ℕ) (t s : List ℕ) (c : Cursor) where
-  pub text_wrong : past_all t s c ≡ Step.Wrong → text_at form t s c ≡ Parsed.bad form c.line
+  pub text_wrong : past_all t s c ≡ None → text_at form t s c ≡ Parsed.bad form c.line
   unfolding text_at
   text_wrong e = simp e
 
-  pub text_past : {next : Cursor} → past_all t s c ≡ Step.Next next → text_at form t s c ≡ Parsed.got tt next
+  pub text_past : {next : Cursor} → past_all t s c ≡ Some next → text_at form t s c ≡ Parsed.got tt next
   unfolding text_at
   text_past e = simp e
 
   -- a text that was read was passed
-  pub text_passed : {next : Cursor} → text_at form t s c ≡ Parsed.got tt next → past_all t s c ≡ Step.Next next
+  pub text_passed : {next : Cursor} → text_at form t s c ≡ Parsed.got tt next → past_all t s c ≡ Some next
   unfolding text_at
-  text_passed {next} e = go (past_all t s c) e
-    where
-      go : (x : Step) → ◌≡◌ {A = Parsed (Unit {0})} (on_step x (λ y. Parsed.got tt y) (Parsed.bad form c.line)) (Parsed.got tt next) → x ≡ Step.Next next
-      go (Step.Next y) f = let q : y ≡ next = cc in ap Step.Next q
-      go Step.Wrong f = absurd (bad_got form c.line tt next f)
+  text_passed {next} e =
+      let p = some_got (past_all t s c) _ form c.line tt next e in
+      got_is (λ x end. past_all t s c ≡ Some end) p.gave p.is
 
 abbrev pub Bytes : List ℕ → Type 0
 Bytes t = Each (λ b. b < 256) t
 
-all-spelt : (t s : List ℕ) (c next : Cursor) → Bytes t → past_all t s c ≡ Step.Next next → from s c ≡ t ++ from s next
+all-spelt : (t s : List ℕ) (c next : Cursor) → Bytes t → past_all t s c ≡ Some next → from s c ≡ t ++ from s next
 unfolding past_all
 all-spelt [] s c next w e = let q : c ≡ next = cc in ap (from s) q
-all-spelt (b ∷ t) s c next w e = go (past_of s c b) refl e (λ x f. all-spelt t s x next w.1 f)
-  where
-    go : (x : Step) → past_of s c b ≡ x → on_step x (λ y. past_all t s y) Step.Wrong ≡ Step.Next next →
-        ((y : Cursor) → past_all t s y ≡ Step.Next next → from s y ≡ t ++ from s next) → from s c ≡ b ∷ (t ++ from s next)
-    go (Step.Next y) h f ih = past_spelt s c y b w.0 h ∙ ap (λ (l : List ℕ). b ∷ l) (ih y f)
-    go Step.Wrong h f ih = let z : ◌≡◌ {A = ℕ} 0 1 = cc in absurd (omega arith)
+all-spelt (b ∷ t) s c next w e =
+    let p = some_gave (past_of s c b) _ e in
+    past_spelt s c p.value b w.0 p.is ∙ ap (λ (l : List ℕ). b ∷ l) (all-spelt t s p.value next w.1 p.gave)
 
 pub text_spelt : (form : ℕ) (t s : List ℕ) (c next : Cursor) → Bytes t → text_at form t s c ≡ Parsed.got tt next → from s c ≡ t ++ from s next
 text_spelt form t s c next w e = all-spelt t s c next w (text_passed form t s c e)
@@ -71,7 +64,7 @@ text_spelt form t s c next w e = all-spelt t s c next w (text_passed form t s c 
 -- the text t is passed, and rest is what stands after it
 record Passed (t s : List ℕ) (c : Cursor) (rest : List ℕ) : Type 0 where
   next : Cursor
-  passed : past_all t s c ≡ Step.Next next
+  passed : past_all t s c ≡ Some next
   leaves : from s next ≡ rest
 
 all_passed : (t s : List ℕ) (c : Cursor) (rest : List ℕ) → from s c ≡ t ++ rest → Passed t s c rest
@@ -99,57 +92,28 @@ digits-pair t u ht hu rest =
     let units : (t * 10 + u) % 10 ≡ u = omega arith in
     rw (tens, units) refl
 
-pair-spelt : (s : List ℕ) (c : Cursor) (n : ℕ) (next : Cursor) → pair_at s c ≡ Number.Value n next → PairSpelt s c n next
+pair-spelt : (s : List ℕ) (c : Cursor) (n : ℕ) (next : Cursor) → pair_at s c ≡ Some (n, next) → PairSpelt s c n next
 unfolding pair_at
-pair-spelt s c n next e = go (digit_of (byte_at s c)) refl e
-  where
-    units : (t : ℕ) → digit_of (byte_at s c) ≡ Digit.Worth t → (y : Digit) → digit_of (byte_at s (ahead c)) ≡ y →
-        on_digit y (λ u. Number.Value (t * 10 + u) (ahead (ahead c))) Number.Malformed ≡ Number.Value n next → PairSpelt s c n next
-    units t ht (Digit.Worth u) hu f =
-        let small-t = digit_small s c t ht in
-        let small-u = digit_small s (ahead c) u hu in
-        let value : t * 10 + u ≡ n = cc in
-        let end : ahead (ahead c) ≡ next = cc in
-        record {
-          small = omega arith;
-          text =
-              digit_spelt s c t ht
-              ∙ ap (λ (l : List ℕ). (t + 48) ∷ l) (digit_spelt s (ahead c) u hu)
-              ∙ digits-pair t u small-t small-u (from s (ahead (ahead c)))
-              ∙ ap (λ (k : ℕ). pair_text k ++ from s (ahead (ahead c))) value
-              ∙ ap (λ (x : Cursor). pair_text n ++ from s x) end;
-        }
-    units t ht Digit.Other hu f = let z : ◌≡◌ {A = ℕ} 0 1 = cc in absurd (omega arith)
-
-    go : (x : Digit) → digit_of (byte_at s c) ≡ x →
-        on_digit x (λ t. on_digit (digit_of (byte_at s (ahead c))) (λ u. Number.Value (t * 10 + u) (ahead (ahead c))) Number.Malformed) Number.Malformed
-        ≡ Number.Value n next → PairSpelt s c n next
-    go (Digit.Worth t) h f = units t h (digit_of (byte_at s (ahead c))) refl f
-    go Digit.Other h f = let z : ◌≡◌ {A = ℕ} 0 1 = cc in absurd (omega arith)
+pair-spelt s c n next e =
+    let t = some_gave (digit_of (byte_at s c)) _ e in
+    let u = some_gave (digit_of (byte_at s (ahead c))) _ t.gave in
+    let small-t = digit_small s c t.value t.is in
+    let small-u = digit_small s (ahead c) u.value u.is in
+    let (value, end) = some_pair_parts (t.value * 10 + u.value) n (ahead (ahead c)) next u.gave in
+    record {
+      small = omega arith;
+      text =
+          digit_spelt s c t.value t.is
+          ∙ ap (λ (l : List ℕ). (t.value + 48) ∷ l) (digit_spelt s (ahead c) u.value u.is)
+          ∙ digits-pair t.value u.value small-t small-u (from s (ahead (ahead c)))
+          ∙ ap (λ (k : ℕ). pair_text k ++ from s (ahead (ahead c))) value
+          ∙ ap (λ (x : Cursor). pair_text n ++ from s x) end;
+    }
 
 -- the two digits, of a field that has them
-pub record PairFound (s : List ℕ) (c : Cursor) (b n : ℕ) (next : Cursor) : Type 0 where
-  pub after : Cursor
-  pub pair : pair_at s c ≡ Number.Value n after
-  pub past : past_of s after b ≡ Step.Next next
-
-pub pair_found : (s : List ℕ) (c : Cursor) (b n : ℕ) (next : Cursor) → pair_field_at s c b ≡ NumberField.Value n next → PairFound s c b n next
+pub pair_found : (s : List ℕ) (c : Cursor) (b n : ℕ) (next : Cursor) → pair_field_at s c b ≡ Some (n, next) → Followed (pair_at s c) s b n next
 unfolding pair_field_at
-pair_found s c b n next e = go (pair_at s c) refl e
-  where
-    step : (x : ℕ) (after : Cursor) → pair_at s c ≡ Number.Value x after → (y : Step) → past_of s after b ≡ y →
-        on_step y (λ z. NumberField.Value x z) NumberField.Malformed ≡ NumberField.Value n next → PairFound s c b n next
-    step x after hx (Step.Next z) hy f =
-        let q : x ≡ n = cc in
-        let p : z ≡ next = cc in
-        record { after = after; pair = rw q at hx; past = rw p at hy }
-    step x after hx Step.Wrong hy f = let z : ◌≡◌ {A = ℕ} 0 1 = cc in absurd (omega arith)
-
-    go : (x : Number) → pair_at s c ≡ x →
-        on_number x (λ y after. on_step (past_of s after b) (λ z. NumberField.Value y z) NumberField.Malformed) NumberField.Malformed
-        ≡ NumberField.Value n next → PairFound s c b n next
-    go (Number.Value x after) hx f = step x after hx (past_of s after b) refl f
-    go Number.Malformed hx f = let z : ◌≡◌ {A = ℕ} 0 1 = cc in absurd (omega arith)
+pair_found s c b n next e = followed (pair_at s c) s b n next e
 
 module _ (form range lo hi b : ℕ) (s : List ℕ) (c : Cursor) where
   -- what was read is in its range, and the text is its two digits and the byte b
@@ -163,7 +127,7 @@ module _ (form range lo hi b : ℕ) (s : List ℕ) (c : Cursor) where
   paired_spelt n next h e =
       let w = limited_got form range lo hi c.line (pair_field_at s c b) n next e in
       let f = pair_found s c b n next w.is in
-      let x = pair-spelt s c n f.after f.pair in
+      let x = pair-spelt s c n f.after f.number in
       record { low = w.low; high = w.high; text = x.text ∙ ap (λ (l : List ℕ). pair_text n ++ l) (past_spelt s f.after next b h f.past) }
 
   pub paired_reads : (n : ℕ) (rest : List ℕ) → lo ≤ n → n ≤ hi → hi < 100 → from s c ≡ pair_text n ++ (b ∷ rest) →
@@ -172,10 +136,10 @@ module _ (form range lo hi b : ℕ) (s : List ℕ) (c : Cursor) where
   paired_reads n rest l h small e =
       let second : from s (ahead c) ≡ (n % 10 + 48) ∷ (b ∷ rest) = from-ahead s c (n / 10 % 10 + 48) _ e in
       let third : from s (ahead (ahead c)) ≡ b ∷ rest = from-ahead s (ahead c) (n % 10 + 48) _ second in
-      let tens : digit_of (byte_at s c) ≡ Digit.Worth (n / 10 % 10) = ap digit_of (from_byte s c _ e) ∙ digit_byte (n / 10 % 10) (omega arith) in
-      let units : digit_of (byte_at s (ahead c)) ≡ Digit.Worth (n % 10) = ap digit_of (from_byte s (ahead c) _ second) ∙ digit_byte (n % 10) (omega arith) in
+      let tens : digit_of (byte_at s c) ≡ Some (n / 10 % 10) = ap digit_of (from_byte s c _ e) ∙ digit_byte (n / 10 % 10) (omega arith) in
+      let units : digit_of (byte_at s (ahead c)) ≡ Some (n % 10) = ap digit_of (from_byte s (ahead c) _ second) ∙ digit_byte (n % 10) (omega arith) in
       let value : n / 10 % 10 * 10 + n % 10 ≡ n = omega arith in
-      let field : pair_field_at s c b ≡ NumberField.Value n (passing b (ahead (ahead c))) =
+      let field : pair_field_at s c b ≡ Some (n, passing b (ahead (ahead c))) =
       rw (tens, units, past_reads s (ahead (ahead c)) b rest third, value) refl in
       record {
         next = passing b (ahead (ahead c));

@@ -1,15 +1,12 @@
 -- Laws of reading part by part: each step, what is read is its text, and a text is read as its value.
 use Prim.Native.Nat.{ℕ, zero, suc, ◌<◌, ◌≤◌}
-use Rattle.std.specs.Prelude.{◌≡◌, Bool, true, false, ltb, length}
+use Rattle.std.specs.Prelude.{◌≡◌, Bool, true, false, ltb, length, Option, Some, None}
 use Rattle.std.proofs.Math.Path.{refl, ap}
 use Rattle.std.proofs.Common.{sym, ◌∙◌, arith, le-ltb, ltb-false}
 use mathlib.Core.List.{List, [], ◌∷◌, ◌++◌, map}
 use Rattle.text.specs.declared.Cursor.{Cursor}
-use Rattle.text.specs.declared.Digit.{Digit}
-use Rattle.text.specs.declared.NumberField.{NumberField}
-use Rattle.text.specs.declared.Bounded.{Bounded}
 use Rattle.text.specs.declared.Limits.{Limits}
-use Rattle.text.specs.Reading.Choice.{pick, on_bounded}
+use Rattle.text.specs.Reading.Choice.{pick, on_some}
 use Rattle.text.specs.Reading.Bytes.{from, digit_of}
 use Rattle.text.specs.Reading.Numbers.{field_at}
 use Rattle.text.specs.Writing.Digits.{digits}
@@ -34,6 +31,16 @@ bad_got n p x c e = let z : ◌≡◌ {A = ℕ} 0 1 = cc in omega arith
 pub then_got : {A B : Type 0} (r : Parsed A) (f : A → Cursor → Parsed B) (b : B) (end : Cursor) → then_read r f ≡ Parsed.got b end → ReadInTurn r f b end
 then_got (Parsed.got a c) f b end e = record { value = a; next = c; first = refl; after = e }
 then_got (Parsed.bad n p) f b end e = absurd (bad_got n p b end e)
+
+-- where a value was read after an answer that might have been missing, there was an answer
+pub record GaveRead {A B : Type 0} (o : Option B) (f : B → Parsed A) (x : A) (c : Cursor) : Type 0 where
+  pub value : B
+  pub is : o ≡ Some value
+  pub gave : f value ≡ Parsed.got x c
+
+pub some_got : {A B : Type 0} (o : Option B) (f : B → Parsed A) (n p : ℕ) (x : A) (c : Cursor) → on_some o f (Parsed.bad n p) ≡ Parsed.got x c → GaveRead o f x c
+some_got (Some y) f n p x c e = record { value = y; is = refl; gave = e }
+some_got None f n p x c e = absurd (bad_got n p x c e)
 
 -- where a test would have refused, and something was read, the test did not hold
 pub pick_got : {A : Type 0} (b : Bool) (n p : ℕ) (r : Parsed A) (x : A) (end : Cursor) → pick b (Parsed.bad n p) r ≡ Parsed.got x end →
@@ -85,68 +92,65 @@ pub record IsWithin (lo hi n v : ℕ) : Type 0 where
   pub high : n ≤ hi
   pub same : v ≡ n
 
-pub bounded_within : (lo hi n v : ℕ) → bounded_of lo hi n ≡ Bounded.Within v → IsWithin lo hi n v
+pub bounded_within : (lo hi n v : ℕ) → bounded_of lo hi n ≡ Some v → IsWithin lo hi n v
 unfolding bounded_of
 bounded_within lo hi n v e = go (ltb n lo) (ltb hi n) refl refl e
   where
-    go : (p q : Bool) → ltb n lo ≡ p → ltb hi n ≡ q → pick p Bounded.Outside (pick q Bounded.Outside (Bounded.Within n)) ≡ Bounded.Within v → IsWithin lo hi n v
+    go : (p q : Bool) → ltb n lo ≡ p → ltb hi n ≡ q → pick p None (pick q None (Some n)) ≡ Some v → IsWithin lo hi n v
     go true q hp hq h = let z : ◌≡◌ {A = ℕ} 0 1 = cc in absurd (omega arith)
     go false true hp hq h = let z : ◌≡◌ {A = ℕ} 0 1 = cc in absurd (omega arith)
     go false false hp hq h = record { low = ltb-false n lo hp; high = ltb-false hi n hq; same = cc }
 
-pub bounded_fits : (lo hi n : ℕ) → lo ≤ n → n ≤ hi → bounded_of lo hi n ≡ Bounded.Within n
+pub bounded_fits : (lo hi n : ℕ) → lo ≤ n → n ≤ hi → bounded_of lo hi n ≡ Some n
 unfolding bounded_of
 bounded_fits lo hi n l h = simp (le-ltb n lo l, le-ltb hi n h)
 
 -- a value built by limits that a call gave
-pub bounded_by : {b : Bounded} {l : Limits} (r : Limits) (n : ℕ) → b ≡ bounded_of l.min l.max n → l ≡ r → b ≡ bounded_of r.min r.max n
+pub bounded_by : {b : Option ℕ} {l : Limits} (r : Limits) (n : ℕ) → b ≡ bounded_of l.min l.max n → l ≡ r → b ≡ bounded_of r.min r.max n
 bounded_by r n built limits = built ∙ ap (λ (k : Limits). bounded_of k.min k.max n) limits
 
 -- ---- a field in its range
 
-module _ (form range lo hi line : ℕ) {f : NumberField} where
-  pub limited_malformed : f ≡ NumberField.Malformed → limited form range lo hi line f ≡ Parsed.bad form line
+module _ (form range lo hi line : ℕ) {f : Option (ℕ × Cursor)} where
+  pub limited_malformed : f ≡ None → limited form range lo hi line f ≡ Parsed.bad form line
   limited_malformed e = simp e
 
-  module _ {n : ℕ} {next : Cursor} (e : f ≡ NumberField.Value n next) where
-    pub limited_outside : bounded_of lo hi n ≡ Bounded.Outside → limited form range lo hi line f ≡ Parsed.bad range line
+  module _ {n : ℕ} {next : Cursor} (e : f ≡ Some (n, next)) where
+    pub limited_outside : bounded_of lo hi n ≡ None → limited form range lo hi line f ≡ Parsed.bad range line
     limited_outside o = simp (e, o)
 
-    pub limited_value : {v : ℕ} → bounded_of lo hi n ≡ Bounded.Within v → limited form range lo hi line f ≡ Parsed.got v next
+    pub limited_value : {v : ℕ} → bounded_of lo hi n ≡ Some v → limited form range lo hi line f ≡ Parsed.got v next
     limited_value o = simp (e, o)
 
 -- what was read of a field is in its range, and is what the field has
-pub record InLimits (lo hi : ℕ) (f : NumberField) (n : ℕ) (next : Cursor) : Type 0 where
+pub record InLimits (lo hi : ℕ) (f : Option (ℕ × Cursor)) (n : ℕ) (next : Cursor) : Type 0 where
   pub low : lo ≤ n
   pub high : n ≤ hi
-  pub is : f ≡ NumberField.Value n next
+  pub is : f ≡ Some (n, next)
 
-pub limited_got : (form range lo hi line : ℕ) (f : NumberField) (n : ℕ) (next : Cursor) → limited form range lo hi line f ≡ Parsed.got n next →
+pub limited_got : (form range lo hi line : ℕ) (f : Option (ℕ × Cursor)) (n : ℕ) (next : Cursor) → limited form range lo hi line f ≡ Parsed.got n next →
     InLimits lo hi f n next
-limited_got form range lo hi line (NumberField.Value m x) n next e = go (bounded_of lo hi m) refl e
-  where
-    go : (a : Bounded) → bounded_of lo hi m ≡ a → on_bounded a (λ v. Parsed.got v x) (Parsed.bad range line) ≡ Parsed.got n next →
-        InLimits lo hi (NumberField.Value m x) n next
-    go Bounded.Outside o g = absurd (bad_got range line n next g)
-    go (Bounded.Within v) o g =
-        let w = bounded_within lo hi m v o in
-        let q : v ≡ n = cc in
-        let y : x ≡ next = cc in
-        let same : m ≡ n = sym w.same ∙ q in
-        record { low = omega (arith, w.low); high = omega (arith, w.high); is = rw (same, y) refl }
-limited_got form range lo hi line NumberField.Malformed n next e = absurd (bad_got form line n next e)
+limited_got form range lo hi line f n next e =
+    let field = some_got f _ form line n next e in
+    let inside = some_got (bounded_of lo hi field.value.0) _ range line n next field.gave in
+    let w = bounded_within lo hi field.value.0 inside.value inside.is in
+    got_is (λ v end. InLimits lo hi f v end) inside.gave (record {
+      low = omega (arith, w.low, w.same);
+      high = omega (arith, w.high, w.same);
+      is = field.is ∙ ap (λ (k : ℕ). Some (k, field.value.1)) (sym w.same);
+    })
 
 module _ (form range lo hi b : ℕ) (s : List ℕ) (c : Cursor) where
-  pub ranged_malformed : field_at 4 s c b ≡ NumberField.Malformed → ranged_at form range lo hi b s c ≡ Parsed.bad form c.line
+  pub ranged_malformed : field_at 4 s c b ≡ None → ranged_at form range lo hi b s c ≡ Parsed.bad form c.line
   unfolding ranged_at
   ranged_malformed e = limited_malformed form range lo hi c.line e
 
-  module _ (n : ℕ) (next : Cursor) (e : field_at 4 s c b ≡ NumberField.Value n next) where
-    pub ranged_outside : bounded_of lo hi n ≡ Bounded.Outside → ranged_at form range lo hi b s c ≡ Parsed.bad range c.line
+  module _ (n : ℕ) (next : Cursor) (e : field_at 4 s c b ≡ Some (n, next)) where
+    pub ranged_outside : bounded_of lo hi n ≡ None → ranged_at form range lo hi b s c ≡ Parsed.bad range c.line
     unfolding ranged_at
     ranged_outside o = limited_outside form range lo hi c.line e o
 
-    pub ranged_value : (v : ℕ) → bounded_of lo hi n ≡ Bounded.Within v → ranged_at form range lo hi b s c ≡ Parsed.got v next
+    pub ranged_value : (v : ℕ) → bounded_of lo hi n ≡ Some v → ranged_at form range lo hi b s c ≡ Parsed.got v next
     unfolding ranged_at
     ranged_value v o = limited_value form range lo hi c.line e o
 
@@ -170,7 +174,7 @@ pub record Reads {A : Type 0} (r : Parsed A) (x : A) (s rest : List ℕ) : Type 
   pub reads : r ≡ Parsed.got x next
   pub leaves : from s next ≡ rest
 
-pub ranged_reads : (form range lo hi b : ℕ) (s : List ℕ) (c : Cursor) (n : ℕ) (rest : List ℕ) → digit_of b ≡ Digit.Other → lo ≤ n → n ≤ hi → hi < 10000 →
+pub ranged_reads : (form range lo hi b : ℕ) (s : List ℕ) (c : Cursor) (n : ℕ) (rest : List ℕ) → digit_of b ≡ None → lo ≤ n → n ≤ hi → hi < 10000 →
     from s c ≡ digits n ++ (b ∷ rest) → Reads (ranged_at form range lo hi b s c) n s rest
 ranged_reads form range lo hi b s c n rest o l h small e =
     let few : length (digits n) ≤ 4 = digits-length 3 n (omega arith) in

@@ -1,17 +1,14 @@
 -- `text::lend_text` meets its contract: refused where the text is longer than the lent bytes, and else put at their front. Assumes nothing.
 use native.Mathlib.Omega.{arith}
-use mathlib.Core.Path.{refl}
-use lib.ListN.{length}
 use Rattle.text.specs.Writing.LendLaws.{lent_short, lent-whole}
 use Rattle.text.proofs.lend_text.Goals as goal
 
-pub returns-then-out-count : goal.returns-then-out-count
-returns-then-out-count c =
+pub returns-then-out-text : goal.returns-then-out-text
+returns-then-out-text c =
     let a = c.args in
-    lent_short a.text.now a.out.now c.if-out-count.true
+    lent_short a.text.now a.out.now c.if-out-text.true
 
 pub returns : goal.returns
 returns c =
     let a = c.args in
-    let put = c.put_text in
-    lent-whole a.text.now a.out.now _ (length a.text.now) refl (omega (arith, c.if-out-count.false)) put.ensures.bytes
+    lent-whole a.text.now a.out.now _ c.put_text.result (omega (arith, c.put_text.ensures.next)) (omega arith) c.put_text.ensures.bytes

@@ -1,8 +1,6 @@
 -- The byte at a cursor, and what it is worth as a digit.
-use Rattle.std.specs.Prelude.{ℕ, ◌+◌, ◌-◌, List, get_or, drop, ltb, eqb}
+use Rattle.std.specs.Prelude.{ℕ, ◌+◌, ◌-◌, List, Option, Some, None, get_or, drop, ltb, eqb}
 use Rattle.text.specs.declared.Cursor.{Cursor}
-use Rattle.text.specs.declared.Digit.{Digit}
-use Rattle.text.specs.declared.Step.{Step}
 use Rattle.text.specs.Reading.Choice.{pick}
 
 -- the byte at a cursor; past the end stands 256, which is no byte
@@ -22,9 +20,9 @@ abbrev pub passing : ℕ → Cursor → Cursor
 passing b c = record { at = c.at + 1; line = pick (eqb b 10) (c.line + 1) c.line }
 
 -- what a byte is worth as a decimal digit
-unfoldable pub digit_of : ℕ → Digit
-digit_of b = pick (ltb b 48) Digit.Other (pick (ltb 57 b) Digit.Other (Digit.Worth (b - 48)))
+unfoldable pub digit_of : ℕ → Option ℕ
+digit_of b = pick (ltb b 48) None (pick (ltb 57 b) None (Some (b - 48)))
 
 -- past the byte b
-unfoldable pub past_of : List ℕ → Cursor → ℕ → Step
-past_of s c b = pick (eqb (byte_at s c) b) (Step.Next (passing b c)) Step.Wrong
+unfoldable pub past_of : List ℕ → Cursor → ℕ → Option Cursor
+past_of s c b = pick (eqb (byte_at s c) b) (Some (passing b c)) None

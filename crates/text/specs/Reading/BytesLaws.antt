@@ -1,10 +1,8 @@
 -- Laws of the bytes at a cursor: where they stand, and the text from there on.
-use Rattle.std.specs.Prelude.{ℕ, zero, suc, ◌+◌, ◌-◌, ◌<◌, ◌≤◌, ◌≡◌, refl, Bool, true, false, List, [], ◌∷◌, ◌++◌, ltb, eqb, length, get_or, drop}
+use Rattle.std.specs.Prelude.{ℕ, zero, suc, ◌+◌, ◌-◌, ◌<◌, ◌≤◌, ◌≡◌, refl, Bool, true, false, List, [], ◌∷◌, ◌++◌, ltb, eqb, length, get_or, drop, Option, Some, None}
 use Rattle.std.proofs.Common.{suc-le-suc, zero-le, sym, ap, ◌∙◌, arith, add-one, lt_irrefl, not-suc-le-zero, le_of_suc-le-suc, ltb-false, le-ltb, eq-eqb, eqb-true, length-drop, drop-cons, drop-drop}
 use Rattle.std.proofs.Math.Seq.{drop-append_seam}
 use Rattle.text.specs.declared.Cursor.{Cursor}
-use Rattle.text.specs.declared.Digit.{Digit}
-use Rattle.text.specs.declared.Step.{Step}
 use Rattle.text.specs.Reading.Choice.{pick}
 use Rattle.text.specs.Reading.Bytes.{byte_at, from, ahead, passing, digit_of, past_of}
 
@@ -54,21 +52,21 @@ at_length s c e = omega (arith, length-drop c.at s, ap length e)
 -- ---- the byte after a field
 
 -- a byte that was passed stood there, and the cursor is past it
-pub past_found : (s : List ℕ) (c : Cursor) (b : ℕ) (next : Cursor) → past_of s c b ≡ Step.Next next → (byte_at s c ≡ b) × (passing b c ≡ next)
+pub past_found : (s : List ℕ) (c : Cursor) (b : ℕ) (next : Cursor) → past_of s c b ≡ Some next → (byte_at s c ≡ b) × (passing b c ≡ next)
 unfolding past_of
 past_found s c b next e = go (eqb (byte_at s c) b) refl e
   where
-    go : (p : Bool) → eqb (byte_at s c) b ≡ p → pick p (Step.Next (passing b c)) Step.Wrong ≡ Step.Next next → (byte_at s c ≡ b) × (passing b c ≡ next)
+    go : (p : Bool) → eqb (byte_at s c) b ≡ p → pick p (Some (passing b c)) None ≡ Some next → (byte_at s c ≡ b) × (passing b c ≡ next)
     go true hp f = let q : passing b c ≡ next = cc in (eqb-true (byte_at s c) b hp, q)
     go false hp f = let z : ◌≡◌ {A = ℕ} 0 1 = cc in absurd (omega arith)
 
-pub past_spelt : (s : List ℕ) (c next : Cursor) (b : ℕ) → b < 256 → past_of s c b ≡ Step.Next next → from s c ≡ b ∷ from s next
+pub past_spelt : (s : List ℕ) (c next : Cursor) (b : ℕ) → b < 256 → past_of s c b ≡ Some next → from s c ≡ b ∷ from s next
 past_spelt s c next b h e =
     let w = past_found s c b next e in
     let k : from s c ≡ b ∷ from s (ahead c) = rw w.0 at (from_cons s c (inside s c.at (omega (arith, w.0, h)))) in
     k ∙ ap (λ (x : Cursor). b ∷ from s x) w.1
 
-pub past_reads : (s : List ℕ) (c : Cursor) (b : ℕ) (rest : List ℕ) → from s c ≡ b ∷ rest → past_of s c b ≡ Step.Next (passing b c)
+pub past_reads : (s : List ℕ) (c : Cursor) (b : ℕ) (rest : List ℕ) → from s c ≡ b ∷ rest → past_of s c b ≡ Some (passing b c)
 unfolding past_of
 past_reads s c b rest e = simp (eq-eqb (byte_at s c) b (from_byte s c (b ∷ rest) e))
 
@@ -80,35 +78,35 @@ pub record IsDigit (b d : ℕ) : Type 0 where
   pub high : b ≤ 57
   pub worth : d ≡ b - 48
 
-pub digit_worth : (b d : ℕ) → digit_of b ≡ Digit.Worth d → IsDigit b d
+pub digit_worth : (b d : ℕ) → digit_of b ≡ Some d → IsDigit b d
 unfolding digit_of
 digit_worth b d e = go (ltb b 48) (ltb 57 b) refl refl e
   where
-    go : (p q : Bool) → ltb b 48 ≡ p → ltb 57 b ≡ q → pick p Digit.Other (pick q Digit.Other (Digit.Worth (b - 48))) ≡ Digit.Worth d → IsDigit b d
+    go : (p q : Bool) → ltb b 48 ≡ p → ltb 57 b ≡ q → pick p None (pick q None (Some (b - 48))) ≡ Some d → IsDigit b d
     go true q hp hq h = let z : ◌≡◌ {A = ℕ} 0 1 = cc in absurd (omega arith)
     go false true hp hq h = let z : ◌≡◌ {A = ℕ} 0 1 = cc in absurd (omega arith)
     go false false hp hq h = record { low = ltb-false b 48 hp; high = ltb-false 57 b hq; worth = cc }
 
-pub digit_byte : (d : ℕ) → d < 10 → digit_of (d + 48) ≡ Digit.Worth d
+pub digit_byte : (d : ℕ) → d < 10 → digit_of (d + 48) ≡ Some d
 unfolding digit_of
 digit_byte d h =
     let z : (d + 48) - 48 ≡ d = omega arith in
     simp (le-ltb (d + 48) 48 (omega arith), le-ltb 57 (d + 48) (omega arith), z)
 
 -- a space and a line feed are no digits
-pub space_ends : digit_of 32 ≡ Digit.Other
+pub space_ends : digit_of 32 ≡ None
 unfolding digit_of
 space_ends = refl
 
-pub feed_ends : digit_of 10 ≡ Digit.Other
+pub feed_ends : digit_of 10 ≡ None
 unfolding digit_of
 feed_ends = refl
 
 -- a digit's worth from a byte that was read, the answer for it, and what the answer is
-pub digit_is : (b r : ℕ) (x y : Digit) → r ≡ b → x ≡ digit_of r → x ≡ y → digit_of b ≡ y
+pub digit_is : (b r : ℕ) (x y : Option ℕ) → r ≡ b → x ≡ digit_of r → x ≡ y → digit_of b ≡ y
 digit_is b r x y p q g = ap digit_of (sym p) ∙ sym q ∙ g
 
-module _ (s : List ℕ) (c : Cursor) (d : ℕ) (e : digit_of (byte_at s c) ≡ Digit.Worth d) where
+module _ (s : List ℕ) (c : Cursor) (d : ℕ) (e : digit_of (byte_at s c) ≡ Some d) where
   -- a digit stands inside the text
   pub digit_inside : c.at < length s
   digit_inside = let w = digit_worth (byte_at s c) d e in inside s c.at (omega (arith, w.high))

@@ -1,8 +1,7 @@
 -- What reading a part of a file gives: its value and the cursor after it, or document 01's number and place; and how parts follow one another.
-use Rattle.std.specs.Prelude.{ℕ, zero, suc, List, [], ◌∷◌}
+use Rattle.std.specs.Prelude.{ℕ, zero, suc, List, [], ◌∷◌, Option}
 use Rattle.text.specs.declared.Cursor.{Cursor}
-use Rattle.text.specs.declared.NumberField.{NumberField}
-use Rattle.text.specs.Reading.Choice.{on_field, on_bounded}
+use Rattle.text.specs.Reading.Choice.{on_some}
 use Rattle.text.specs.Reading.Numbers.{field_at}
 use Rattle.text.specs.Reading.Limits.{bounded_of}
 
@@ -31,10 +30,10 @@ lines k line s c = many k (λ left. line) s c
 
 -- a field, form and byte after it first (number `form`), then its range from lo to hi (number `range`); the place of a fault is the line on which the
 -- field began
-abbrev pub limited : (form range lo hi line : ℕ) → NumberField → Parsed ℕ
+abbrev pub limited : (form range lo hi line : ℕ) → Option (ℕ × Cursor) → Parsed ℕ
 limited form range lo hi line f =
-    on_field f
-    (λ n next. on_bounded (bounded_of lo hi n) (λ v. Parsed.got v next) (Parsed.bad range line))
+    on_some f
+    (λ (n, next). on_some (bounded_of lo hi n) (λ v. Parsed.got v next) (Parsed.bad range line))
     (Parsed.bad form line)
 
 -- a number of one to four digits from lo to hi with the byte b after it

@@ -1,22 +1,19 @@
 -- Numbers and their digits: the digits of n are read as n, and what is read as n is the digits of n.
-use Rattle.std.specs.Prelude.{ℕ, zero, suc, ◌+◌, ◌-◌, ◌*◌, ◌/◌, ◌%◌, ◌^◌, ◌<◌, ◌≤◌, Bool, get_or}
+use Rattle.std.specs.Prelude.{ℕ, zero, suc, ◌+◌, ◌-◌, ◌*◌, ◌/◌, ◌%◌, ◌^◌, ◌<◌, ◌≤◌, Bool, get_or, Option, Some, None}
 use Rattle.std.proofs.Math.Path.{◌≡◌, refl, ap}
 use Rattle.std.proofs.Common.{sym, ◌∙◌, arith, pow-suc, sub-one, length-append}
 use Rattle.std.proofs.Math.Bool.{true, false}
+use Rattle.std.proofs.lemmas.Option.{none-some, some_pair_parts}
 use mathlib.Core.List.{List, [], ◌∷◌, ◌++◌, append_assoc, append-nil}
 use borrow.Author.Tests.{lt-ltb, le-ltb, ltb-true, ltb-false}
 use Rattle.std.proofs.Math.Dec.{ltb}
 use Rattle.std.proofs.Math.ListN.{length}
 use Rattle.text.specs.declared.Cursor.{Cursor}
-use Rattle.text.specs.declared.Digit.{Digit}
-use Rattle.text.specs.declared.Number.{Number}
-use Rattle.text.specs.declared.Step.{Step}
-use Rattle.text.specs.declared.NumberField.{NumberField}
-use Rattle.text.specs.Reading.Choice.{pick, on_digit, on_number, on_step}
-use Rattle.text.specs.Reading.Bytes.{byte_at, from, ahead, passing, digit_of, past_of}
+use Rattle.text.specs.Reading.Choice.{pick, on_some}
+use Rattle.text.specs.Reading.Bytes.{byte_at, from, ahead, passing, digit_of}
 use Rattle.text.specs.Reading.BytesLaws.{from_byte, from-ahead, from_skip, past_spelt, past_reads, digit_byte, digit_small, digit_spelt}
 use Rattle.text.specs.Reading.Numbers.{more, number_at, field_at}
-use Rattle.text.specs.Reading.NumbersLaws.{number_none, number_zero, number_more, more_none, more_step, DigitsFit, room_first, room_step, room_below}
+use Rattle.text.specs.Reading.NumbersLaws.{number_none, number_zero, number_more, more_none, more_step, DigitsFit, room_first, room_step, room_below, field_found}
 use Rattle.text.specs.Writing.Digits.{digits_up_to, digits}
 
 -- ---- the digits of a number, the last apart
@@ -58,6 +55,10 @@ length_one n h = ap length (digits_one n h)
 pub length_more : (n : ℕ) → 10 ≤ n → n < 10000000 → length (digits n) ≡ length (digits (n / 10)) + 1
 length_more n l h = ap length (digits_more n l h) ∙ length-append (digits (n / 10)) ((n % 10 + 48) ∷ [])
 
+-- with the byte after it
+pub length_field : (n b : ℕ) → length (digits n ++ (b ∷ [])) ≡ length (digits n) + 1
+length_field n b = length-append (digits n) (b ∷ [])
+
 up_to_length : (k j n : ℕ) → n < 10 ^ suc j → length (digits_up_to k n) ≤ suc j
 unfolding digits_up_to
 up_to_length zero j n h = omega arith
@@ -79,10 +80,10 @@ digits-length j n h = up_to_length 6 j n h
 -- ---- what is read is the digits of its value
 
 -- one digit more, or none
-more_one : (s : List ℕ) (c : Cursor) (v n : ℕ) (next : Cursor) (k : ℕ) → 0 < v → DigitsFit (suc k) v → (x : Digit) → digit_of (byte_at s c) ≡ x →
-    ((w : ℕ) → 0 < w → DigitsFit k w → more k s (ahead c) w ≡ Number.Value n next → digits w ++ from s (ahead c) ≡ digits n ++ from s next) →
-    on_digit x (λ d. more k s (ahead c) (v * 10 + d)) (Number.Value v c) ≡ Number.Value n next → digits v ++ from s c ≡ digits n ++ from s next
-more_one s c v n next k l r (Digit.Worth d) h ih f =
+more_one : (s : List ℕ) (c : Cursor) (v n : ℕ) (next : Cursor) (k : ℕ) → 0 < v → DigitsFit (suc k) v → (x : Option ℕ) → digit_of (byte_at s c) ≡ x →
+    ((w : ℕ) → 0 < w → DigitsFit k w → more k s (ahead c) w ≡ Some (n, next) → digits w ++ from s (ahead c) ≡ digits n ++ from s next) →
+    on_some x (λ d. more k s (ahead c) (v * 10 + d)) (Some (v, c)) ≡ Some (n, next) → digits v ++ from s c ≡ digits n ++ from s next
+more_one s c v n next k l r (Some d) h ih f =
     let small = digit_small s c d h in
     let room : DigitsFit k (v * 10 + d) = rw sub-one at (room_step (suc k) v d (omega arith) small r) in
     let under = room_below k (v * 10 + d) room in
@@ -90,26 +91,24 @@ more_one s c v n next k l r (Digit.Worth d) h ih f =
     ∙ sym (append_assoc (digits v) ((d + 48) ∷ []) (from s (ahead c)))
     ∙ ap (λ (x : List ℕ). x ++ from s (ahead c)) (sym (digits_snoc v d l (omega arith) small))
     ∙ ih (v * 10 + d) (omega arith) room f
-more_one s c v n next k l r Digit.Other h ih f =
-    let p : v ≡ n = cc in
-    let q : c ≡ next = cc in
+more_one s c v n next k l r None h ih f =
+    let (p, q) = some_pair_parts v n c next f in
     rw (p, q) refl
 
-more-spelt : (k : ℕ) (s : List ℕ) (c : Cursor) (v n : ℕ) (next : Cursor) → 0 < v → DigitsFit k v → more k s c v ≡ Number.Value n next →
+more-spelt : (k : ℕ) (s : List ℕ) (c : Cursor) (v n : ℕ) (next : Cursor) → 0 < v → DigitsFit k v → more k s c v ≡ Some (n, next) →
     digits v ++ from s c ≡ digits n ++ from s next
 unfolding more
 more-spelt zero s c v n next l r e =
-    let p : v ≡ n = cc in
-    let q : c ≡ next = cc in
+    let (p, q) = some_pair_parts v n c next e in
     rw (p, q) refl
 more-spelt (suc k) s c v n next l r e =
     more_one s c v n next k l r (digit_of (byte_at s c)) refl (λ w f. more-spelt k s (ahead c) w n next f) e
 
 module _ (m : ℕ) (low : 1 ≤ m) (high : m ≤ 7) where
-  pub number-spelt : (s : List ℕ) (c next : Cursor) (n : ℕ) → number_at m s c ≡ Number.Value n next → from s c ≡ digits n ++ from s next
+  pub number-spelt : (s : List ℕ) (c next : Cursor) (n : ℕ) → number_at m s c ≡ Some (n, next) → from s c ≡ digits n ++ from s next
   number-spelt s c next n e = go (digit_of (byte_at s c)) refl
     where
-      more_of : (d : ℕ) → digit_of (byte_at s c) ≡ Digit.Worth (suc d) → from s c ≡ digits n ++ from s next
+      more_of : (d : ℕ) → digit_of (byte_at s c) ≡ Some (suc d) → from s c ≡ digits n ++ from s next
       more_of d h =
           let small = digit_small s c (suc d) h in
           let same : suc d % 10 ≡ suc d = omega arith in
@@ -119,38 +118,19 @@ module _ (m : ℕ) (low : 1 ≤ m) (high : m ≤ 7) where
           ∙ ap (λ (x : List ℕ). x ++ from s (ahead c)) (sym one)
           ∙ more-spelt (m - 1) s (ahead c) (suc d) n next (omega arith) (room_first m (suc d) low high small) rest
 
-      go : (x : Digit) → digit_of (byte_at s c) ≡ x → from s c ≡ digits n ++ from s next
-      go Digit.Other h =
-          let z = sym (number_none s c m h) ∙ e in
-          let w : ◌≡◌ {A = ℕ} 0 1 = cc in
-          absurd (omega arith)
-      go (Digit.Worth zero) h =
-          let z : Number.Value 0 (ahead c) ≡ Number.Value n next = sym (number_zero s c m h) ∙ e in
-          let p : 0 ≡ n = cc in
-          let q : ahead c ≡ next = cc in
+      go : (x : Option ℕ) → digit_of (byte_at s c) ≡ x → from s c ≡ digits n ++ from s next
+      go None h = absurd (none-some (n, next) (sym (number_none s c m h) ∙ e))
+      go (Some zero) h =
+          let (p, q) = some_pair_parts 0 n (ahead c) next (sym (number_zero s c m h) ∙ e) in
           let w : from s c ≡ 48 ∷ from s (ahead c) = digit_spelt s c 0 h in
           rw (← p, ← q, digits_one 0 (omega arith)) w
-      go (Digit.Worth (suc d)) h = more_of d h
+      go (Some (suc d)) h = more_of d h
 
   -- a number and the byte b after it, from c up to next
-  pub field-spelt : (s : List ℕ) (c next : Cursor) (b n : ℕ) → b < 256 → field_at m s c b ≡ NumberField.Value n next → from s c ≡ digits n ++ (b ∷ from s next)
-  unfolding field_at
-  field-spelt s c next b n h e = go (number_at m s c) refl e
-    where
-      step : (x : ℕ) (after : Cursor) → number_at m s c ≡ Number.Value x after → (y : Step) → past_of s after b ≡ y →
-          on_step y (λ z. NumberField.Value x z) NumberField.Malformed ≡ NumberField.Value n next → from s c ≡ digits n ++ (b ∷ from s next)
-      step x after hx (Step.Next z) hy f =
-          let q : x ≡ n = cc in
-          let p : z ≡ next = cc in
-          let t = number-spelt s c after x hx ∙ ap (λ (l : List ℕ). digits x ++ l) (past_spelt s after z b h hy) in
-          rw (← q, ← p) t
-      step x after hx Step.Wrong hy f = let z : ◌≡◌ {A = ℕ} 0 1 = cc in absurd (omega arith)
-
-      go : (x : Number) → number_at m s c ≡ x →
-          on_number x (λ y after. on_step (past_of s after b) (λ z. NumberField.Value y z) NumberField.Malformed) NumberField.Malformed
-          ≡ NumberField.Value n next → from s c ≡ digits n ++ (b ∷ from s next)
-      go (Number.Value x after) hx f = step x after hx (past_of s after b) refl f
-      go Number.Malformed hx f = let z : ◌≡◌ {A = ℕ} 0 1 = cc in absurd (omega arith)
+  pub field-spelt : (s : List ℕ) (c next : Cursor) (b n : ℕ) → b < 256 → field_at m s c b ≡ Some (n, next) → from s c ≡ digits n ++ (b ∷ from s next)
+  field-spelt s c next b n h e =
+      let f = field_found m s c b n next e in
+      number-spelt s c f.after n f.number ∙ ap (λ (l : List ℕ). digits n ++ l) (past_spelt s f.after next b h f.past)
 
 -- ---- the digits of n are read as n
 
@@ -199,12 +179,12 @@ prefix_reads (suc k) n m s c rest l h few e =
         rw size (last_reads (n / 10) n m s c (digits_up_to k (n / 10)) rest refl (omega arith) split (ih (omega arith) (omega arith) split))
 
 module _ (m : ℕ) (s : List ℕ) (c : Cursor) (n : ℕ) (rest : List ℕ) (low : 1 ≤ m) (few : length (digits n) ≤ m) (small : n < 10000000)
-    (e : from s c ≡ digits n ++ rest) (o : digit_of (get_or rest 0 256) ≡ Digit.Other) where
-  pub number_reads : number_at m s c ≡ Number.Value n (past_text c (digits n))
+    (e : from s c ≡ digits n ++ rest) (o : digit_of (get_or rest 0 256) ≡ None) where
+  pub number_reads : number_at m s c ≡ Some (n, past_text c (digits n))
   unfolding digits
   number_reads = go (ltb 0 n) refl
     where
-      go : (b : Bool) → ltb 0 n ≡ b → number_at m s c ≡ Number.Value n (past_text c (digits n))
+      go : (b : Bool) → ltb 0 n ≡ b → number_at m s c ≡ Some (n, past_text c (digits n))
       go true h =
           let after : from s (past_text c (digits n)) ≡ rest = from_skip s c (digits n) rest e in
           prefix_reads 6 n m s c rest (ltb-true 0 n h) (omega arith) few e
@@ -222,19 +202,18 @@ digits_only a b small-a small_b e =
     let start : Cursor = record { at = 0; line = 1 } in
     let first = number_reads 7 (digits a) start a [] (omega arith) (digits-length 6 a (omega arith)) small-a (sym (append-nil (digits a))) refl in
     let second = number_reads 7 (digits a) start b [] (omega arith) (digits-length 6 b (omega arith)) small_b (e ∙ sym (append-nil (digits b))) refl in
-    let same : Number.Value a _ ≡ Number.Value b _ = sym first ∙ second in
-    cc
+    (some_pair_parts a b _ _ (sym first ∙ second)).0
 
 -- where the field of n ends, with the byte b after it
 abbrev pub past_field : Cursor → ℕ → ℕ → Cursor
 past_field c n b = passing b (past_text c (digits n))
 
 module _ (m : ℕ) (s : List ℕ) (c : Cursor) (n b : ℕ) (rest : List ℕ) (low : 1 ≤ m) (few : length (digits n) ≤ m) (small : n < 10000000)
-    (o : digit_of b ≡ Digit.Other) (e : from s c ≡ digits n ++ (b ∷ rest)) where
+    (o : digit_of b ≡ None) (e : from s c ≡ digits n ++ (b ∷ rest)) where
   field-after : from s (past_text c (digits n)) ≡ b ∷ rest
   field-after = from_skip s c (digits n) (b ∷ rest) e
 
-  pub field_reads : field_at m s c b ≡ NumberField.Value n (past_field c n b)
+  pub field_reads : field_at m s c b ≡ Some (n, past_field c n b)
   unfolding field_at
   field_reads = simp (number_reads m s c n (b ∷ rest) low few small e o, past_reads s (past_text c (digits n)) b rest field-after)
 

@@ -1,8 +1,8 @@
 -- Texts written one after the other are one text written.
-use Rattle.std.specs.Prelude.{ℕ, suc, ◌+◌, ◌≤◌, ◌<◌, ◌≡◌, refl, List, [], ◌∷◌, ◌++◌, length, get_or, set, drop}
-use Rattle.std.proofs.Common.{sym, ap, ◌∙◌, arith, add-one, length-append, drop_of_length-le, drop-cons}
-use Rattle.std.proofs.lemmas.List.Edits.{sets}
-use Rattle.std.proofs.Math.Seq.{length-sets}
+use Rattle.std.specs.Prelude.{ℕ, suc, ◌+◌, ◌-◌, ◌<◌, ◌≤◌, ◌≡◌, refl, List, [], ◌∷◌, ◌++◌, length, get_or, set, take, drop}
+use Rattle.std.proofs.Common.{sym, ap, ◌∙◌, arith, append_assoc, length-append, length-take-le, drop-drop, add-one, drop_of_length-le, drop-cons, append-nil}
+use Rattle.std.proofs.lemmas.List.Edits.{sets, sets-eq}
+use Rattle.std.proofs.Math.Seq.{length-sets, take-append_seam}
 use Rattle.text.specs.Writing.Splice.{Put}
 
 pub sets_append : (l : List ℕ) (i : ℕ) (t u : List ℕ) → sets (sets l i t) (i + length t) u ≡ sets l i (t ++ u)
@@ -18,6 +18,14 @@ put_then {entry} {middle} {exit} {at} {next} {r} {t} {u} p q = record {
   bytes = q.bytes ∙ ap (λ (l : List ℕ). sets l next u) p.bytes ∙ ap (λ (i : ℕ). sets (sets entry at t) i u) p.next ∙ sets_append entry at t u;
   next = q.next ∙ ap (λ (i : ℕ). i + length u) p.next ∙ (rw length-append (omega arith));
 }
+
+-- the front of a buffer, with a text put after it
+pub put_after : {entry exit : List ℕ} {at next : ℕ} {t : List ℕ} → Put entry exit at t next → at + length t ≤ length entry → take next exit ≡ take at entry ++ t
+put_after {entry} {exit} {at} {next} {t} p fits =
+    let size : next ≡ length (take at entry ++ t) = omega (arith, p.next, length-append (take at entry) t, length-take-le at entry (omega arith)) in
+    ap (λ (l : List ℕ). take next l) (p.bytes ∙ sets-eq t entry at fits)
+    ∙ ap (λ (k : ℕ). take k ((take at entry ++ t) ++ drop (at + length t) entry)) size
+    ∙ take-append_seam (take at entry ++ t) (drop (at + length t) entry)
 
 -- ---- a text written byte by byte from position `at` on, of which i bytes are written
 
@@ -65,3 +73,24 @@ module _ {entry : List ℕ} {start : ℕ} {whole : List ℕ} where
     bytes = ap (λ (l : List ℕ). sets now at l) (sym e) ∙ p.bytes;
     next = omega (arith, p.next, ap length e);
   }
+
+-- ---- a text of which `now` is written, with a part and the rest yet to write
+
+module _ (now part rest : List ℕ) {whole : List ℕ} (left : now ++ (part ++ rest) ≡ whole) where
+  pub part_put : (now ++ part) ++ rest ≡ whole
+  part_put = append_assoc now part rest ∙ left
+
+  -- the part fits where the whole does
+  pub part_fits : length now + length part ≤ length whole
+  part_fits = omega (arith, length-append {A = ℕ}, ap length part_put)
+
+pub all_put : (now : List ℕ) {rest whole : List ℕ} → now ++ rest ≡ whole → rest ≡ [] → now ≡ whole
+all_put now left none = sym (append-nil now) ∙ ap (λ (x : List ℕ). now ++ x) (sym none) ∙ left
+
+-- ---- a text copied over the bytes from position `at` on
+
+pub put_over : (out t ys : List ℕ) (at : ℕ) → at + length t ≤ length out → ys ≡ t →
+    Put out (take at out ++ (ys ++ drop (at + length t - at) (drop at out))) at t (at + length t)
+put_over out t ys at fits is =
+    let count : at + length t - at ≡ length t = omega arith in
+    record { bytes = rw (is, count, drop-drop (length t) at out) (sym (sets-eq t out at fits ∙ append_assoc (take at out) t (drop (at + length t) out))); next = refl }

@@ -1,33 +1,26 @@
 -- The answers; the idea of the proof is at the head of the invariants.
-use mathlib.Core.Path.{sym}
-use native.Mathlib.Nat.{sub-zero}
-use native.Mathlib.Omega.{arith}
-use Rattle.text.specs.Writing.SpliceLaws.{putting_start, putting_step, putting_end}
-use Rattle.gtfs.specs.WritingLaws.{next-stop, no_stop, stop_room}
+use Rattle.std.proofs.Common.{sym, arith, length-append, []}
+use Rattle.gtfs.specs.Spell.{stops_text}
+use Rattle.text.specs.Writing.SpliceLaws.{part_put, all_put}
+use Rattle.gtfs.specs.WritingLaws.{next-stop, no_stop, stop_fits}
 use Rattle.gtfs.proofs.exporting.put_stops.Goals as goal
 
-pub loop-j-init : goal.loop-j-init
-loop-j-init c = (rw sub-zero putting_start, omega arith)
-
-pub put_stop_time-at-requires : goal.put_stop_time-at-requires
-put_stop_time-at-requires c =
-    let here = c.loop-j-test.true in
+pub put_stop_time-requires : goal.put_stop_time-requires
+put_stop_time-requires c =
     let w = c.loop-j in
     let legs = c.legs_between-legs in
-    let fits = rw (sym legs.ensures) at c.requires.3 in
-    rw c.time_after.ensures (stop_room c.args.train c.args.m.now c.args.i legs.result w.j w.invariant.0 here fits)
+    let fits = rw (sym legs.ensures) at c.requires.2 in
+    let size = length-append c.args.out.now (stops_text legs.result c.args.train c.args.m.now c.args.i 0 []) in
+    let room = stop_fits c.args.train c.args.m.now c.args.i legs.result w.j w.out w.invariant (omega arith) in
+    rw c.time_after.ensures (omega arith)
 
 pub loop-j-preserved : goal.loop-j-preserved
 loop-j-preserved c =
-    let put = c.put_stop_time-at in
-    let here = c.loop-j-test.true in
     let w = c.loop-j in
-    let legs = c.legs_between-legs in
-    let step = next-stop c.args.train c.args.m.now c.args.i legs.result w.j here in
-    (putting_step _ w.invariant.0 step (rw c.time_after.ensures at put.ensures), omega (arith, here))
+    rw (c.put_stop_time.ensures, c.time_after.ensures)
+    (part_put w.out _ _ (rw (next-stop c.args.train c.args.m.now c.args.i c.legs_between-legs.result w.j (omega arith)) at w.invariant))
 
 pub returns : goal.returns
 returns c =
     let w = c.loop-j in
-    let legs = c.legs_between-legs in
-    rw (sym legs.ensures) (putting_end w.invariant.0 (no_stop c.args.train c.args.m.now c.args.i legs.result w.j (omega arith)))
+    rw (sym c.legs_between-legs.ensures) (all_put w.out w.invariant (no_stop c.args.train c.args.m.now c.args.i c.legs_between-legs.result w.j (omega arith)))

@@ -10,10 +10,7 @@ use Rattle.line.specs.FileLaws.{gap_at}
 use Rattle.line.proofs.reading.segment_lines.Given as goal
 
 abbrev pub invariant-loop-k : goal.invariant-loop-k
-invariant-loop-k l = (lay_many (2 - l.k) gap_at l.s l.cursor l.gaps l.k ≡ lay_many 2 gap_at l.s l.initial.cursor (replicate 2 0) 0) × (l.k ≤ 2) × Counted l.cursor
-
-abbrev pub decreases-loop-k : goal.decreases-loop-k
-decreases-loop-k l = 2 - l.k
+invariant-loop-k l = (lay_many (2 - l.k) gap_at l.s l.cursor l.gaps l.k ≡ lay_many 2 gap_at l.s l.initial.cursor (replicate 2 0) 0) × Counted l.cursor
 
 abbrev pub invariant-lines : goal.invariant-lines
 invariant-lines l = (lay_many (l.count - l.i) (λ left. segment_line) l.s l.cursor l.segments l.i ≡ lay_many l.count (λ left. segment_line) l.s l.initial.cursor l.initial.segments 0) × (l.i ≤ l.count)

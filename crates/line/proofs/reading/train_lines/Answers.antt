@@ -1,136 +1,83 @@
 -- The answers; the idea of the proof is at the head of the invariants.
 use native.Mathlib.Omega.{arith}
-use Prim.Native.Nat.{ℕ, suc, ◌-◌, ◌+◌}
-use mathlib.Core.List.{List}
-use lib.ListN.{replicate}
-use Rattle.text.specs.declared.Cursor.{Cursor}
-use Rattle.text.specs.declared.Ending.{Ending}
-use mathlib.Core.Path.{◌≡◌, ◌∙◌, sym, ap, refl}
+use Prim.Native.Nat.{suc, ◌-◌, ◌+◌}
+use mathlib.Core.Path.{◌≡◌, ◌∙◌, sym, refl}
 use native.Mathlib.Nat.{sub-zero}
-use Rattle.text.specs.Reading.Parsed.{Parsed, map_parsed}
 use Rattle.text.specs.Elements.Padded.{padded}
-use Rattle.text.specs.Reading.Told.{told_ending, ending_of}
-use Rattle.text.specs.Places.Lines.{Counted, AnyNumber}
-use Rattle.text.proofs.Places.LinesLaws.{keeps_counted, field_counted}
 use Rattle.text.proofs.Elements.LayLaws.{lay_done}
-use Rattle.text.proofs.Reading.ToldLaws.{ranged_told}
-use Rattle.line.specs.declared.reading.Head.{Head}
-use Rattle.line.specs.Record.{legs_between}
-use Rattle.line.specs.File.{Journey, head_at, train_line}
-use Rattle.line.specs.Ranges.{run, stop}
-use Rattle.line.specs.FileLaws.{ended_told}
-use Rattle.line.specs.PlaceLaws.{any_line_number, stands_head, part_counted}
-use Rattle.line.specs.TrainLaws.{lay_journey, train_of, journey_stop-run, journey_stop-stop, journey_step, journey_last_read, journey_last_stop, train-stop_head, train-from, lines_begin, lines_read, lines-stop, head_legs}
+use Rattle.text.proofs.Places.LinesLaws.{field_counted}
+use Rattle.line.specs.File.{train_line}
+use Rattle.line.specs.PlaceLaws.{head_counted}
+use Rattle.line.specs.TrainLaws.{journey_stop-run, journey_stop-stop, journey_step, journey_last_read, journey_last_stop, train-stop_head, train-from, lines_read, lines-stop, head_legs}
 use Rattle.line.proofs.reading.train_lines.Goals as goal
 
--- at the inner loop: this line's train comes from its head and what is yet to read of its journey
-line-yet : (n : ℕ) (s : List ℕ) (c d now : Cursor) (h : Head) (legs k : ℕ) (runs stops : List ℕ) (e : Ending) → told_ending e h ≡ head_at n s c → e ≡ Ending.Done d →
-    legs ≡ legs_between h.origin h.destination →
-    lay_journey (legs - 1 - k) s now runs stops k ≡ lay_journey (legs - 1) s d (replicate 11 0) (replicate 11 0) 0 →
-    (j : Parsed Journey) → lay_journey (legs - 1 - k) s now runs stops k ≡ j → train_line n s c ≡ map_parsed (train_of h) j
-line-yet n s c d now h legs k runs stops e told done far inv j is =
-    train-from n s c h d legs j (sym told ∙ ended_told h done) far (sym is ∙ inv)
-
-pub lines-init : goal.lines-init
-lines-init c = (lines_begin _ _ _ _ _ c.no_train-none.ensures, omega arith, c.requires.2)
-
-pub train_head-part-requires : goal.train_head-part-requires
-train_head-part-requires c = c.lines.invariant.2
+pub overflow_sub-between : goal.overflow_sub-between
+overflow_sub-between c =
+    let legs = head_legs _ _ _ _ _ c.requires.1 (sym c.in-Ok.ensures) in
+    omega (arith, legs.0, c.legs_between-between.ensures)
 
 pub loop-k-init : goal.loop-k-init
 loop-k-init c =
-    let head = sym c.train_head-part.ensures ∙ ended_told _ c.in-Done.is in
-    let legs = head_legs _ _ _ _ _ c.requires.1 head in
-    let counted = part_counted _ _ (stands_head _ Counted (keeps_counted _) AnyNumber any_line_number _ _ c.lines.invariant.2) c.train_head-part.ensures c.in-Done.is in
-    (rw sub-zero refl, omega (arith, legs.0, c.legs_between-legs.ensures), omega (arith, legs.1, c.legs_between-legs.ensures), counted)
+    let legs = head_legs _ _ _ _ _ c.requires.1 (sym c.in-Ok.ensures) in
+    (rw sub-zero refl, omega (arith, legs.1, c.legs_between-between.ensures), head_counted _ _ _ c.lines.invariant.2 _ _ c.in-Ok.ensures)
 
-pub ranged-r-requires : goal.ranged-r-requires
-ranged-r-requires c = c.loop-k.invariant.3
-
-pub ranged-t-requires : goal.ranged-t-requires
-ranged-t-requires c = field_counted _ _ _ _ _ _ c.loop-k.invariant.3 c.ranged-r.ensures c.in-Value.is
+pub ranged-requires-in-loop-k : goal.ranged-requires-in-loop-k
+ranged-requires-in-loop-k c = field_counted _ _ _ _ _ _ c.loop-k.invariant.2 c.in-Ok-ranged.ensures refl
 
 pub loop-k-preserved : goal.loop-k-preserved
 loop-k-preserved c =
-    let m : c.legs_between-legs.result - 1 - c.loop-k.k ≡ suc (c.legs_between-legs.result - 1 - (c.loop-k.k + 1)) = omega
-    (arith, c.loop-k.invariant.1, c.loop-k-test.true) in
-    let r = ranged_told 2 3 run 32 _ _ refl refl c.ranged-r.ensures c.in-Value.is in
-    let t = ranged_told 2 3 stop 32 _ _ refl refl c.ranged-t.ensures c.in-Value-t.is in
-    let after_run = field_counted _ _ _ _ _ _ c.loop-k.invariant.3 c.ranged-r.ensures c.in-Value.is in
-    let counted = field_counted _ _ _ _ _ _ after_run c.ranged-t.ensures c.in-Value-t.is in
-    (sym (journey_step _ _ _ _ _ _ _ m _ _ r _ _ t) ∙ c.loop-k.invariant.0, omega (arith, m), c.loop-k.invariant.2, counted)
-
-pub ranged-last-requires : goal.ranged-last-requires
-ranged-last-requires c = c.loop-k.invariant.3
-
-pub offset_bounds-trains-i : goal.offset_bounds-trains-i
-offset_bounds-trains-i c =
-    omega arith
-
-pub bounds-trains-i : goal.bounds-trains-i
-bounds-trains-i c =
-    omega arith
-
-pub overflow_add-i : goal.overflow_add-i
-overflow_add-i c =
-    omega arith
-
-pub lines-smaller : goal.lines-smaller
-lines-smaller c = omega arith
+    let l = c.loop-k in
+    let m : c.legs_between-between.result - 1 - l.k ≡ suc (c.legs_between-between.result - 1 - (l.k + 1)) = omega arith in
+    let after_run = field_counted _ _ _ _ _ _ l.invariant.2 c.in-Ok-ranged.ensures refl in
+    let after_stop = field_counted _ _ _ _ _ _ after_run c.in-Ok-ranged-2.ensures refl in
+    (sym (journey_step _ _ _ _ _ _ _ m _ _ (sym c.in-Ok-ranged.ensures) _ _ (sym c.in-Ok-ranged-2.ensures)) ∙ l.invariant.0, l.invariant.1, after_stop)
 
 pub lines-preserved : goal.lines-preserved
 lines-preserved c =
-    let m : c.legs_between-legs.result - 1 - c.loop-k.k ≡ 0 = omega
-    (arith, c.loop-k.invariant.1, c.loop-k-test.false) in
-    let r = ranged_told 2 3 run 10 _ _ refl refl c.ranged-last.ensures c.in-Value-last.is in
-    let train = line-yet _ _ _ _ _ _ _ _ _ _ _ c.train_head-part.ensures c.in-Done.is c.legs_between-legs.ensures c.loop-k.invariant.0 _ (journey_last_read _ _ _ _ _ _ m _ _ r) in (
-      lines_read _ _ _ _ _ _ _ c.lines.invariant.0 (omega arith) _ _ _ train
-          c.train_of.ensures,
+    let l = c.loop-k in
+    let m : c.legs_between-between.result - 1 - l.k ≡ 0 = omega arith in
+    let end : l.k ≡ c.legs_between-between.result - 1 = omega arith in
+    let journey = journey_last_read _ _ _ _ _ _ m _ _ (sym c.in-Ok-ranged-3.ensures) in
+    let train = rw end at (train-from _ _ _ _ _ _ _ (sym c.in-Ok.ensures) c.legs_between-between.ensures (sym journey ∙ l.invariant.0)) in (
+      lines_read _ _ _ _ _ _ _ c.lines.invariant.0 (omega arith) _ _ _ train c.train_of.ensures,
       omega arith,
-      field_counted _ _ _ _ _ _ c.loop-k.invariant.3 c.ranged-last.ensures c.in-Value-last.is,
+      field_counted _ _ _ _ _ _ l.invariant.2 c.in-Ok-ranged-3.ensures refl,
     )
 
 pub returns-then-i-count : goal.returns-then-i-count
 unfolding padded
 returns-then-i-count c =
-    let w = c.lines in
-    let k : c.args.count - w.i ≡ 0 = omega arith in
-    sym (lay_done (λ left. train_line c.args.stations) _ 0 _ _ _ _ k) ∙ w.invariant.0
+    let k : c.args.count - c.lines.i ≡ 0 = omega arith in
+    sym (lay_done (λ left. train_line c.args.stations) _ 0 _ _ _ _ k) ∙ c.lines.invariant.0
 
-pub returns-in_default : goal.returns-in_default
+pub returns-in-Err : goal.returns-in-Err
 unfolding padded
-returns-in_default c =
-    let w = c.lines in
-    let h = c.in_default.is in
-    let head = sym c.train_head-part.ensures ∙ ended_told _ h in
-    lines-stop _ _ _ _ _ _ _ w.invariant.0 (omega arith) _ _ _ (train-stop_head _ _ _ _ _ head) (ended_told _ h)
+returns-in-Err c =
+    lines-stop _ _ _ _ _ _ _ c.lines.invariant.0 (omega arith) _ _ _ (train-stop_head _ _ _ _ _ (sym c.in-Err.ensures)) refl
 
-pub returns-in_default-r : goal.returns-in_default-r
+pub returns-in-Err-ranged : goal.returns-in-Err-ranged
 unfolding padded
-returns-in_default-r c =
-    let m : c.legs_between-legs.result - 1 - c.loop-k.k ≡ suc (c.legs_between-legs.result - 1 - (c.loop-k.k + 1)) = omega
-    (arith, c.loop-k.invariant.1, c.loop-k-test.true) in
-    let r = ranged_told 2 3 run 32 _ _ refl refl c.ranged-r.ensures c.in_default-r.is in
-    let train = line-yet _ _ _ _ _ _ _ _ _ _ _ c.train_head-part.ensures c.in-Done.is c.legs_between-legs.ensures c.loop-k.invariant.0 _ (journey_stop-run _ _ _ _ _ _ _ m _ _ r) in
-    lines-stop _ _ _ _ _ _ _ c.lines.invariant.0 (omega arith) _ _ _ train
-    (ended_told _ (c.ending_of-ending.ensures ∙ ap ending_of c.in_default-r.is))
+returns-in-Err-ranged c =
+    let l = c.loop-k in
+    let m : c.legs_between-between.result - 1 - l.k ≡ suc (c.legs_between-between.result - 1 - (l.k + 1)) = omega arith in
+    let journey = journey_stop-run _ _ _ _ _ _ _ m _ _ (sym c.in-Err-ranged.ensures) in
+    let train = train-from _ _ _ _ _ _ _ (sym c.in-Ok.ensures) c.legs_between-between.ensures (sym journey ∙ l.invariant.0) in
+    lines-stop _ _ _ _ _ _ _ c.lines.invariant.0 (omega arith) _ _ _ train refl
 
-pub returns-in_default-t : goal.returns-in_default-t
+pub returns-in-Err-ranged-2 : goal.returns-in-Err-ranged-2
 unfolding padded
-returns-in_default-t c =
-    let m : c.legs_between-legs.result - 1 - c.loop-k.k ≡ suc (c.legs_between-legs.result - 1 - (c.loop-k.k + 1)) = omega
-    (arith, c.loop-k.invariant.1, c.loop-k-test.true) in
-    let r = ranged_told 2 3 run 32 _ _ refl refl c.ranged-r.ensures c.in-Value.is in
-    let t = ranged_told 2 3 stop 32 _ _ refl refl c.ranged-t.ensures c.in_default-t.is in
-    let train = line-yet _ _ _ _ _ _ _ _ _ _ _ c.train_head-part.ensures c.in-Done.is c.legs_between-legs.ensures c.loop-k.invariant.0 _ (journey_stop-stop _ _ _ _ _ _ _ m _ _ r _ _ t) in
-    lines-stop _ _ _ _ _ _ _ c.lines.invariant.0 (omega arith) _ _ _ train
-    (ended_told _ (c.ending_of-ending-in_default-t.ensures ∙ ap ending_of c.in_default-t.is))
+returns-in-Err-ranged-2 c =
+    let l = c.loop-k in
+    let m : c.legs_between-between.result - 1 - l.k ≡ suc (c.legs_between-between.result - 1 - (l.k + 1)) = omega arith in
+    let journey = journey_stop-stop _ _ _ _ _ _ _ m _ _ (sym c.in-Ok-ranged.ensures) _ _ (sym c.in-Err-ranged-2.ensures) in
+    let train = train-from _ _ _ _ _ _ _ (sym c.in-Ok.ensures) c.legs_between-between.ensures (sym journey ∙ l.invariant.0) in
+    lines-stop _ _ _ _ _ _ _ c.lines.invariant.0 (omega arith) _ _ _ train refl
 
-pub returns-in_default-last : goal.returns-in_default-last
+pub returns-in-Err-ranged-3 : goal.returns-in-Err-ranged-3
 unfolding padded
-returns-in_default-last c =
-    let m : c.legs_between-legs.result - 1 - c.loop-k.k ≡ 0 = omega (arith, c.loop-k.invariant.1, c.loop-k-test.false) in
-    let r = ranged_told 2 3 run 10 _ _ refl refl c.ranged-last.ensures c.in_default-last.is in
-    let train = line-yet _ _ _ _ _ _ _ _ _ _ _ c.train_head-part.ensures c.in-Done.is c.legs_between-legs.ensures c.loop-k.invariant.0 _ (journey_last_stop _ _ _ _ _ _ m _ _ r) in
-    lines-stop _ _ _ _ _ _ _ c.lines.invariant.0 (omega arith) _ _ _ train
-    (ended_told _ (c.ending_of-ending-in_default-last.ensures ∙ ap ending_of c.in_default-last.is))
+returns-in-Err-ranged-3 c =
+    let l = c.loop-k in
+    let m : c.legs_between-between.result - 1 - l.k ≡ 0 = omega arith in
+    let journey = journey_last_stop _ _ _ _ _ _ m _ _ (sym c.in-Err-ranged-3.ensures) in
+    let train = train-from _ _ _ _ _ _ _ (sym c.in-Ok.ensures) c.legs_between-between.ensures (sym journey ∙ l.invariant.0) in
+    lines-stop _ _ _ _ _ _ _ c.lines.invariant.0 (omega arith) _ _ _ train refl

@@ -1,19 +1,8 @@
--- `line::writing::booked_fault` meets its contract: each `return` is the first fault of the checks made so far, and the count of bookings without fault
--- bounds what is checked next (`tells_number`). Assumes nothing.
-use mathlib.Core.Path.{◌∙◌, sym}
-use native.Mathlib.Omega.{arith}
-use Rattle.line.specs.FaultLaws.{found_first, found_later, tells_number}
+-- `line::writing::booked_fault` meets its contract: a count in its limits is one of the array's sizes. Assumes nothing.
+use Rattle.std.proofs.Common.{arith}
+use Rattle.line.specs.Ranges.{booking_count}
+use Rattle.line.specs.FaultLaws.{number_fits}
 use Rattle.line.proofs.writing.booked_fault.Goals as goal
 
-pub returns-in_default : goal.returns-in_default
-returns-in_default c = found_first _ c.number_fault-number.ensures c.in_default.is
-
-pub booking_faults-requires : goal.booking_faults-requires
-booking_faults-requires c =
-    let number = (tells_number _ _ _).holds (sym c.number_fault-number.ensures ∙ c.in-None.is) in
-    let pre = c.requires in
-    (number.1, pre.0, omega arith)
-
-pub returns : goal.returns
-returns c =
-    found_later c.number_fault-number.ensures c.in-None.is c.booking_faults.ensures
+pub shared_ref_as_front-bookings : goal.shared_ref_as_front-bookings
+shared_ref_as_front-bookings c = omega (arith, number_fits booking_count _ _ c.number_fault.ensures c.in_ok-number_fault.was)

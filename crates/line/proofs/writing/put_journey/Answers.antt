@@ -1,54 +1,30 @@
 -- The answers; the idea of the proof is at the head of the invariants.
-use native.Mathlib.Omega.{arith}
-use borrow.Author.Rules.{rules}
-use mir.Syntax.{w16}
-use mir.Val.{Fits}
-use lib.ListN.{get_or}
-use Rattle.text.specs.Writing.SpliceLaws.{putting_start, put_then}
-use Rattle.line.specs.SpellLaws.{journey_room, journey_put, journey_last_room, journey_end}
+use Rattle.std.proofs.Common.{ℕ, ◌≡◌, length-append, arith, [], ap, length}
+use Rattle.text.specs.Writing.Digits.{field_text}
+use Rattle.line.specs.Spell.{journey_text}
+use Rattle.line.specs.SpellLaws.{leg_fits, last_fits}
 use Rattle.line.proofs.writing.put_journey.Goals as goal
 
-pub loop-k-init : goal.loop-k-init
-loop-k-init c = (putting_start, omega arith)
-
-pub put_field-after_run-requires : goal.put_field-after_run-requires
-put_field-after_run-requires c =
+pub field-requires : goal.field-requires
+field-requires c =
     let w = c.loop-k in
-    let short : Fits w16 (get_or c.args.runs w.k 0) = search rules in (
-      omega (arith, journey_room c.args.runs c.args.stops c.args.legs w.k (omega arith) w.invariant.0 (omega arith) c.requires.2),
-      omega (arith, short.fits),
-    )
+    let fits = leg_fits c.args.runs.now c.args.stops.now w.k w.out _ w.invariant c.loop-k-test.true in
+    let size = length-append c.args.out.now (journey_text c.args.stops.now c.args.runs.now []) in
+    (omega arith, (rw c.from.ensures (omega arith), rw c.from.ensures (omega (arith, (c.type_inv.runs w.k).fits))))
 
-pub put_field-at-requires : goal.put_field-at-requires
-put_field-at-requires c =
-    let put = c.put_field-after_run in
+pub field-requires-in-loop-k : goal.field-requires-in-loop-k
+field-requires-in-loop-k c =
     let w = c.loop-k in
-    let short : Fits w16 (get_or c.args.stops w.k 0) = search rules in (
-      omega (
-        arith,
-        journey_room c.args.runs c.args.stops c.args.legs w.k (omega arith) w.invariant.0 (omega arith) c.requires.2,
-        put.ensures.next,
-        put.auto.out,
-      ),
-      omega (arith, short.fits),
-    )
+    let fits = leg_fits c.args.runs.now c.args.stops.now w.k w.out _ w.invariant c.loop-k-test.true in
+    let size = length-append c.args.out.now (journey_text c.args.stops.now c.args.runs.now []) in
+    let run = length-append w.out (field_text c.from.result 32) in
+    let same = ap (λ (n : ℕ). length (field_text n 32)) c.from.ensures in
+    (omega arith, (rw (c.from-in-loop-k.ensures, c.field.ensures) (omega arith), rw c.from-in-loop-k.ensures (omega (arith, (c.type_inv.stops w.k).fits))))
 
-pub loop-k-preserved : goal.loop-k-preserved
-loop-k-preserved c =
-    let stop = c.put_field-at in
-    let run = c.put_field-after_run in
-    let w = c.loop-k in (
-      journey_put c.args.runs c.args.stops c.args.legs w.k (omega arith) w.invariant.0 (omega arith) (put_then run.ensures stop.ensures),
-      omega arith,
-    )
-
-pub put_field-requires : goal.put_field-requires
-put_field-requires c =
+pub field-requires-2 : goal.field-requires-2
+field-requires-2 c =
     let w = c.loop-k in
-    let short : Fits w16 (get_or c.args.runs w.k 0) = search rules in
-    (journey_last_room c.args.runs c.args.stops c.args.legs w.k (omega arith) w.invariant.0 (omega arith) c.requires.2, omega (arith, short.fits))
-
-pub returns : goal.returns
-returns c =
-    let w = c.loop-k in
-    journey_end c.args.runs c.args.stops c.args.legs w.k (omega arith) w.invariant.0 (omega arith) c.put_field.ensures
+    let fits = last_fits c.args.runs.now c.args.stops.now w.k w.out _ w.invariant c.loop-k-test.false in
+    let size = length-append c.args.out.now (journey_text c.args.stops.now c.args.runs.now []) in
+    let last : length c.args.stops.now ≡ w.k = omega arith in
+    (omega arith, (rw (c.from-2.ensures, last) (omega arith), rw c.from-2.ensures (omega (arith, (c.type_inv.runs (length c.args.stops.now)).fits))))

@@ -1,29 +1,15 @@
 -- The answers; the idea of the proof is at the head of the invariants.
-use mathlib.Core.Path.{◌∙◌, sym}
-use native.Mathlib.Omega.{arith}
-use borrow.Author.Rules.{rules}
-use Rattle.line.specs.FaultLaws.{lines_found, lines_clean, lines_end, times_lines}
-use Rattle.line.specs.Writing.{number_fault}
+use Rattle.std.proofs.Common.{◌≡◌, ◌∙◌, Err, rules}
+use Rattle.line.specs.FaultLaws.{times_found, times_clean, times_end}
 use Rattle.line.proofs.writing.time_faults.Goals as goal
 
-pub returns-in_default : goal.returns-in_default
-returns-in_default c =
-    let w = c.loop-i in
-    lines_found (λ _ n. number_fault c.args.limits n c.args.line) c.args.times c.args.count w.i w.i (search rules)
-    0 c.loop-i-test.true c.number_fault-fault.ensures c.in_default.is
-    ∙ w.invariant.0 ∙ sym (times_lines _ _ _ 0)
+pub returns-in_err-number_fault : goal.returns-in_err-number_fault
+returns-in_err-number_fault c =
+    let same : c.from_residual.result ≡ Err c.in_err-number_fault.field-0.0 = search rules in
+    same ∙ times_found _ _ c.loop-n.n-index _ c.loop-n-test.true c.number_fault.ensures c.in_err-number_fault.was ∙ c.loop-n.invariant
 
-pub loop-i-preserved : goal.loop-i-preserved
-loop-i-preserved c =
-    let w = c.loop-i in (
-      lines_clean (λ _ n. number_fault c.args.limits n c.args.line) c.args.times c.args.count w.i w.i (search rules)
-          0 _ (omega arith) c.loop-i-test.true c.number_fault-fault.ensures c.in-None.is
-          ∙ w.invariant.0,
-      omega arith,
-    )
+pub loop-n-preserved : goal.loop-n-preserved
+loop-n-preserved c = times_clean _ _ c.loop-n.n-index _ c.loop-n-test.true c.number_fault.ensures c.in_ok-number_fault.was ∙ c.loop-n.invariant
 
 pub returns : goal.returns
-returns c =
-    let w = c.loop-i in
-    lines_end (λ _ n. number_fault c.args.limits n c.args.line) c.args.times c.args.count w.i w.i (search rules) (omega arith)
-    ∙ w.invariant.0 ∙ sym (times_lines _ _ _ 0)
+returns c = times_end _ _ c.loop-n.n-index _ c.loop-n-test.false ∙ c.loop-n.invariant

@@ -1,23 +1,9 @@
 -- `orders::first::leg_minute` meets its contract: a run is no longer than the free arrival after it (`run-free`). Assumes nothing.
 use Prim.Native.Nat.{◌%◌}
 use native.Mathlib.Omega.{arith}
-use Rattle.rules.specs.StatementLaws.PathsLaws.{legs-most}
-use Rattle.orders.specs.Graph.LegsLaws.{leg_path}
 use Rattle.rules.proofs.StatementLaws.FreeArrivalLaws.{run-free}
 use Rattle.orders.specs.LeastMinutes.FirstPlanLaws.{minute_departs, minute_arrives}
 use Rattle.orders.proofs.first.leg_minute.Goals as goal
-
-pub leg_on-k-requires : goal.leg_on-k-requires
-leg_on-k-requires c =
-    (leg_path c.args.line _ c.requires.0 c.requires.3, c.requires.3.1)
-
-pub offset_bounds-runs-k : goal.offset_bounds-runs-k
-offset_bounds-runs-k c =
-    omega (arith, c.leg_on-k.ensures.1, legs-most c.args.line _ c.requires.0 c.requires.3.0)
-
-pub bounds-runs-k : goal.bounds-runs-k
-bounds-runs-k c =
-    omega (arith, c.leg_on-k.ensures.1, legs-most c.args.line _ c.requires.0 c.requires.3.0)
 
 pub overflow_sub-result : goal.overflow_sub-result
 overflow_sub-result c =
@@ -27,6 +13,6 @@ pub returns-then-x-lt176 : goal.returns-then-x-lt176
 returns-then-x-lt176 c =
     minute_departs c.args.line c.args.x c.requires.3 c.leg_on-k.ensures.0 c.free_after-arrival.ensures c.if-x-lt176.true
 
-pub returns : goal.returns
-returns c =
+pub returns-else-x-lt176 : goal.returns-else-x-lt176
+returns-else-x-lt176 c =
     minute_arrives c.args.line c.args.x c.requires.3 c.leg_on-k.ensures.0 c.free_after-arrival.ensures c.if-x-lt176.false

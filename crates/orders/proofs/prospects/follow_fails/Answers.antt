@@ -1,19 +1,8 @@
 -- `orders::prospects::follow_fails` meets its contract: the arcs of the choice ask for the minutes of a train behind, so every solution has them.
 use mathlib.Core.Path.{refl}
-use native.Mathlib.Omega.{arith}
-use Rattle.orders.specs.Lift.LiftingLaws.{ready_leg}
 use Rattle.orders.proofs.Lift.ServingLaws.{serves_behind}
 use Rattle.orders.proofs.Look.ProspectsLaws.{none_chosen}
 use Rattle.orders.proofs.prospects.follow_fails.Goals as goal
-
-pub train_fails-requires : goal.train_fails-requires
-train_fails-requires c =
-    let r = c.requires.0.ready in
-    let b = c.times_behind-b.ensures in (
-      ready_leg _ _ _ _ _ _ _ _ r (r.shaped.beside_used c.args.e c.args.j r.leg c.requires.1 c.requires.2),
-      omega (arith, b.1),
-      omega (arith, b.2),
-    )
 
 pub returns : goal.returns
 returns c = λ q.

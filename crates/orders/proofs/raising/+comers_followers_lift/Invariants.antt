@@ -36,8 +36,7 @@ invariant-followers-loop-j l = (l.j < 12 → in_mask (get_or l.marks l.e 0) l.j 
 abbrev pub decreases-followers-loop-j : goal.decreases-followers-loop-j
 decreases-followers-loop-j l = 12 - l.j
 
-abbrev pub invariant-lift-loop-left : goal.invariant-lift-loop-left
-invariant-lift-loop-left l = GoingFor l.marks l.t l.ds l.src l.cut (AsideOf l.t l.initial.left l.e) (AsideOf l.t l.left l.f) l.initial.m l.m l.c × UsedLeg l.ds l.f × ((a : LegArc) → AsideOf l.t l.left l.f a → AsideOf l.t l.initial.left l.e a)
-
-abbrev pub decreases-lift-loop-left : goal.decreases-lift-loop-left
-decreases-lift-loop-left l = l.left
+abbrev pub invariant-lift-loop : goal.invariant-lift-loop
+invariant-lift-loop l =
+    GoingFor l.marks l.t l.ds l.src l.cut (AsideOf l.t l.end l.e) (AsideOf l.t (l.end - l.counter) l.f) l.initial.m l.m l.c ×
+    UsedLeg l.ds l.f × ((a : LegArc) → AsideOf l.t (l.end - l.counter) l.f a → AsideOf l.t l.end l.e a)

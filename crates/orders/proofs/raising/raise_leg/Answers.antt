@@ -31,7 +31,6 @@ pub more_cost-requires : goal.more_cost-requires
 more_cost-requires c =
     let r = c.requires.0 in
     let most = r.shaped.limit_most c.args.e r.leg.0 in (
-      r.shaped.tables_size,
       r.leg.0,
       r.shaped.weight-most c.args.e r.leg.0,
       c.arrival_for-arrival.ensures.old,

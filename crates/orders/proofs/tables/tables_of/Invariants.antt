@@ -1,12 +1,8 @@
 -- `orders::tables::tables_of` meets its contract. The invariant: the first x entries are there. The table of directions tells which are legs of a train.
 -- Assumes nothing.
-use Prim.Native.Nat.{◌-◌, ◌≤◌}
 use Rattle.orders.specs.LineTables.Tables.{table_size, table_entry}
 use Rattle.finite.specs.FillLaws.{Begun}
 use Rattle.orders.proofs.tables.tables_of.Given as goal
 
 abbrev pub invariant-loop-x : goal.invariant-loop-x
-invariant-loop-x l = (48 ≤ l.x) × (l.x ≤ table_size) × Begun (table_entry l.line) table_size l.x l.table
-
-abbrev pub decreases-loop-x : goal.decreases-loop-x
-decreases-loop-x l = table_size - l.x
+invariant-loop-x l = Begun (table_entry l.line) table_size l.x l.table

@@ -1,10 +1,6 @@
 -- `orders::waived::waive_latests` meets its contract. The invariant: the first i trains are waived, and the others as they were.
-use Prim.Native.Nat.{◌-◌, ◌≤◌}
 use Rattle.orders.specs.Waived.WaivingLaws.{WaivedFirst}
 use Rattle.orders.proofs.waived.waive_latests.Given as goal
 
 abbrev pub invariant-loop-i : goal.invariant-loop-i
-invariant-loop-i l = (l.i ≤ 12) × WaivedFirst l.i l.line.traffic.trains l.trains
-
-abbrev pub decreases-loop-i : goal.decreases-loop-i
-decreases-loop-i l = 12 - l.i
+invariant-loop-i l = WaivedFirst l.i l.line.traffic.trains l.trains

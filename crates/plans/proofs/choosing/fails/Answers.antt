@@ -9,7 +9,7 @@ returns-then-cut-cost c e l x p h = dear_none l p _ _ _ _ _ _ _ x h c.if-cut-cos
 pub come_after_fails-requires : goal.come_after_fails-requires
 come_after_fails-requires c =
     let a = c.requires in
-    station_asks a.line a.plan _ _ _ _ _ _ _ a.choice a.chooses c.if-way.true (omega (arith, c.if-cut-cost.false)) a.cut_low
+    station_asks a.line a.plan _ _ _ _ _ _ _ a.choice a.chooses c.if-way.true (omega (arith, c.if-cut-cost.false))
 
 pub returns-then-way : goal.returns-then-way
 returns-then-way c e l x p h = none_raises l p _ _ _ _ _ _ _ x h (c.come_after_fails.ensures e)
@@ -17,7 +17,7 @@ returns-then-way c e l x p h = none_raises l p _ _ _ _ _ _ _ x h (c.come_after_f
 pub follow_fails-requires : goal.follow_fails-requires
 follow_fails-requires c =
     let a = c.requires in
-    segment_asks a.line a.plan _ _ _ _ _ _ _ a.choice a.chooses c.if-way.false (omega (arith, c.if-cut-cost.false)) a.cut_low
+    segment_asks a.line a.plan _ _ _ _ _ _ _ a.choice a.chooses c.if-way.false (omega (arith, c.if-cut-cost.false))
 
-pub returns : goal.returns
-returns c e l x p h = none_raises l p _ _ _ _ _ _ _ x h (c.follow_fails.ensures e)
+pub returns-else-way : goal.returns-else-way
+returns-else-way c e l x p h = none_raises l p _ _ _ _ _ _ _ x h (c.follow_fails.ensures e)

@@ -9,7 +9,7 @@ returns-then-cut-cost c l x p h = dear_raises l p _ _ _ _ _ _ _ x h c.if-cut-cos
 pub come_after-requires : goal.come_after-requires
 come_after-requires c =
     let a = c.requires in
-    station_asks a.line a.plan _ _ _ _ _ _ _ a.choice a.chooses c.if-way.true (omega (arith, c.if-cut-cost.false)) a.cut_low
+    station_asks a.line a.plan _ _ _ _ _ _ _ a.choice a.chooses c.if-way.true (omega (arith, c.if-cut-cost.false))
 
 pub returns-then-way : goal.returns-then-way
 returns-then-way c l x p h = chose_raises l p _ _ _ _ _ _ _ x h _ _ c.come_after.ensures
@@ -17,7 +17,7 @@ returns-then-way c l x p h = chose_raises l p _ _ _ _ _ _ _ x h _ _ c.come_after
 pub follow-requires : goal.follow-requires
 follow-requires c =
     let a = c.requires in
-    segment_asks a.line a.plan _ _ _ _ _ _ _ a.choice a.chooses c.if-way.false (omega (arith, c.if-cut-cost.false)) a.cut_low
+    segment_asks a.line a.plan _ _ _ _ _ _ _ a.choice a.chooses c.if-way.false (omega (arith, c.if-cut-cost.false))
 
-pub returns : goal.returns
-returns c l x p h = chose_raises l p _ _ _ _ _ _ _ x h _ _ c.follow.ensures
+pub returns-else-way : goal.returns-else-way
+returns-else-way c l x p h = chose_raises l p _ _ _ _ _ _ _ x h _ _ c.follow.ensures

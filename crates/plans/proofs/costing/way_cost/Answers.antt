@@ -13,7 +13,6 @@ raised-requires c =
       choice = p.choice;
       plan = p.plan;
       chooses = waived_chooses p.line p.choice p.plan _ _ _ _ _ _ p.chooses;
-      cut_low = omega arith;
     }
 
 pub returns : goal.returns

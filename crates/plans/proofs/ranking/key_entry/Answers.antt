@@ -7,8 +7,8 @@ use Rattle.rules.specs.StatementLaws.PathsLaws.{routed_leg}
 use Rattle.plans.proofs.Clauses.KeysLaws.{entry_none, entry-leg}
 use Rattle.plans.proofs.ranking.key_entry.Goals as goal
 
-pub returns-then-n-i : goal.returns-then-n-i
-returns-then-n-i c = entry_none _ _ _ (λ h. omega (arith, h.0, c.if-n-i.true))
+pub returns-then-from-i : goal.returns-then-from-i
+returns-then-from-i c = entry_none _ _ _ (λ h. omega (arith, h.0, c.if-from-i.true))
 
 pub returns-then-legs-k : goal.returns-then-legs-k
 returns-then-legs-k c = entry_none _ _ _ (λ h. omega (arith, h.1, c.legs_between-legs.ensures, c.if-legs-k.true))
@@ -17,11 +17,11 @@ pub segment_between-p-requires : goal.segment_between-p-requires
 segment_between-p-requires c =
     let legs = c.legs_between-legs.ensures in
     let w = within_runnable c.args.line c.requires in
-    let r = routed_leg c.args.line c.args.i w (omega (arith, c.if-n-i.false)) (omega (arith, legs, c.if-legs-k.false)) in
+    let r = routed_leg c.args.line c.args.i w (omega (arith, c.if-from-i.false)) (omega (arith, legs, c.if-legs-k.false)) in
     (r.origin.0, r.origin.1, r.destination.0, r.destination.1, omega (arith, legs, c.if-legs-k.false))
 
 pub returns : goal.returns
 returns c =
     let legs = c.legs_between-legs.ensures in
     ap (λ (p : ℕ). 16 * p + c.args.i) c.segment_between-p.ensures.0 ∙
-    entry-leg _ _ _ (omega (arith, c.if-n-i.false)) (omega (arith, legs, c.if-legs-k.false))
+    entry-leg _ _ _ (omega (arith, c.if-from-i.false)) (omega (arith, legs, c.if-legs-k.false))

@@ -1,21 +1,15 @@
 -- The answers; the idea of the proof is at the head of the invariants.
-use Prim.Native.Nat.{ℕ}
 use native.Mathlib.Omega.{arith}
-use lib.ListN.{length-set, length-replicate}
-use Rattle.rules.specs.Lists.OrdersLaws.{entries_more}
-use Rattle.plans.proofs.Clauses.KeysLaws.{key_all}
+use Rattle.finite.specs.FillLaws.{begun_none, begun_more, begun_all}
+use Rattle.plans.specs.Clauses.Keys.{key_of}
 use Rattle.plans.proofs.ranking.key_of.Goals as goal
 
 pub loop-e-init : goal.loop-e-init
-loop-e-init c = (length-replicate {A = ℕ} 132 0, omega arith, λ x h. absurd (omega arith))
+loop-e-init c = begun_none _ 132
 
 pub loop-e-preserved : goal.loop-e-preserved
-loop-e-preserved c =
-    let i = c.loop-e in (
-      simp length-set i.invariant.0,
-      omega arith,
-      entries_more _ 0 i.key i.e _ (omega (arith, i.invariant.0, c.loop-e-test.true)) c.key_entry.ensures i.invariant.2,
-    )
+loop-e-preserved c = begun_more _ 132 c.loop-e.e _ _ c.loop-e.invariant (omega arith) c.key_entry.ensures
 
 pub returns : goal.returns
-returns c = let i = c.loop-e in key_all _ i.key i.invariant.0 (λ x h. i.invariant.2 x (omega (arith, c.loop-e-test.false)))
+unfolding key_of
+returns c = begun_all _ 132 c.loop-e.e _ c.loop-e.invariant (omega arith)

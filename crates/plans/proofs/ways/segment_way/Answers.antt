@@ -2,11 +2,10 @@
 use mathlib.Core.Path.{refl}
 use Rattle.plans.proofs.Clauses.WaysToldLaws.{tells_lower, tells_higher}
 use Rattle.plans.proofs.ways.segment_way.Goals as goal
-
-pub returns-then-w-eq0 : goal.returns-then-w-eq0
-returns-then-w-eq0 c =
-    (tells_lower _ _ _ c.if-w-eq0.true (λ ds. record { some = refl; station = refl; row = refl; leg = refl; second = refl }), refl)
+use Rattle.plans.proofs.ways.segment_way.Goals.{then-w-eq0, else-w-eq0}
 
 pub returns : goal.returns
-returns c =
-    (tells_higher _ _ _ c.if-w-eq0.false (λ ds. record { some = refl; station = refl; row = refl; leg = refl; second = refl }), refl)
+returns c = elim c.if-w-eq0.branch [
+  | then-w-eq0 w ↦ rw w.first-is (tells_lower _ _ _ w.if-w-eq0.true (λ ds. record { station = refl; row = refl; leg = refl; second = refl }))
+  | else-w-eq0 w ↦ rw w.first-is (tells_higher _ _ _ w.if-w-eq0.false (λ ds. record { station = refl; row = refl; leg = refl; second = refl }))
+]

@@ -1,40 +1,21 @@
--- The answers; the idea of the proof is at the head of the invariants.
-use Rattle.std.proofs.Common.{sym, arith, below_more}
-use Rattle.finite.specs.DecideLaws.{is_true, is_false}
-use Rattle.rules.specs.StatementLaws.PathsLaws.{legs_few}
+-- `rules::bookings::booked_right` meets its contract: the closure's test is that of a leg. Assumes nothing.
+use Rattle.std.proofs.Common.{ℕ, ap, ◌∙◌, refl, arith, rules, tests}
+use Rattle.std.proofs.lemmas.Iterator.{cases_from_all, YieldsList-from_range}
+use Rattle.finite.specs.DecideLaws.{decides_le}
+use Rattle.finite.specs.Below.{all}
 use Rattle.rules.specs.Check.Floors.{floor_in}
-use Rattle.rules.specs.Check.RulesLaws.{FloorAt, decides_floors}
+use Rattle.rules.specs.Check.Tests.{booked_right}
+use Rattle.rules.specs.Check.RulesLaws.{FloorAt}
+use Rattle.rules.proofs.Check.RangeLaws.{all_told}
 use Rattle.rules.proofs.bookings.booked_right.Goals as goal
 
-pub loop-k-init : goal.loop-k-init
-loop-k-init c = (omega arith, λ k b. absurd (omega arith))
-
-pub departure_of-requires : goal.departure_of-requires
-departure_of-requires c =
-    (c.requires.0, c.requires.2, c.requires.3, omega (arith, c.loop-k-test.true, c.legs_between-legs.ensures))
-
-pub floor_at-requires : goal.floor_at-requires
-floor_at-requires c =
-    (c.requires.1, c.requires.3, omega (arith, c.loop-k-test.true, c.legs_between-legs.ensures, (legs_few _ c.requires.0).1))
-
-pub returns-then-departure_of-floor_at : goal.returns-then-departure_of-floor_at
-returns-then-departure_of-floor_at c =
-    let a = c.args in
-    sym (is_false (decides_floors a.train a.m.now a.i (floor_in a.floors.now a.i))
-    (λ h.
-    let under = h c.loop-k.k (omega (arith, c.loop-k-test.true, c.legs_between-legs.ensures)) in
-    omega (arith, under, c.departure_of.ensures, c.floor_at.ensures, c.if-departure_of-floor_at.true)))
-
-pub loop-k-preserved : goal.loop-k-preserved
-loop-k-preserved c =
-    let a = c.args in (
-      omega (arith, c.loop-k-test.true),
-      below_more (FloorAt (floor_in a.floors.now a.i) a.train a.m.now a.i) c.loop-k.k c.loop-k.invariant.1
-          (omega (arith, c.departure_of.ensures, c.floor_at.ensures, c.if-departure_of-floor_at.false)),
-    )
-
 pub returns : goal.returns
+unfolding booked_right
 returns c =
     let a = c.args in
-    sym (is_true (decides_floors a.train a.m.now a.i (floor_in a.floors.now a.i))
-    (λ k b. c.loop-k.invariant.1 k (omega (arith, b, c.loop-k-test.false, c.legs_between-legs.ensures))))
+    let P : ℕ → Type 0 = FloorAt (floor_in a.floors.now a.i) a.train a.m.now a.i in
+    let legs = c.legs_between-legs.result in
+    all_told P _ legs (λ k. decides_le _ _) _
+    (cases_from_all _ _ _ P (λ k. P k → ⊥) c.all.ensures.ran (YieldsList-from_range 0 legs legs refl (omega arith))
+    (λ k q h. search (rules, tests)) (λ k q h. search (rules, tests)))
+    ∙ ap (all _) c.legs_between-legs.ensures

@@ -1,65 +1,19 @@
 -- The answers; the idea of the proof is at the head of the invariants.
-use Rattle.std.proofs.Common.{ℕ, ◌-◌, get_or, subst, arith}
+use Rattle.std.proofs.Common.{◌-◌, ◌<◌, get_or, arith}
 use Rattle.line.specs.Record.{no_booking}
-use Rattle.rules.specs.Check.Floors.{FloorsBy}
+use Rattle.rules.specs.Statement.Paths.{past_train, leg_from}
 use Rattle.rules.specs.Check.FloorsLaws.{floors_none, floors_more}
 use Rattle.rules.proofs.bookings.floors_by.Goals as goal
 
-pub loop-j-init : goal.loop-j-init
-loop-j-init c = (omega arith, floors_none c.args.trains c.args.bookings)
+pub loop-booking-init : goal.loop-booking-init
+loop-booking-init c = floors_none c.args.trains.now c.args.bookings.now
 
-pub overflow_sub-i : goal.overflow_sub-i
-overflow_sub-i c =
-    let e = c.requires.1 c.loop-j.j c.loop-j-test.true in
-    omega (arith, e.train.0)
-
-pub bounds-trains-i : goal.bounds-trains-i
-bounds-trains-i c =
-    let e = c.requires.1 c.loop-j.j c.loop-j-test.true in
-    omega (arith, e.train)
-
-pub overflow_mul-e : goal.overflow_mul-e
-overflow_mul-e c =
-    let e = c.requires.1 c.loop-j.j c.loop-j-test.true in
-    omega (arith, c.legs_between.ensures, e.leg)
-
-pub overflow_add-e : goal.overflow_add-e
-overflow_add-e c =
-    let e = c.requires.1 c.loop-j.j c.loop-j-test.true in
-    omega (arith, c.legs_between.ensures, e.leg, e.train)
-
-pub offset_bounds-floors-e : goal.offset_bounds-floors-e
-offset_bounds-floors-e c =
-    let e = c.requires.1 c.loop-j.j c.loop-j-test.true in
-    omega (arith, c.legs_between.ensures, e.leg, e.train)
-
-pub bounds-floors-e : goal.bounds-floors-e
-bounds-floors-e c =
-    let e = c.requires.1 c.loop-j.j c.loop-j-test.true in
-    omega (arith, c.legs_between.ensures, e.leg, e.train, c.loop-j.invariant.1.size)
-
-pub offset_bounds-floors-e-in-loop-j : goal.offset_bounds-floors-e-in-loop-j
-offset_bounds-floors-e-in-loop-j c =
-    let e = c.requires.1 c.loop-j.j c.loop-j-test.true in
-    omega (arith, c.legs_between.ensures, e.leg, e.train)
-
-pub bounds-floors-e-in-loop-j : goal.bounds-floors-e-in-loop-j
-bounds-floors-e-in-loop-j c =
-    let e = c.requires.1 c.loop-j.j c.loop-j-test.true in
-    omega (arith, c.legs_between.ensures, e.leg, e.train, c.loop-j.invariant.1.size)
-
-pub loop-j-preserved : goal.loop-j-preserved
-loop-j-preserved c =
-    let e = c.requires.1 c.loop-j.j c.loop-j-test.true in
+pub loop-booking-preserved : goal.loop-booking-preserved
+loop-booking-preserved c =
     let a = c.args in
-    let w = c.loop-j in
-    let i = (get_or a.bookings w.j no_booking).train - 1 in (
-      omega (arith, c.loop-j-test.true),
-      floors_more a.trains a.bookings w.floors w.j w.invariant.1 i c.legs_between.result (omega (arith, e.train.0)) c.legs_between.ensures
-          (omega (arith, e.train), omega (arith, c.legs_between.ensures, e.leg)) _ c.later.ensures,
-    )
-
-pub returns : goal.returns
-returns c =
-    let a = c.args in
-    subst (λ (n : ℕ). FloorsBy a.trains a.bookings n c.loop-j.floors) (omega (arith, c.loop-j.invariant.0, c.loop-j-test.false)) c.loop-j.invariant.1
+    let w = c.loop-booking in
+    let e = c.requires w.booking-index c.loop-booking-test.true in
+    let train = c.from-i.ensures in
+    let leg : leg_from (get_or a.trains.now (c.from-i.result - 1) past_train) (get_or a.bookings.now w.booking-index no_booking).station < 11 = rw train e.leg in
+    floors_more a.trains.now a.bookings.now w.floors w.booking-index w.invariant (c.from-i.result - 1) c.legs_between.result (omega (arith, train, e.train.0)) c.legs_between.ensures
+    (omega (arith, train, e.train), omega (arith, c.legs_between.ensures, leg)) _ c.max.ensures

@@ -1,5 +1,5 @@
 -- The answers; the idea of the proof is at the head of the invariants.
-use Rattle.std.proofs.Common.{ℕ, List, ◌≡◌, ◌+◌, ◌<◌, ◌≤◌, max, get_or, sym, ap, ◌∙◌, arith, rules}
+use Rattle.std.proofs.Common.{ℕ, List, ◌≡◌, ◌+◌, ◌<◌, ◌≤◌, max, get_or, sym, arith}
 use Rattle.line.specs.declared.Train.{Train}
 use Rattle.rules.specs.Check.Floors.{floor_in, arrived_by, RunsAlone}
 use Rattle.rules.specs.Check.FloorsLaws.{arrived_start, arrived_next, alone_train, alone_leg, arrived_most}
@@ -23,43 +23,29 @@ overflow_add-arrival c =
     )
 
 pub loop-j-init : goal.loop-j-init
-loop-j-init c =
-    let a = c.args in
-    (omega arith, sym (arrived_start _ _ _ _ a.i))
-
-pub offset_bounds-stops-j : goal.offset_bounds-stops-j
-offset_bounds-stops-j c =
-    let few = (next_few c.args.train c.args.floors.now c.args.i c.args.k c.requires c.loop-j.j c.loop-j-test.true).0 in search rules
-
-pub bounds-stops-j : goal.bounds-stops-j
-bounds-stops-j c =
-    omega (arith, (next_few c.args.train c.args.floors.now c.args.i c.args.k c.requires c.loop-j.j c.loop-j-test.true).0)
+loop-j-init c = sym (arrived_start _ _ _ _ c.args.i)
 
 pub overflow_add-ready : goal.overflow_add-ready
 overflow_add-ready c =
-    omega (arith, c.loop-j.invariant.1, step c.args.train c.args.floors.now c.args.i c.loop-j.j, (next_few c.args.train c.args.floors.now c.args.i c.args.k c.requires c.loop-j.j c.loop-j-test.true).1)
+    let a = c.args in
+    omega (arith, c.loop-j.invariant, step a.train a.floors.now a.i c.loop-j.j, (next_few a.train a.floors.now a.i a.k c.requires c.loop-j.j c.loop-j-test.true).1)
 
 pub floor_at-requires : goal.floor_at-requires
 floor_at-requires c =
-    (c.requires.floors.size, alone_train c.args.train c.args.floors.now c.args.i c.args.k c.requires, omega (arith, (next_few c.args.train c.args.floors.now c.args.i c.args.k c.requires c.loop-j.j c.loop-j-test.true).0))
+    let a = c.args in
+    (alone_train a.train a.floors.now a.i a.k c.requires, (next_few a.train a.floors.now a.i a.k c.requires c.loop-j.j c.loop-j-test.true).0)
 
-pub offset_bounds-runs-j : goal.offset_bounds-runs-j
-offset_bounds-runs-j c =
-    let few = (next_few c.args.train c.args.floors.now c.args.i c.args.k c.requires c.loop-j.j c.loop-j-test.true).0 in search rules
-
-pub bounds-runs-j : goal.bounds-runs-j
-bounds-runs-j c =
-    omega (arith, (next_few c.args.train c.args.floors.now c.args.i c.args.k c.requires c.loop-j.j c.loop-j-test.true).0)
+pub bounds-train-j-in-loop-j : goal.bounds-train-j-in-loop-j
+bounds-train-j-in-loop-j c =
+    let a = c.args in
+    (next_few a.train a.floors.now a.i a.k c.requires c.loop-j.j c.loop-j-test.true).0
 
 pub overflow_add-arrival-in-loop-j-2 : goal.overflow_add-arrival-in-loop-j-2
 overflow_add-arrival-in-loop-j-2 c =
-    omega (arith, c.later-departure.ensures, c.floor_at.ensures, c.loop-j.invariant.1, step c.args.train c.args.floors.now c.args.i c.loop-j.j, (next_few c.args.train c.args.floors.now c.args.i c.args.k c.requires c.loop-j.j c.loop-j-test.true).1)
+    let a = c.args in
+    omega (arith, c.max-departure.ensures, c.floor_at.ensures, c.loop-j.invariant, step a.train a.floors.now a.i c.loop-j.j, (next_few a.train a.floors.now a.i a.k c.requires c.loop-j.j c.loop-j-test.true).1)
 
 pub loop-j-preserved : goal.loop-j-preserved
 loop-j-preserved c =
-    (omega (arith, c.loop-j-test.true), omega (arith, c.later-departure.ensures, c.floor_at.ensures, c.loop-j.invariant.1, step c.args.train c.args.floors.now c.args.i c.loop-j.j))
-
-pub returns : goal.returns
-returns c =
     let a = c.args in
-    c.loop-j.invariant.1 ∙ ap (arrived_by a.train a.floors.now a.i) (omega (arith, c.loop-j.invariant.0, c.loop-j-test.false))
+    omega (arith, c.max-departure.ensures, c.floor_at.ensures, c.loop-j.invariant, step a.train a.floors.now a.i c.loop-j.j)

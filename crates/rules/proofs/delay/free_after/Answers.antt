@@ -1,11 +1,7 @@
 -- `rules::delay::free_after` meets its contract: it is what the train by itself gives (`arrived_line`). Assumes nothing.
 use Rattle.std.proofs.Common.{◌∙◌}
-use Rattle.rules.specs.Check.FloorsLaws.{runs_alone, arrived_line}
+use Rattle.rules.specs.Check.FloorsLaws.{arrived_line}
 use Rattle.rules.proofs.delay.free_after.Goals as goal
-
-pub arrived_after-requires : goal.arrived_after-requires
-arrived_after-requires c =
-    runs_alone c.args.line c.requires.0 c.args.floors.now c.requires.1 c.args.i c.requires.2 c.args.k c.requires.3
 
 pub returns : goal.returns
 returns c =

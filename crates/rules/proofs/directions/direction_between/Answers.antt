@@ -3,20 +3,11 @@ use Rattle.std.proofs.Common.{arith}
 use Rattle.rules.specs.Conflict.DirectionsLaws.{between_off, between_out, between_in}
 use Rattle.rules.proofs.directions.direction_between.Goals as goal
 
-pub returns-then-p-origin : goal.returns-then-p-origin
-returns-then-p-origin c = between_off _ _ _ (λ h. omega (arith, h.0))
+pub returns-then-station-destination : goal.returns-then-station-destination
+returns-then-station-destination c = between_out _ _ _ (omega arith, omega arith) (omega arith)
 
-pub returns-then-p-destination : goal.returns-then-p-destination
-returns-then-p-destination c = between_out _ _ _ (omega arith, omega arith) (omega arith)
+pub returns-then-station-origin : goal.returns-then-station-origin
+returns-then-station-origin c = between_in _ _ _ (omega arith, omega arith) (omega arith)
 
-pub returns-then-origin-destination : goal.returns-then-origin-destination
-returns-then-origin-destination c = between_off _ _ _ (λ h. omega (arith, h.1))
-
-pub returns-then-p-destination-2 : goal.returns-then-p-destination-2
-returns-then-p-destination-2 c = between_off _ _ _ (λ h. omega (arith, h.0))
-
-pub returns-then-p-origin-2 : goal.returns-then-p-origin-2
-returns-then-p-origin-2 c = between_in _ _ _ (omega arith, omega arith) (omega arith)
-
-pub returns : goal.returns
-returns c = between_off _ _ _ (λ h. omega (arith, h.1))
+pub returns-else-destination-station : goal.returns-else-destination-station
+returns-else-destination-station c = between_off _ _ _ (λ h. omega (arith, h, c.else-origin-station.either, c.else-destination-station.either))

@@ -1,10 +1,6 @@
 -- `rules::passages::pair_on` meets its contract. The invariant: no train below i has a partner on segment p.
-use Rattle.std.proofs.Common.{◌-◌, ◌≤◌}
 use Rattle.rules.specs.Conflict.ConflictsLaws.{NoPair}
 use Rattle.rules.proofs.passages.pair_on.Given as goal
 
 abbrev pub invariant-loop-i : goal.invariant-loop-i
-invariant-loop-i l = NoPair l.g l.ds l.m l.p l.n l.i × (l.i ≤ l.n)
-
-abbrev pub decreases-loop-i : goal.decreases-loop-i
-decreases-loop-i l = l.n - l.i
+invariant-loop-i l = NoPair l.g l.ds l.m l.p l.n l.i

@@ -1,73 +1,124 @@
--- `rules::rules::breach_by` meets its contract: each `return` is the first breach of the checks made so far, and the place of a conflict is a segment or
--- station of the line (`place_fits`). Assumes nothing.
-use Rattle.std.proofs.Common.{ap, ◌∙◌}
+-- `rules::rules::breach_by` meets its contract: each `?` hands back the first breach of the checks made so far, each closure is the test of its rule, and the
+-- place of a conflict is a segment or station of the line (`place_fits`). Assumes nothing.
+use Rattle.std.proofs.Common.{◌<◌, ap, sym, ◌∙◌, Err, arith, rules}
+use Rattle.std.proofs.lemmas.Result.{err_from_is_err_and}
+use Rattle.rules.specs.Check.Tests.{keeps_by}
 use Rattle.rules.specs.Check.Breaches.{conflict_breach, breach_of}
 use Rattle.rules.specs.Conflict.ConflictsLaws.{conflict_told}
-use Rattle.rules.specs.Scan.StationLaws.{directions_size}
-use Rattle.rules.specs.Check.BreachesLaws.{breach_first, breach_later, place_fits}
+use Rattle.rules.specs.Check.BreachesLaws.{breach_first, breach_later, taken_routed, taken-few, breach_told, place_fits}
 use Rattle.rules.proofs.rules.breach_by.Goals as goal
 
-pub returns-in_default : goal.returns-in_default
-unfolding breach_of
-returns-in_default c = breach_first _ c.train_breach-early.ensures c.in_default.is
+pub returns-in_err-breach_among : goal.returns-in_err-breach_among
+unfolding breach_of keeps_by
+returns-in_err-breach_among c =
+    let l = c.args.line in
+    let m = c.args.m.now in
+    let fs = c.args.floors.now in
+    let w = c.requires.0 in
+    let h = c.requires.1 in
+    let n = c.from.ensures in
+    let e = err_from_is_err_and c.from_residual.result c.from_residual.ensures.1 in
+    e.1 ∙ ap Err e.2 ∙ sym c.in_err-breach_among.was ∙ breach_first _ (breach_told l w (omega arith) n 10 m fs h (c.breach_among.ensures _ (λ i b r t. search rules))) c.in_err-breach_among.was
 
-pub returns-in_default-run : goal.returns-in_default-run
-unfolding breach_of
-returns-in_default-run c =
-    breach_later c.train_breach-early.ensures c.in-None.is
-    (breach_first _ c.train_breach-run.ensures c.in_default-run.is)
+pub breach_among-requires-2 : goal.breach_among-requires-2
+breach_among-requires-2 c = λ i b.
+    let path = taken_routed c.args.line c.requires.0 (omega arith) c.from.ensures i b in
+    let few : i < 12 = omega (arith, b, taken-few c.args.line c.requires.0 (omega arith) c.from.ensures) in
+    search rules
 
-pub returns-in_default-stop : goal.returns-in_default-stop
-unfolding breach_of
-returns-in_default-stop c =
-    breach_later c.train_breach-early.ensures c.in-None.is
-    (breach_later c.train_breach-run.ensures c.in-None-run.is
-    (breach_first _ c.train_breach-stop.ensures c.in_default-stop.is))
+pub returns-in_err-breach_among-2 : goal.returns-in_err-breach_among-2
+unfolding breach_of keeps_by
+returns-in_err-breach_among-2 c =
+    let l = c.args.line in
+    let m = c.args.m.now in
+    let fs = c.args.floors.now in
+    let w = c.requires.0 in
+    let h = c.requires.1 in
+    let n = c.from.ensures in
+    let e = err_from_is_err_and c.from_residual-in_err-breach_among-2.result c.from_residual-in_err-breach_among-2.ensures.1 in
+    breach_later (breach_told l w (omega arith) n 10 m fs h (c.breach_among.ensures _ (λ i b r t. search rules))) c.in_ok-breach_among.was (
+    e.1 ∙ ap Err e.2 ∙ sym c.in_err-breach_among-2.was ∙ breach_first _ (breach_told l w (omega arith) n 11 m fs h (c.breach_among-2.ensures _ (λ i b r t. search rules))) c.in_err-breach_among-2.was)
 
-pub returns-in_default-booked : goal.returns-in_default-booked
-unfolding breach_of
-returns-in_default-booked c =
-    breach_later c.train_breach-early.ensures c.in-None.is
-    (breach_later c.train_breach-run.ensures c.in-None-run.is
-    (breach_later c.train_breach-stop.ensures c.in-None-stop.is
-    (breach_first _ c.train_breach-booked.ensures c.in_default-booked.is)))
+pub breach_among-requires-3 : goal.breach_among-requires-3
+breach_among-requires-3 c = λ i b.
+    let path = taken_routed c.args.line c.requires.0 (omega arith) c.from.ensures i b in
+    let few : i < 12 = omega (arith, b, taken-few c.args.line c.requires.0 (omega arith) c.from.ensures) in
+    search rules
 
-pub returns-in_default-late : goal.returns-in_default-late
-unfolding breach_of
-returns-in_default-late c =
-    breach_later c.train_breach-early.ensures c.in-None.is
-    (breach_later c.train_breach-run.ensures c.in-None-run.is
-    (breach_later c.train_breach-stop.ensures c.in-None-stop.is
-    (breach_later c.train_breach-booked.ensures c.in-None-booked.is
-    (breach_first _ c.train_breach-late.ensures c.in_default-late.is))))
+pub returns-in_err-breach_among-3 : goal.returns-in_err-breach_among-3
+unfolding breach_of keeps_by
+returns-in_err-breach_among-3 c =
+    let l = c.args.line in
+    let m = c.args.m.now in
+    let fs = c.args.floors.now in
+    let w = c.requires.0 in
+    let h = c.requires.1 in
+    let n = c.from.ensures in
+    let e = err_from_is_err_and c.from_residual-in_err-breach_among-3.result c.from_residual-in_err-breach_among-3.ensures.1 in
+    breach_later (breach_told l w (omega arith) n 10 m fs h (c.breach_among.ensures _ (λ i b r t. search rules))) c.in_ok-breach_among.was (
+    breach_later (breach_told l w (omega arith) n 11 m fs h (c.breach_among-2.ensures _ (λ i b r t. search rules))) c.in_ok-breach_among-2.was (
+    e.1 ∙ ap Err e.2 ∙ sym c.in_err-breach_among-3.was ∙ breach_first _ (breach_told l w (omega arith) n 12 m fs h (c.breach_among-3.ensures _ (λ i b r t. search rules))) c.in_err-breach_among-3.was))
 
-pub directions_of-directions-requires : goal.directions_of-directions-requires
-directions_of-directions-requires c = c.requires.0.trains.1
+pub breach_among-requires-4 : goal.breach_among-requires-4
+breach_among-requires-4 c = λ i b.
+    let path = taken_routed c.args.line c.requires.0 (omega arith) c.from.ensures i b in
+    let few : i < 12 = omega (arith, b, taken-few c.args.line c.requires.0 (omega arith) c.from.ensures) in
+    search rules
 
-pub lowest_conflict-requires : goal.lowest_conflict-requires
-lowest_conflict-requires c =
-    let y = c.layout_of.ensures in
-    record {
-      laid_out = rw y (c.requires.0.stations.0, c.requires.0.stations.1, c.requires.0.trains.1);
-      directions = directions_size c.args.line _ c.directions_of-directions.ensures;
-      size = c.requires.2;
-    }
+pub returns-in_err-breach_among-4 : goal.returns-in_err-breach_among-4
+unfolding breach_of keeps_by
+returns-in_err-breach_among-4 c =
+    let l = c.args.line in
+    let m = c.args.m.now in
+    let fs = c.args.floors.now in
+    let w = c.requires.0 in
+    let h = c.requires.1 in
+    let n = c.from.ensures in
+    let e = err_from_is_err_and c.from_residual-in_err-breach_among-4.result c.from_residual-in_err-breach_among-4.ensures.1 in
+    breach_later (breach_told l w (omega arith) n 10 m fs h (c.breach_among.ensures _ (λ i b r t. search rules))) c.in_ok-breach_among.was (
+    breach_later (breach_told l w (omega arith) n 11 m fs h (c.breach_among-2.ensures _ (λ i b r t. search rules))) c.in_ok-breach_among-2.was (
+    breach_later (breach_told l w (omega arith) n 12 m fs h (c.breach_among-3.ensures _ (λ i b r t. search rules))) c.in_ok-breach_among-3.was (
+    e.1 ∙ ap Err e.2 ∙ sym c.in_err-breach_among-4.was ∙ breach_first _ (breach_told l w (omega arith) n 18 m fs h (c.breach_among-4.ensures _ (λ i b r t. search rules))) c.in_err-breach_among-4.was)))
+
+pub breach_among-requires-5 : goal.breach_among-requires-5
+breach_among-requires-5 c = λ i b.
+    let path = taken_routed c.args.line c.requires.0 (omega arith) c.from.ensures i b in
+    let few : i < 12 = omega (arith, b, taken-few c.args.line c.requires.0 (omega arith) c.from.ensures) in
+    search rules
+
+pub returns-in_err-breach_among-5 : goal.returns-in_err-breach_among-5
+unfolding breach_of keeps_by
+returns-in_err-breach_among-5 c =
+    let l = c.args.line in
+    let m = c.args.m.now in
+    let fs = c.args.floors.now in
+    let w = c.requires.0 in
+    let h = c.requires.1 in
+    let n = c.from.ensures in
+    let e = err_from_is_err_and c.from_residual-in_err-breach_among-5.result c.from_residual-in_err-breach_among-5.ensures.1 in
+    breach_later (breach_told l w (omega arith) n 10 m fs h (c.breach_among.ensures _ (λ i b r t. search rules))) c.in_ok-breach_among.was (
+    breach_later (breach_told l w (omega arith) n 11 m fs h (c.breach_among-2.ensures _ (λ i b r t. search rules))) c.in_ok-breach_among-2.was (
+    breach_later (breach_told l w (omega arith) n 12 m fs h (c.breach_among-3.ensures _ (λ i b r t. search rules))) c.in_ok-breach_among-3.was (
+    breach_later (breach_told l w (omega arith) n 18 m fs h (c.breach_among-4.ensures _ (λ i b r t. search rules))) c.in_ok-breach_among-4.was (
+    e.1 ∙ ap Err e.2 ∙ sym c.in_err-breach_among-5.was ∙ breach_first _ (breach_told l w (omega arith) n 13 m fs h (c.breach_among-5.ensures _ (λ i b r t. search rules))) c.in_err-breach_among-5.was))))
 
 pub conflict_breach-requires : goal.conflict_breach-requires
 conflict_breach-requires c =
-    let y = c.layout_of.ensures in
-    let ds = c.directions_of-directions.ensures in
-    let x = conflict_told c.args.line c.args.m.now _ _ _ y ds c.lowest_conflict.ensures in
+    let x = conflict_told c.args.line c.args.m.now _ _ _ c.layout_of.ensures c.directions_of.ensures c.lowest_conflict.ensures in
     rw x (place_fits c.args.line c.args.m.now c.requires.0)
 
 pub returns : goal.returns
-unfolding breach_of
+unfolding breach_of keeps_by
 returns c =
-    let a = c.args in
-    breach_later c.train_breach-early.ensures c.in-None.is
-    (breach_later c.train_breach-run.ensures c.in-None-run.is
-    (breach_later c.train_breach-stop.ensures c.in-None-stop.is
-    (breach_later c.train_breach-booked.ensures c.in-None-booked.is
-    (breach_later c.train_breach-late.ensures c.in-None-late.is
-    (c.conflict_breach.ensures ∙ ap conflict_breach (conflict_told a.line a.m.now _ _ _
-    c.layout_of.ensures c.directions_of-directions.ensures c.lowest_conflict.ensures))))))
+    let l = c.args.line in
+    let m = c.args.m.now in
+    let fs = c.args.floors.now in
+    let w = c.requires.0 in
+    let h = c.requires.1 in
+    let n = c.from.ensures in
+    breach_later (breach_told l w (omega arith) n 10 m fs h (c.breach_among.ensures _ (λ i b r t. search rules))) c.in_ok-breach_among.was (
+    breach_later (breach_told l w (omega arith) n 11 m fs h (c.breach_among-2.ensures _ (λ i b r t. search rules))) c.in_ok-breach_among-2.was (
+    breach_later (breach_told l w (omega arith) n 12 m fs h (c.breach_among-3.ensures _ (λ i b r t. search rules))) c.in_ok-breach_among-3.was (
+    breach_later (breach_told l w (omega arith) n 18 m fs h (c.breach_among-4.ensures _ (λ i b r t. search rules))) c.in_ok-breach_among-4.was (
+    breach_later (breach_told l w (omega arith) n 13 m fs h (c.breach_among-5.ensures _ (λ i b r t. search rules))) c.in_ok-breach_among-5.was (
+    c.conflict_breach.ensures ∙ ap conflict_breach (conflict_told l m _ _ _ c.layout_of.ensures c.directions_of.ensures c.lowest_conflict.ensures))))))

@@ -2,5 +2,5 @@
 use Rattle.line.specs.RunnableLaws.{within_runnable}
 use Rattle.rules.proofs.rules.breach_of.Goals as goal
 
-pub floors_of-floors-requires : goal.floors_of-floors-requires
-floors_of-floors-requires c = within_runnable _ c.requires.0
+pub floors_of-requires : goal.floors_of-requires
+floors_of-requires c = within_runnable _ c.requires

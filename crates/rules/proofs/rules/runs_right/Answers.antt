@@ -1,47 +1,20 @@
--- The answers; the idea of the proof is at the head of the invariants.
-use Rattle.std.proofs.Common.{sym, ◌∙◌, arith, below_more}
-use Rattle.finite.specs.DecideLaws.{is_true, is_false}
-use Rattle.rules.specs.StatementLaws.PathsLaws.{legs_few}
-use Rattle.rules.specs.Check.RulesLaws.{RunAt, decides_runs}
+-- `rules::rules::runs_right` meets its contract: the closure's test is that of a leg. Assumes nothing.
+use Rattle.std.proofs.Common.{ℕ, ap, ◌∙◌, refl, arith, rules, tests}
+use Rattle.std.proofs.lemmas.Iterator.{cases_from_all, YieldsList-from_range}
+use Rattle.finite.specs.DecideLaws.{decides_eq}
+use Rattle.finite.specs.Below.{all}
+use Rattle.rules.specs.Check.Tests.{runs_right}
+use Rattle.rules.specs.Check.RulesLaws.{RunAt}
+use Rattle.rules.proofs.Check.RangeLaws.{all_told}
 use Rattle.rules.proofs.rules.runs_right.Goals as goal
 
-pub arrival_of-requires : goal.arrival_of-requires
-arrival_of-requires c =
-    (c.requires.0, c.requires.1, c.requires.2, omega (arith, c.loop-k-test.true, c.legs_between-legs.ensures))
-
-pub departure_of-requires : goal.departure_of-requires
-departure_of-requires c =
-    (c.requires.0, c.requires.1, c.requires.2, omega (arith, c.loop-k-test.true, c.legs_between-legs.ensures))
-
-pub offset_bounds-runs-k : goal.offset_bounds-runs-k
-offset_bounds-runs-k c =
-    omega (arith, c.loop-k-test.true, c.legs_between-legs.ensures, (legs_few _ c.requires.0).1)
-
-pub bounds-runs-k : goal.bounds-runs-k
-bounds-runs-k c =
-    omega (arith, c.loop-k-test.true, c.legs_between-legs.ensures, (legs_few _ c.requires.0).1)
-
-pub returns-then-arrival-departure : goal.returns-then-arrival-departure
-returns-then-arrival-departure c =
-    let arrives = c.wide-arrival.ensures.0 ∙ c.arrival_of.ensures in
-    let departs = c.wide-departure.ensures.0 ∙ c.departure_of.ensures in
-    let run = c.wide.ensures.0 in
-    sym (is_false (decides_runs c.args.train c.args.m.now c.args.i)
-    (λ h. let right = h c.loop-k.k (omega
-    (arith, c.loop-k-test.true, c.legs_between-legs.ensures)) in
-    omega (arith, right, arrives, departs, run, c.if-arrival-departure.true)))
-
-pub loop-k-preserved : goal.loop-k-preserved
-loop-k-preserved c =
-    let arrives = c.wide-arrival.ensures.0 ∙ c.arrival_of.ensures in
-    let departs = c.wide-departure.ensures.0 ∙ c.departure_of.ensures in
-    let run = c.wide.ensures.0 in (
-      omega arith,
-      below_more (RunAt c.args.train c.args.m.now c.args.i) c.loop-k.k c.loop-k.invariant.1
-          (omega (arith, arrives, departs, run, c.if-arrival-departure.false)),
-    )
-
 pub returns : goal.returns
+unfolding runs_right
 returns c =
-    sym (is_true (decides_runs c.args.train c.args.m.now c.args.i)
-    (λ j h. c.loop-k.invariant.1 j (omega (arith, h, c.loop-k-test.false, c.legs_between-legs.ensures))))
+    let a = c.args in
+    let P : ℕ → Type 0 = RunAt a.train a.m.now a.i in
+    let legs = c.legs_between-legs.result in
+    all_told P _ legs (λ k. decides_eq _ _) _
+    (cases_from_all _ _ _ P (λ k. P k → ⊥) c.all.ensures.ran (YieldsList-from_range 0 legs legs refl (omega arith))
+    (λ k q h. search (rules, tests)) (λ k q h. search (rules, tests)))
+    ∙ ap (all _) c.legs_between-legs.ensures

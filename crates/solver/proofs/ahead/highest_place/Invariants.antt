@@ -1,9 +1,7 @@
--- `solver::ahead::highest_place` promises nothing; its loop ends, as the places left fall, and reads the scores within their length. Assumes nothing.
-use Prim.Native.Nat.{◌-◌, ◌≤◌}
+-- `solver::ahead::highest_place` meets its contract: what it holds is a place. Assumes nothing.
+use Prim.Native.Nat.{◌<◌, ℕ}
+use Rattle.std.specs.Prelude.{IfSome}
 use Rattle.solver.proofs.ahead.highest_place.Given as goal
 
 abbrev pub invariant-loop-place : goal.invariant-loop-place
-invariant-loop-place l = l.place ≤ 24
-
-abbrev pub decreases-loop-place : goal.decreases-loop-place
-decreases-loop-place l = 24 - l.place
+invariant-loop-place l = IfSome l.highest (λ (place : ℕ). place < 24)

@@ -7,7 +7,8 @@ use Rattle.solver.proofs.ahead.worth_looking.Goals as goal
 pub overflow_mul-result-2 : goal.overflow_mul-result-2
 overflow_mul-result-2 c =
     let a = c.args in
-    let few : a.tally.delay - a.hint.first ≤ 4000000 = omega (arith, c.if-delay-gt4000000.false) in
-    let fits : c.least_room.result * (a.tally.delay - a.hint.first) ≤ 1000 * 4000000 =
+    let delay = c.in-Some.delay in
+    let few : delay - a.hint.first ≤ 4000000 = omega (arith, c.if-delay-gt4000000.false) in
+    let fits : c.least_room.result * (delay - a.hint.first) ≤ 1000 * 4000000 =
     mul-le-mul {n₂ = 1000} {m₂ = 4000000} (omega (arith, c.least_room.ensures)) few in
     omega arith

@@ -1,30 +1,24 @@
 -- `solver::finding::search_around` meets its contract: keeping orders leads from the first plan to one to search, and what is found there is lawful whatever
 -- the orders are. Assumes nothing.
-use lib.ListN.{length-replicate}
-use Prim.Native.Nat.{ℕ}
+use mathlib.Core.Path.{refl}
 use Rattle.orders.specs.Plan.Marks.{free}
-use Rattle.solver.specs.Search.FindingLaws.{afresh_cut, first_searchable, near_held, improved_none, improved_sought}
+use Rattle.orders.specs.Lift.LiftingLaws.{some_alive}
+use Rattle.solver.specs.Search.FindingLaws.{first_searchable, near_held, improved_none, improved_sought}
 use Rattle.solver.proofs.finding.search_around.Goals as goal
 
-pub copy_minutes-requires : goal.copy_minutes-requires
-copy_minutes-requires c = (c.requires.first.given.planned.carried.least.fit.size, length-replicate {A = ℕ} 352 0)
-
-pub keep_orders-c-requires : goal.keep_orders-c-requires
+pub keep_orders-requires : goal.keep_orders-requires
 unfolding free
-keep_orders-c-requires c =
+keep_orders-requires c =
     let p = c.requires in
-    let g = p.first.given in (
-      record {
-        line = p.line;
-        among = record { tabled = g.tabled; layout_is = g.layout_is };
-        searchable = first_searchable p.line _ _ _ _ _ _ _ _ p.first _ c.copy_minutes.ensures;
-        cut_low = afresh_cut p.line _ _ _ c.afresh-b.ensures _ c.cut_of.ensures g.tallied;
-      },
-      g.tallied.size,
-    )
+    let g = p.first.given in
+    record {
+      line = p.line;
+      among = record { tabled = g.tabled; layout_is = g.layout_is };
+      searchable = first_searchable p.line c.args.first.now _ _ _ p.first _ refl;
+    }
 
-pub returns-then-c : goal.returns-then-c
-returns-then-c c l h =
+pub returns-in_default : goal.returns-in_default
+returns-in_default c l h =
     improved_none l _ _ _ c.afresh-b.ensures h.given.tallied
 
 pub take_up-requires : goal.take_up-requires
@@ -32,18 +26,17 @@ unfolding free
 take_up-requires c =
     let p = c.requires in
     let g = p.first.given in
-    let near = (c.keep_orders-c.ensures c.if-c.false).leads p.line (record { tabled = g.tabled; layout_is = g.layout_is })
-    (first_searchable p.line _ _ _ _ _ _ _ _ p.first _ c.copy_minutes.ensures) in
+    let near = (rw c.in-Some.is at (c.keep_orders.ensures (rw c.in-Some.is (some_alive refl)))).leads p.line (record { tabled = g.tabled; layout_is = g.layout_is })
+    (first_searchable p.line c.args.first.now _ _ _ p.first _ refl) in
     record {
       line = p.line;
-      held = near_held p.line _ _ _ c.afresh-b.ensures _ _ _ _ _ _ p.first _ _ _ near;
-      former_size = g.planned.carried.least.fit.size;
+      held = near_held p.line _ _ _ c.afresh-b.ensures c.args.first.now _ p.first _ _ _ near;
     }
 
 pub returns : goal.returns
 unfolding free
 returns c l h =
     let g = h.given in
-    let near = (c.keep_orders-c.ensures c.if-c.false).leads l (record { tabled = g.tabled; layout_is = g.layout_is })
-    (first_searchable l _ _ _ _ _ _ _ _ h _ c.copy_minutes.ensures) in
-    improved_sought l _ _ _ c.afresh-b.ensures _ _ _ _ _ _ (c.take_up.ensures l (near_held l _ _ _ c.afresh-b.ensures _ _ _ _ _ _ h _ _ _ near))
+    let near = (rw c.in-Some.is at (c.keep_orders.ensures (rw c.in-Some.is (some_alive refl)))).leads l (record { tabled = g.tabled; layout_is = g.layout_is })
+    (first_searchable l c.args.first.now _ _ _ h _ refl) in
+    improved_sought l _ _ _ c.afresh-b.ensures _ _ _ _ _ _ (c.take_up.ensures l (near_held l _ _ _ c.afresh-b.ensures c.args.first.now _ h _ _ _ near))

@@ -1,23 +1,19 @@
 -- The answers; the idea of the proof is at the head of the invariants.
-use native.Mathlib.Omega.{arith}
 use Rattle.solver.specs.Search.FindingLaws.{improves-same, improves_then, find_after}
 use Rattle.solver.proofs.finding.search_near.Goals as goal
 
-pub returns-then-not-b : goal.returns-then-not-b
-returns-then-not-b c = improves-same _ _ _ _ _ _ _ _
+pub returns-then-is_none : goal.returns-then-is_none
+returns-then-is_none c = improves-same c.args.first.now _ _ _
 
 pub loop-k-init : goal.loop-k-init
-loop-k-init c = improves-same _ _ _ _ _ _ _ _
+loop-k-init c = improves-same c.args.first.now _ _ _
 
 pub search_around-b-requires : goal.search_around-b-requires
 search_around-b-requires c =
-    find_after _ _ _ _ _ _ _ _ _ _ c.loop-k.invariant c.requires
-
-pub loop-k-smaller : goal.loop-k-smaller
-loop-k-smaller c = omega (arith, c.loop-k-test.true)
+    find_after c.args.first.now _ _ _ _ _ c.loop-k.invariant c.requires
 
 pub loop-k-preserved : goal.loop-k-preserved
-loop-k-preserved c = improves_then _ _ _ _ _ _ _ _ _ _ c.loop-k.invariant _ _ c.search_around-b.ensures
+loop-k-preserved c = improves_then c.args.first.now _ _ _ _ _ c.loop-k.invariant _ _ c.search_around-b.ensures
 
 pub returns : goal.returns
 returns c = c.loop-k.invariant

@@ -9,12 +9,11 @@ take_up-requires c =
     let p = c.requires in
     record {
       line = p.line;
-      held = afresh_held p.line _ _ _ c.afresh-b.ensures _ _ _ _ _ _ _ p.first;
-      former_size = p.first.given.planned.carried.least.fit.size;
+      held = afresh_held p.line _ _ _ c.afresh.ensures _ _ _ _ p.first;
     }
 
 pub returns : goal.returns
 unfolding free
 returns c l h =
-    let afresh = c.afresh-b.ensures in
-    searched_sought l _ _ _ afresh _ _ _ _ (c.take_up.ensures l (afresh_held l _ _ _ afresh _ _ _ _ _ _ _ h))
+    let afresh = c.afresh.ensures in
+    searched_sought l _ _ _ afresh _ _ _ _ (c.take_up.ensures l (afresh_held l _ _ _ afresh _ _ _ _ h))

@@ -1,7 +1,6 @@
 -- `solver::pricing::way_price` meets its contract: what raising says, with the marks restored. Assumes nothing.
+use mathlib.Core.Path.{refl}
 use native.Mathlib.Omega.{arith}
-use Prim.Native.Nat.{ℕ}
-use lib.ListN.{length-replicate}
 use Rattle.solver.specs.Selection.PricingLaws.{priced}
 use Rattle.plans.proofs.Clauses.NextPlansLaws.{row_few, second_there, way_chooses}
 use Rattle.solver.proofs.pricing.way_price.Goals as goal
@@ -21,18 +20,14 @@ offset_bounds-marks-row-2 c = let p = c.requires in omega (arith, row_few p.line
 pub bounds-marks-row-2 : goal.bounds-marks-row-2
 bounds-marks-row-2 c = let p = c.requires in row_few p.line p.tabled.within _ _ p.choice _ p.is_way
 
-pub copy_minutes-requires : goal.copy_minutes-requires
-copy_minutes-requires c = (c.requires.planned.carried.least.fit.size, length-replicate {A = ℕ} 352 0)
-
-pub raised-c-requires : goal.raised-c-requires
-raised-c-requires c =
+pub raised-price-requires : goal.raised-price-requires
+raised-price-requires c =
     let p = c.requires in
     record {
       line = p.line;
       choice = p.choice;
       plan = c.args.marks.now;
-      chooses = way_chooses p.line _ _ _ _ _ p.tabled p.planned p.choice _ p.is_way _ c.with_bit.ensures _ c.copy_minutes.ensures;
-      cut_low = p.cut_low;
+      chooses = way_chooses p.line _ _ _ _ _ p.tabled p.planned p.choice _ p.is_way _ c.with_bit.ensures _ refl;
     }
 
 pub offset_bounds-marks-row-3 : goal.offset_bounds-marks-row-3
@@ -46,4 +41,4 @@ bounds-marks-row-3 c =
 
 pub returns : goal.returns
 returns c =
-    priced _ _ _ _ _ _ _ _ c.with_bit.ensures _ _ _ c.copy_minutes.ensures c.raised-c.ensures
+    priced _ _ _ _ _ _ _ c.with_bit.ensures _ _ _ refl c.raised-price.ensures

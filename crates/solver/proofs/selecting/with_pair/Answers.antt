@@ -3,20 +3,13 @@
 use mathlib.Core.Path.{ap}
 use mathlib.Core.Bool.{not}
 use native.Mathlib.Omega.{arith}
-use Rattle.rules.specs.Scan.StationLaws.{directions_size}
 use Rattle.solver.specs.Selection.SelectingLaws.{on_low, clash-on, higher_real, scores_on_none}
 use Rattle.solver.proofs.selecting.with_pair.Goals as goal
 
 pub in_conflict-requires : goal.in_conflict-requires
 in_conflict-requires c =
     let a = c.requires in
-    let low = on_low _ _ _ _ _ _ _ _ _ a.0 in (
-      directions_size _ _ a.0.tabled.raisable.directions,
-      a.0.planned.carried.least.fit.size,
-      low.0,
-      omega (arith, a.1, low.1),
-      omega (arith, a.2, low.1),
-    )
+    let low = on_low _ _ _ _ _ _ _ a.0 in (low.0, omega (arith, a.1, low.1), omega (arith, a.2, low.1))
 
 pub returns-then-not-in_conflict : goal.returns-then-not-in_conflict
 returns-then-not-in_conflict c = scores_on_none _ _ _ _ _ _ _
@@ -30,9 +23,8 @@ higher_scored-requires c =
       tabled = p.tabled;
       planned = p.planned;
       real =
-          clash-on p.line p.tabled.within p.tabled.raisable.arrays _ _ p.tabled.raisable.directions _ _ _ p.on _ _ a.1 a.2 _
+          clash-on p.line p.tabled.within p.tabled.raisable.arrays c.args.day.now _ p.tabled.raisable.directions _ _ _ p.on _ _ a.1 a.2 _
           c.in_conflict.ensures (ap not c.if-not-in_conflict.false);
-      cut_low = p.cut_low;
     }
 
 pub returns : goal.returns
@@ -42,5 +34,5 @@ returns c =
       marks_same = c.higher_scored.ensures.marks_same;
       real = λ l w a₁ d on old.
           higher_real l _ _ _ _ _ _ c.higher_scored.ensures old
-          (clash-on l w a₁ _ _ d _ _ _ on _ _ a.1 a.2 _ c.in_conflict.ensures (ap not c.if-not-in_conflict.false));
+          (clash-on l w a₁ c.args.day.now _ d _ _ _ on _ _ a.1 a.2 _ c.in_conflict.ensures (ap not c.if-not-in_conflict.false));
     }

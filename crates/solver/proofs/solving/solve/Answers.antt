@@ -1,16 +1,17 @@
--- `solver::solving::solve` meets its contract: a file that is refused, with no byte written; or an accepted one, whose line is solved.
+-- `solver::solving::solve` meets its contract: a file that is refused, or a line without a timetable, with no byte written; or the best timetable's text,
+-- which writing lends.
 use Rattle.line.specs.RoundTripLaws.{accepted_read}
-use Rattle.solver.specs.Promise.SolvingLaws.{solving_refused, solving_line}
+use Rattle.solver.specs.Promise.SolvingLaws.{line_none, line_written, solving_line}
 use Rattle.solver.proofs.solving.solve.Goals as goal
 
-pub solve_line-requires : goal.solve_line-requires
-solve_line-requires c =
-    let r = accepted_read _ c.read-reading.ensures c.in-Accepted.is in
-    (r.limits, r.arrays)
+pub best_timetable-requires : goal.best_timetable-requires
+best_timetable-requires c = let r = accepted_read _ c.in_ok-line.ensures in (r.limits, r.arrays)
 
-pub returns-in-Accepted : goal.returns-in-Accepted
-returns-in-Accepted c =
-    solving_line _ c.read-reading.ensures c.in-Accepted.is c.solve_line.ensures
+pub returns-in_default : goal.returns-in_default
+returns-in_default c = solving_line _ c.in_ok-line.ensures (line_none _ (c.best_timetable.ensures.none c.in_default.is))
 
-pub returns-in-Refused : goal.returns-in-Refused
-returns-in-Refused c = solving_refused _ c.read-reading.ensures _ c.in-Refused.is
+pub returns : goal.returns
+returns c =
+    let r = accepted_read _ c.in_ok-line.ensures in
+    solving_line _ c.in_ok-line.ensures
+    (line_written c.in_ok-line.line r.limits r.arrays c.in-Some.best.minutes (c.best_timetable.ensures.best _ c.in-Some.is) c.write.ensures)

@@ -1,14 +1,14 @@
--- `starts::filling::line_from` meets its contract: the train is taken out, altered and stored again, which alters it in the list. Assumes nothing.
-use mathlib.Core.Path.{◌≡◌, ◌∙◌, ap}
+-- `starts::filling::line_from` meets its contract: the earliest minute of the train is altered in the list. Assumes nothing.
+use mathlib.Core.Path.{◌≡◌, ap}
 use mathlib.Core.List.{List}
 use native.Mathlib.Omega.{arith}
-use lib.ListN.{length, set}
+use lib.ListN.{length}
+use borrow.Author.Rules.{rules}
 use Rattle.finite.specs.AlterLaws.{altered-set}
-use Rattle.line.specs.declared.Train.{Train}
 use Rattle.line.specs.declared.Line.{Line}
+use Rattle.line.specs.declared.Train.{Train}
 use Rattle.line.specs.Record.{traffic_with}
 use Rattle.line.specs.Starting.{starting_at}
-use borrow.Author.Rules.{rules}
 use Rattle.starts.proofs.filling.line_from.Goals as goal
 
 -- the line with these trains
@@ -20,6 +20,4 @@ returns c =
     let l = c.args.line in
     let ts = l.traffic.trains in
     let size : length ts ≡ 12 = search rules in
-    ap (λ (xs : List Train). made l xs)
-    (ap (λ (t : Train). set ts c.args.i t) c.train_from.ensures
-    ∙ altered-set (starting_at c.args.minute) c.args.i ts _ (omega (arith, c.requires, size)))
+    ap (λ (xs : List Train). made l xs) (altered-set (starting_at c.args.minute) c.args.i ts _ (omega (arith, c.requires, size)))

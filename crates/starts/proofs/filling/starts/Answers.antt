@@ -1,13 +1,25 @@
--- `starts::filling::starts` meets its contract: a file that is refused, with no entry stored; or an accepted one, whose line is asked. Assumes nothing.
-use Rattle.starts.specs.OperationLaws.{file_refused, file_accepted, file_line}
+-- `starts::filling::starts` meets its contract: a file that is refused, or what may not be asked of its line, with no entry stored; all else is filled in.
+-- Assumes nothing.
+use Prim.Native.Nat.{ℕ, ◌+◌, ◌-◌}
+use mathlib.Core.Path.{◌≡◌, subst}
+use native.Mathlib.Omega.{arith}
+use lib.ListN.{length}
+use Rattle.starts.specs.Asking.{Asked}
+use Rattle.starts.specs.OperationLaws.{line_refused, line_filled, file_accepted, file_line}
 use Rattle.starts.proofs.filling.starts.Goals as goal
 
-pub starts_on-requires : goal.starts_on-requires
-starts_on-requires c = file_line _ c.read-reading.ensures c.in-Accepted.is
+pub returns-then-not-may_ask : goal.returns-then-not-may_ask
+returns-then-not-may_ask c = file_accepted _ _ _ c.in_ok-line.ensures (line_refused _ _ _ _ (c.may_ask.ensures.nay c.if-not-may_ask.true))
 
-pub returns-in-Accepted : goal.returns-in-Accepted
-returns-in-Accepted c =
-    file_accepted _ _ _ c.read-reading.ensures c.in-Accepted.is c.starts_on.ensures
+pub overflow_sub-train : goal.overflow_sub-train
+overflow_sub-train c = (c.may_ask.ensures.yea c.if-not-may_ask.false).there.0
 
-pub returns-in-Refused : goal.returns-in-Refused
-returns-in-Refused c = file_refused _ _ _ c.read-reading.ensures _ c.in-Refused.is
+pub fill-requires : goal.fill-requires
+fill-requires c =
+    let asked = c.may_ask.ensures.yea c.if-not-may_ask.false in
+    let number : c.args.train ≡ c.args.train - 1 + 1 = omega (arith, asked.there.0) in
+    (file_line _ c.in_ok-line.ensures, subst (λ (t : ℕ). Asked c.in_ok-line.line.traffic.train_count t c.args.minutes.now (length c.args.totals.now)) number asked)
+
+pub returns : goal.returns
+returns c =
+    file_accepted _ _ _ c.in_ok-line.ensures (line_filled _ c.args.train _ _ (c.may_ask.ensures.yea c.if-not-may_ask.false) c.fill.ensures)

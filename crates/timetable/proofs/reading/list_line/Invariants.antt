@@ -1,6 +1,6 @@
 -- `timetable::reading::list_line` meets its contract. The invariant: the trains so far and then those yet to read are what the whole gives.
 -- Assumes nothing.
-use Prim.Native.Nat.{◌≤◌, ◌-◌}
+use Prim.Native.Nat.{◌-◌}
 use mathlib.Core.Path.{◌≡◌}
 use lib.ListN.{length, take}
 use Rattle.text.specs.Places.Lines.{Counted}
@@ -10,9 +10,6 @@ use Rattle.timetable.specs.Spell.{numbers}
 use Rattle.timetable.specs.RestLaws.{after}
 use Rattle.timetable.proofs.reading.list_line.Given as goal
 
-abbrev pub invariant-fields : goal.invariant-fields
-invariant-fields l = (after (numbers (take l.k l.trains)) (many (l.count - l.k) (name_at l.n) l.s l.cursor) ≡ many l.count (name_at l.n) l.s l.initial.cursor) × (l.k ≤ l.count) × (l.count ≤ 12)
+abbrev pub invariant-loop-k : goal.invariant-loop-k
+invariant-loop-k l = (after (numbers (take l.k l.trains)) (many (l.count - l.k) (name_at l.n) l.s l.cursor) ≡ many l.count (name_at l.n) l.s l.initial.cursor)
     × Counted l.cursor × (length l.trains ≡ 12)
-
-abbrev pub decreases-fields : goal.decreases-fields
-decreases-fields l = l.count - l.k

@@ -1,15 +1,8 @@
--- `timetable::writing::put_lists` meets its contract. The invariant: with the lines of the lists from k on yet to write, the buffer becomes the former
--- one with the lines of all of them. Assumes nothing.
-use Prim.Native.Nat.{◌≤◌, ◌-◌}
-use mathlib.Core.List.{[]}
-use lib.ListN.{take, drop}
+-- `timetable::writing::put_lists` meets its contract. The invariant: what is written, with the lines of the lists yet to write, is the whole. Assumes nothing.
+use Rattle.std.proofs.Common.{◌≡◌, ◌++◌, [], drop}
 use Rattle.text.specs.Elements.EachThen.{each_then}
-use Rattle.text.specs.Writing.SpliceLaws.{Putting}
 use Rattle.timetable.specs.WritingLaws.{order_text}
 use Rattle.timetable.proofs.writing.put_lists.Given as goal
 
-abbrev pub invariant-loop-k : goal.invariant-loop-k
-invariant-loop-k l = Putting l.initial.out l.start (each_then order_text (take l.n l.lists.at) []) l.out l.at (each_then order_text (drop l.k (take l.n l.lists.at)) []) × (l.k ≤ l.n)
-
-abbrev pub decreases-loop-k : goal.decreases-loop-k
-decreases-loop-k l = l.n - l.k
+abbrev pub invariant-loop-list : goal.invariant-loop-list
+invariant-loop-list l = l.out ++ each_then order_text (drop l.list-index l.lists) [] ≡ l.initial.out ++ each_then order_text l.lists []

@@ -1,37 +1,27 @@
 -- The answers; the idea of the proof is at the head of the invariants.
-use mathlib.Core.Path.{◌≡◌}
-use native.Mathlib.Nat.{sub-zero}
-use native.Mathlib.Omega.{arith}
-use lib.ListN.{length}
-use Rattle.text.specs.Writing.SpliceLaws.{putting_start, putting_step, putting_end}
+use Rattle.std.proofs.Common.{arith, length-append, [], ◌≡◌, length, rules}
 use Rattle.line.specs.RunnableLaws.{within_runnable}
 use Rattle.rules.specs.StatementLaws.PathsLaws.{routed}
-use Rattle.timetable.specs.WritingLaws.{next-train, no_train_lem, train_room}
-use borrow.Author.Rules.{rules}
+use Rattle.timetable.specs.Spell.{trains_text}
+use Rattle.text.specs.Writing.SpliceLaws.{part_put, all_put}
+use Rattle.timetable.specs.WritingLaws.{next-train, no_train_lem, train_fits}
 use Rattle.timetable.proofs.writing.put_trains.Goals as goal
 
-pub loop-i-init : goal.loop-i-init
-loop-i-init c = (rw sub-zero putting_start, omega arith)
-
-pub put_train-at-requires : goal.put_train-at-requires
-put_train-at-requires c =
-    let here = c.loop-i-test.true in
+pub put_train-requires : goal.put_train-requires
+put_train-requires c =
     let w = c.loop-i in
-    let size : length c.args.line.traffic.trains ≡ 12 = search rules in (
-      routed c.args.line w.i (within_runnable c.args.line c.requires.0) size here,
-      c.requires.1,
-      omega (arith, here, c.requires.0.trains),
-      train_room c.args.line c.args.m.now c.args.line.traffic.train_count w.i w.invariant.0 here c.requires.2,
-    )
+    let n = c.args.line.traffic.train_count in
+    let size : length c.args.line.traffic.trains ≡ 12 = search rules in
+    let whole = length-append c.args.out.now (trains_text n c.args.line c.args.m.now 0 []) in
+    let room = train_fits c.args.line c.args.m.now n w.i w.out w.invariant (omega arith) in
+    (routed c.args.line w.i (within_runnable c.args.line c.requires.0) size (omega arith), omega (arith, c.requires.0.trains), omega arith)
 
 pub loop-i-preserved : goal.loop-i-preserved
 loop-i-preserved c =
-    let here = c.loop-i-test.true in
     let w = c.loop-i in
-    let step = next-train c.args.line c.args.m.now c.args.line.traffic.train_count w.i here in
-    (putting_step _ w.invariant.0 step c.put_train-at.ensures, omega (arith, here))
+    rw c.put_train.ensures
+    (part_put w.out _ _ (rw (next-train c.args.line c.args.m.now c.args.line.traffic.train_count w.i (omega arith)) at w.invariant))
 
 pub returns : goal.returns
 returns c =
-    let w = c.loop-i in
-    putting_end w.invariant.0 (no_train_lem c.args.line c.args.m.now c.args.line.traffic.train_count w.i (omega arith))
+    all_put c.loop-i.out c.loop-i.invariant (no_train_lem c.args.line c.args.m.now c.args.line.traffic.train_count c.loop-i.i (omega arith))

@@ -1,23 +1,19 @@
 -- The answers; the idea of the proof is at the head of the invariants.
-use mathlib.Core.Path.{sym, ◌∙◌}
+use mathlib.Core.Path.{refl, sym, ◌∙◌}
 use native.Mathlib.Omega.{arith}
-use Rattle.rules.specs.Conflict.ConflictsLaws.{conflict_kept, segment-on, segment_found, segment_none}
+use Rattle.rules.specs.Conflict.ConflictsLaws.{segment-on, segment_found, segment_none}
 use Rattle.walk.specs.ScanningLaws.{clear_within, clear_below}
 use Rattle.walk.proofs.scanning.conflict_from.Goals as goal
 
 pub loop-p-init : goal.loop-p-init
-loop-p-init c =
-    (clear_below c.args.layout _ _ _ c.requires.1, clear_within c.args.layout _ _ _ c.requires.1)
+loop-p-init c = clear_below c.args.layout _ _ _ c.requires.1
 
-pub returns-in_default : goal.returns-in_default
-returns-in_default c =
-    let w = c.loop-p in
-    segment_found _ _ _ _ _ _ _ (omega arith) w.invariant.0 (sym c.pair_on-found.ensures) (conflict_kept _ c.in_default.not-Nothing)
+pub returns-in-Some : goal.returns-in-Some
+returns-in-Some c = segment_found _ _ _ _ _ _ _ c.loop-p-test.true c.loop-p.invariant (sym c.pair_on.ensures ∙ c.in-Some.is) (λ d. refl)
 
 pub loop-p-preserved : goal.loop-p-preserved
-loop-p-preserved c =
-    let y = c.args.layout in
-    (segment-on y.segments _ _ _ _ c.loop-p.invariant.0 (sym c.pair_on-found.ensures ∙ c.in-Nothing.is), omega arith)
+loop-p-preserved c = segment-on c.args.layout.segments _ _ _ _ c.loop-p.invariant (sym c.pair_on.ensures ∙ c.in_default.is)
 
 pub returns : goal.returns
-returns c = segment_none _ _ _ _ _ _ (omega arith) c.loop-p.invariant.0
+returns c =
+    segment_none _ _ _ _ _ _ (omega (arith, clear_within c.args.layout _ _ _ c.requires.1)) c.loop-p.invariant

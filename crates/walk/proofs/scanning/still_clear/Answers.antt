@@ -6,8 +6,8 @@ use Rattle.walk.proofs.scanning.still_clear.Goals as goal
 
 pub returns-then-same_on : goal.returns-then-same_on
 returns-then-same_on c _ =
-    changed_clear _ _ _ _ _ _ c.requires.5
+    changed_clear _ _ _ _ _ _ c.requires.2
     (same_changed _ _ _ _ _ _ (omega arith) (c.same_on.ensures c.if-same_on.true))
 
-pub returns : goal.returns
-returns c e = changed_clear _ _ _ _ _ _ c.requires.5 (c.changed_apart.ensures e)
+pub returns-else-same_on : goal.returns-else-same_on
+returns-else-same_on c e = changed_clear _ _ _ _ _ _ c.requires.2 (c.changed_apart.ensures e)
