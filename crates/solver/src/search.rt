@@ -7,7 +7,7 @@ ghost use Rattle.solver.specs.Search.Searching.{Whole, CanTakeUp, TakesUp, CanTr
 use crate::ahead::{choose_conflict, chosen_prices};
 use crate::pricing::cheapest;
 use crate::selecting::Hint;
-use plans::choosing::raised;
+use plans::choosing::{copy_minutes, raised};
 use plans::day::Day;
 use plans::ranking::improves;
 use plans::tally::{Tally, counted, cut_of};
@@ -49,7 +49,7 @@ pub fn take_up(
     }
     let selected = choose_conflict(m, former, marks, best, day, cost, hint, tally);
     let Some(conflict) = selected.conflict else {
-        *best = *m;
+        copy_minutes(m, best);
         return Tally {
             delay: Some(cost),
             ..tally

@@ -4,7 +4,7 @@ ghost use Rattle.std.specs.Prelude.{Some};
 ghost use Rattle.walk.specs.Taking.{CanTakeUp, TakesUp, CanTry, Tries, CanTryAll, TriesAll};
 
 use crate::scanning::{clear_segments, lowest_conflict};
-use plans::choosing::{fails, raised};
+use plans::choosing::{copy_minutes, fails, raised};
 use plans::day::Day;
 use plans::ranking::improves;
 use plans::tally::{Tally, counted, cut_of};
@@ -31,7 +31,7 @@ pub fn take_up(
         return tally;
     }
     let Some(conflict) = lowest_conflict(day.layout, &day.ds, m, former, clear) else {
-        *best = *m;
+        copy_minutes(m, best);
         return Tally {
             delay: Some(cost),
             ..tally

@@ -29,7 +29,7 @@ pub take_up-returns-in_default : goal.take_up-returns-in_default
 take_up-returns-in_default t c l h =
     let o = rw c.in_default.is at c.choose_conflict-selected.ensures in
     sought_marks l _ _ _ _ _ _ _ _ o.marks_same
-    (sought_clear l _ _ _ _ _ _ _ h _ c.improves.ensures (ap not c.if-not-improves.false) o.chosen _ refl)
+    (sought_clear l _ _ _ _ _ _ _ h _ c.improves.ensures (ap not c.if-not-improves.false) o.chosen _ c.copy_minutes.ensures)
 
 pub take_up-try_ways-requires : goal.take_up-try_ways-requires
 take_up-try_ways-requires t c =

@@ -40,7 +40,7 @@ take_up-lowest_conflict-requires t c =
 pub take_up-returns-in_default : goal.take_up-returns-in_default
 take_up-returns-in_default t c l g =
     given_clear l _ _ _ _ _ _ _ _ _ g _ c.improves.ensures (ap not c.if-not-improves.false)
-    (sym c.in_default.is ∙ c.lowest_conflict.ensures) _ refl
+    (sym c.in_default.is ∙ c.lowest_conflict.ensures) _ c.copy_minutes.ensures
 
 pub take_up-try_ways-requires : goal.take_up-try_ways-requires
 take_up-try_ways-requires t c =
