@@ -97,7 +97,7 @@ fn look_at(
         return old;
     };
     let prices = forced_prices(m, marks, best, day, cost, old.hint, tally, conflict);
-    let score = score_of(&prices[..way_count(conflict)], cost);
+    let score = score_of(&prices[..way_count(Some(conflict))], cost);
     if score <= old.score {
         return old;
     }

@@ -1,5 +1,5 @@
 // What the ways out of a conflict cost.
-ghost use Rattle.std.specs.Prelude.{◌≤◌};
+ghost use Rattle.std.specs.Prelude.{◌≡◌, ◌≤◌, ◌<◌};
 ghost use Rattle.solver.specs.Selection.Pricing.{CanPrice, Prices, CanPriceWays, PricesWays, Cheapest};
 
 use crate::drawing::varied;
@@ -42,11 +42,11 @@ pub fn way_prices(
     ensures { PricesWays m.now marks.old day.now cost cut conflict marks.new result }
 {
     let mut prices = [None; 144];
-    let n = way_count(conflict);
+    let n = way_count(Some(conflict));
     let mut w: usize = 0;
     // The number goes on by the step of its way, which a `for` cannot do.
     while w < n {
-        let out = way_of(conflict, &day.ds, w);
+        let out = way_of(Some(conflict), &day.ds, w);
         if let Some(way) = out.way {
             prices[w] = way_price(m, marks, day, way, cost, cut);
         }
@@ -55,9 +55,12 @@ pub fn way_prices(
     prices
 }
 
-// By what the ways are put in order: a way's price, or by a row of drawn numbers what it is above the cost, varied.
-fn order_key(price: u32, cost: u32, row: usize, k: usize) -> u32 {
-    if row == 0 || price < cost || price - cost > 100000000 {
+// By what the ways are put in order: a way's price, or by a row of drawn numbers what it is above the cost, varied. The greatest number stays what it is,
+// and no other price comes to it.
+fn order_key(price: u32, cost: u32, row: usize, k: usize) -> u32
+    ensures { (price < 4294967295 → result < 4294967295) × (price ≡ 4294967295 → result ≡ 4294967295) }
+{
+    if row == 0 || price == u32::MAX || price < cost || price - cost > 100000000 {
         return price;
     }
     varied(price - cost + 40, row, 997 * (k % 144))

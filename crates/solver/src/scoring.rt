@@ -80,11 +80,11 @@ pub fn way_score(
     ensures { Scores marks.old marks.new result }
 {
     let mut alive = NONE_ALIVE;
-    let n = way_count(conflict);
+    let n = way_count(Some(conflict));
     let mut w: usize = 0;
     // The number goes on by the step of its way, which a `for` cannot do.
     while w < n {
-        let out = way_of(conflict, &day.ds, w);
+        let out = way_of(Some(conflict), &day.ds, w);
         if let Some(way) = out.way {
             let price = way_price(m, marks, day, way, cost, cut);
             if price.is_none() && n == 2 {

@@ -85,10 +85,10 @@ fn try_ways(
     ensures { TriesAll m.now marks.old best.old day.now cost limit tally conflict marks.new best.new result }
 {
     let mut prices = chosen_prices(m, marks, best, day, cost, hint, tally, conflict);
-    let n = way_count(conflict);
+    let n = way_count(Some(conflict));
     let mut b = tally;
     while let Some(w) = cheapest(&prices, n, cost, hint.row) {
-        if let Some(way) = way_of(conflict, &day.ds, w).way {
+        if let Some(way) = way_of(Some(conflict), &day.ds, w).way {
             b = try_way(m, marks, best, day, cost, hint, limit, b, way);
         }
         prices[w] = None;

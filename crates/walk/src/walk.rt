@@ -54,13 +54,13 @@ fn try_ways(
     requires { CanTryAll m.now marks.old best.old day.now.tables day.now.ds day.now.key day.now.layout cost tally (Some conflict) }
     ensures { TriesAll m.now marks.old best.old day.now.tables day.now.ds day.now.key day.now.layout cost tally (Some conflict) marks.new best.new result }
 {
-    let n = way_count(conflict);
-    let clear = clear_segments(day.layout, conflict);
+    let n = way_count(Some(conflict));
+    let clear = clear_segments(day.layout, Some(conflict));
     let mut b = tally;
     let mut w: usize = 0;
     // The number goes on by the step of its way, which a `for` cannot do.
     while w < n {
-        let out = way_of(conflict, &day.ds, w);
+        let out = way_of(Some(conflict), &day.ds, w);
         if let Some(way) = out.way {
             b = try_way(m, marks, best, day, cost, b, way, clear);
         }

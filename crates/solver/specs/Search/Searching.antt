@@ -10,7 +10,7 @@ use Rattle.plans.specs.Conflict.Ways.{way_of, way_count}
 use Rattle.plans.specs.Conflict.RealConflicts.{Real}
 use Rattle.plans.specs.Instance.Planning.{planning}
 use Rattle.plans.specs.Theory.Search.{Onward, Under, NoneBetter}
-use Rattle.plans.specs.Clauses.Tallies.{best_of, Tallied}
+use Rattle.plans.specs.Clauses.Tallies.{best_of, Tallied, DelayLow}
 use Rattle.plans.specs.Clauses.Choosing.{Given, IsWay}
 use Rattle.plans.specs.declared.day.Day.{Day}
 use Rattle.plans.specs.declared.tally.Tally.{Tally}
@@ -44,7 +44,7 @@ pub record CanTakeUp (m marks best : List ℕ) (d : Day) (cost : ℕ) (y : Tally
 
 abbrev pub TakesUp : List ℕ → List ℕ → List ℕ → Day → ℕ → Option ℕ → Tally → List ℕ → List ℕ → Tally → Type 0
 TakesUp m marks best d cost limit y marks' best' r =
-    (l : Line) → Held l m marks best d cost y → Sought l marks marks best limit y marks' best' r
+    (l : Line) → Held l m marks best d cost y → Sought l marks marks best limit y marks' best' r × (DelayLow y → DelayLow r)
 
 -- ---- trying a way out of one of its conflicts
 

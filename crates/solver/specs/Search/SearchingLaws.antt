@@ -21,7 +21,8 @@ use Rattle.plans.proofs.Conflict.SplitsLaws.{conflict_splits}
 use Rattle.plans.specs.Instance.Planning.{planning}
 use Rattle.plans.proofs.Instance.LineSearchedLaws.{planning_laws, clear_lawful}
 use Rattle.plans.specs.Clauses.Keys.{better_by}
-use Rattle.plans.specs.Clauses.Tallies.{best_of, cut_of, cut_off, Tallied}
+use Rattle.plans.specs.Clauses.Tallies.{best_of, cut_of, cut_off, DelayLow, Tallied}
+use Rattle.plans.specs.Clauses.TalliesLaws.{onward_low}
 use Rattle.plans.specs.Clauses.Choosing.{Planned, Given, NoRaise, RaisesChoice, IsWay}
 use Rattle.plans.proofs.Clauses.TryingLaws.{put_back}
 use Rattle.plans.proofs.Clauses.NextPlansLaws.{recounted, recounted_best, none_raised, way_added, way_raises, way-least, next_planned}
@@ -79,14 +80,14 @@ module _ (l : Line) (m marks best : List ℕ) (d : Day) (cost : ℕ) (limit : Op
         (λ _. none_worse (planning l) L marks m (best_of y best) h.under
         (improves_false (planning l) m (best_of y best) (told l m marks best d.tables d.ds d.key d.layout cost y g r r-is ∙ not-true r n)))
 
-    pub sought_clear : not r ≡ false → Chosen d m None → (best' : List ℕ) → best' ≡ m →
+    pub sought_clear : not r ≡ false → (conflict : Option Conflict) → Chosen d m conflict → way_count conflict ≡ 0 → (best' : List ℕ) → best' ≡ m →
         Sought l marks marks best limit y marks best' (record { delay = Some cost; steps = y.steps })
-    sought_clear better chosen best' same =
+    sought_clear better conflict chosen empty best' same =
         let p = g.planned in
         let w = g.tabled.within in
         let a = g.tabled.raisable.arrays in
         let c = chosen l w a g.layout_is g.tabled.raisable.directions in
-        let lawful = clear_lawful l w a marks m p.carried.least.fit p.carried.least.keeps p.timely (c.none refl) in
+        let lawful = clear_lawful l w a marks m p.carried.least.fit p.carried.least.keeps p.timely (c.none (nothing_of conflict empty)) in
         let i = improves_true (planning l) m (best_of y best) (told l m marks best d.tables d.ds d.key d.layout cost y g r r-is ∙ not-false r better) in
         let s = searched_clear (planning l) L marks m (best_of y best) h.under lawful i in
         record {
@@ -100,6 +101,16 @@ module _ (l : Line) (m marks best : List ℕ) (d : Day) (cost : ℕ) (limit : Op
           onward = rw same s.onward;
           none_better = λ _. rw same s.none_better;
         }
+      where
+        nothing_of : (c : Option Conflict) → way_count c ≡ 0 → c ≡ None
+        nothing_of None e = refl
+        nothing_of (Some (Conflict.OnSegment x)) e = absurd (omega arith)
+        nothing_of (Some (Conflict.AtStation x)) e = absurd (omega arith)
+
+  -- the delay stays below the last number of its type, where it was
+  pub sought_low : (marks' best' : List ℕ) (r : Tally) → Sought l marks marks best limit y marks' best' r →
+      Sought l marks marks best limit y marks' best' r × (DelayLow y → DelayLow r)
+  sought_low marks' best' r s = (s, onward_low l g.tabled.within best best' y r g.tallied s.tallied s.onward)
 
   -- what is held stays so
   pub held_after : (marks' best' : List ℕ) (r : Tally) → marks' ≡ marks → Tallied l best' r → Held l m marks' best' d cost r
