@@ -55,6 +55,7 @@ pub record CanTakeUp (m former : List ℕ) (clear : ℕ) (marks best t ds key : 
   pub former_size : length former ≡ 352
   pub known : ClearBelow layout ds former clear
 
+-- and a delay below the last number of its type stays so
 abbrev pub TakesUp : List ℕ → List ℕ → List ℕ → List ℕ → List ℕ → List ℕ → Layout → ℕ → Tally → List ℕ → List ℕ → Tally → Type 0
 TakesUp m marks best t ds key layout cost y marks' best' r =
     (l : Line) → Given l m marks best t ds key layout cost y → Walks l m marks y (plan_part l m marks best y) marks' best' r × (DelayLow y → DelayLow r)

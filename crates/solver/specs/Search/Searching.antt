@@ -42,6 +42,7 @@ pub record CanTakeUp (m marks best : List ℕ) (d : Day) (cost : ℕ) (y : Tally
   pub line : Line
   pub held : Held line m marks best d cost y
 
+-- and a delay below the last number of its type stays so
 abbrev pub TakesUp : List ℕ → List ℕ → List ℕ → Day → ℕ → Option ℕ → Tally → List ℕ → List ℕ → Tally → Type 0
 TakesUp m marks best d cost limit y marks' best' r =
     (l : Line) → Held l m marks best d cost y → Sought l marks marks best limit y marks' best' r × (DelayLow y → DelayLow r)
