@@ -194,5 +194,5 @@ pub fn chosen_prices(
     if hint.ahead {
         return forced_prices(m, marks, best, day, cost, hint, tally, conflict);
     }
-    way_prices(m, marks, day, cost, cut_of(tally), conflict)
+    way_prices(m, marks, day, cost, cut_of(tally), Some(conflict))
 }

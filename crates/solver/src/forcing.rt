@@ -63,7 +63,7 @@ fn forced_way(
         return Forced::Over;
     };
     let n = way_count(Some(conflict));
-    let mut prices = way_prices(m, marks, day, cost, cut, conflict);
+    let mut prices = way_prices(m, marks, day, cost, cut, Some(conflict));
     let Some(w) = cheapest(&prices, n, cost, 0) else {
         return Forced::Dead;
     };

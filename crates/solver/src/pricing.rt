@@ -29,24 +29,24 @@ pub fn way_price(
     price
 }
 
-// The prices of the ways out of the conflict, by number; None also where a number has no way. The marks are as before.
+// The prices of the ways out of the conflict, by number; None also where a number has no way, as none has without a conflict. The marks are as before.
 pub fn way_prices(
     m: &[u16; 352],
     marks: &mut [u16; 368],
     day: &Day,
     cost: u32,
     cut: u32,
-    conflict: Conflict,
+    conflict: Option<Conflict>,
 ) -> [Option<u32>; 144]
     requires { CanPriceWays m.now marks.old day.now cost conflict }
     ensures { PricesWays m.now marks.old day.now cost cut conflict marks.new result }
 {
     let mut prices = [None; 144];
-    let n = way_count(Some(conflict));
+    let n = way_count(conflict);
     let mut w: usize = 0;
     // The number goes on by the step of its way, which a `for` cannot do.
     while w < n {
-        let out = way_of(Some(conflict), &day.ds, w);
+        let out = way_of(conflict, &day.ds, w);
         if let Some(way) = out.way {
             prices[w] = way_price(m, marks, day, way, cost, cut);
         }

@@ -66,25 +66,25 @@ pub fn score_of(prices: &[Option<u32>], cost: u32) -> u32
     score(cost, alive)
 }
 
-// The score of a conflict by the prices of its ways, which are held no longer than for that. Of two ways the second is not priced where the first is
-// dead. The marks are as before.
+// The score of a conflict by the prices of its ways, which are held no longer than for that; where there is no conflict there are no ways. Of two ways the
+// second is not priced where the first is dead. The marks are as before.
 pub fn way_score(
     m: &[u16; 352],
     marks: &mut [u16; 368],
     day: &Day,
     cost: u32,
     cut: u32,
-    conflict: Conflict,
+    conflict: Option<Conflict>,
 ) -> u32
     requires { CanPriceWays m.now marks.old day.now cost conflict }
     ensures { Scores marks.old marks.new result }
 {
     let mut alive = NONE_ALIVE;
-    let n = way_count(Some(conflict));
+    let n = way_count(conflict);
     let mut w: usize = 0;
     // The number goes on by the step of its way, which a `for` cannot do.
     while w < n {
-        let out = way_of(Some(conflict), &day.ds, w);
+        let out = way_of(conflict, &day.ds, w);
         if let Some(way) = out.way {
             let price = way_price(m, marks, day, way, cost, cut);
             if price.is_none() && n == 2 {

@@ -57,13 +57,13 @@ module _ (m marks : List ℕ) (d : Day) where
 -- ---- prices
 
 pub try_price : (m marks best : List ℕ) (d : Day) (cost : ℕ) (y : Tally) (conflict : Conflict) → CanTryAll m marks best d cost y conflict →
-    CanPriceWays m marks d cost conflict
+    CanPriceWays m marks d cost (Some conflict)
 try_price m marks best d cost y conflict h =
     let g = h.held.given in record { line = h.line; tabled = g.tabled; planned = g.planned; real = h.real }
 
 -- a way that is dead within the cut holds nothing better
 pub prices_better : (m marks best : List ℕ) (d : Day) (cost cut : ℕ) (y : Tally) → cut ≡ cut_of y → (conflict : Conflict)
-    (marks' : List ℕ) (prices : List (Option ℕ)) → PricesWays m marks d cost cut conflict marks' prices →
+    (marks' : List ℕ) (prices : List (Option ℕ)) → PricesWays m marks d cost cut (Some conflict) marks' prices →
     PricesBetter m marks best d cost y conflict marks' prices
 prices_better m marks best d cost cut y cut-is conflict marks' prices e =
     record {

@@ -74,7 +74,7 @@ PricesForced m marks best d cost y way r =
 abbrev pub PricesForcedBelow : List ℕ → List ℕ → List ℕ → Day → ℕ → Tally → Conflict → ℕ → List (Option ℕ) → Type 0
 PricesForcedBelow m marks best d cost y conflict n prices =
     (l : Line) → Held l m marks best d cost y → Real l m (Some conflict) →
-    DeadBelow (λ c. NoneBetter (planning l) (also c marks) (best_of y best)) conflict n prices
+    DeadBelow (λ c. NoneBetter (planning l) (also c marks) (best_of y best)) (Some conflict) n prices
 
 -- of all
 abbrev pub PricesAllForced : List ℕ → List ℕ → List ℕ → Day → ℕ → Tally → Conflict → List (Option ℕ) → Type 0
