@@ -41,11 +41,11 @@ impl<'a> Reader<'a> {
     }
 
     // The reader past this part: at the cursor after a track that was read, and where it stood where the track is refused.
-    pub fn past(self, part: Result<(Track, Cursor), Refusal>) -> Reader<'a>
-        ensures { (result.src ≡ self.entry.src) × (result.at ≡ end_of self.entry.at (told part)) }
+    pub fn past(self, part: &Result<(Track, Cursor), Refusal>) -> Reader<'a>
+        ensures { (result.src ≡ self.entry.src) × (result.at ≡ end_of self.entry.at (told part.now)) }
     {
         match part {
-            Ok((_, after)) => self.moved(after),
+            Ok((_, after)) => self.moved(*after),
             Err(_) => self,
         }
     }

@@ -465,8 +465,9 @@ fn newest_counts(limits: Limits) -> Limits
     }
 }
 
-// The sections past the third: bookings, and 5. dues.
+// The sections past the third: bookings, and 5. dues. Laid into the reading of a file they are copied more often, which takes a short file a third longer.
 #[tactic(auto, using(crate::specs::SectionLaws::further_no_bookings))]
+#[inline(never)]
 fn further_sections(
     s: &[u8],
     start: Cursor,
@@ -555,5 +556,5 @@ pub fn read(file: &[u8]) -> Result<Line, Refusal>
 {
     let start = Reader::open(file);
     let part = start.read_track();
-    start.past(part).complete(part)
+    start.past(&part).complete(part)
 }
