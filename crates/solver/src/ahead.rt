@@ -189,7 +189,7 @@ pub fn chosen_prices(
     conflict: Conflict,
 ) -> [Option<u32>; 144]
     requires { CanTryAll m.now marks.old best.now day.now cost tally conflict }
-    ensures { PricesBetter m.now marks.old best.now day.now cost tally conflict marks.new result }
+    ensures { PricesBetter m.now marks.old best.now day.now cost tally (Some conflict) marks.new result }
 {
     if hint.ahead {
         return forced_prices(m, marks, best, day, cost, hint, tally, conflict);

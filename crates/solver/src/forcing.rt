@@ -127,7 +127,7 @@ pub fn forced_prices(
     conflict: Conflict,
 ) -> [Option<u32>; 144]
     requires { CanTryAll m.now marks.now best.now day.now cost tally conflict }
-    ensures { PricesAllForced m.now marks.now best.now day.now cost tally conflict result }
+    ensures { PricesAllForced m.now marks.now best.now day.now cost tally (Some conflict) result }
 {
     let mut prices = [None; 144];
     let n = way_count(Some(conflict));

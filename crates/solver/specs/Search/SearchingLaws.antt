@@ -1,6 +1,6 @@
 -- The laws of searching in the terms of the search's contracts: each is what one way out of a function, or one call in it, asks for.
 use Rattle.std.specs.Prelude.{ℕ, ◌+◌, ◌≤◌, ◌<◌, ◌≡◌, refl, Bool, true, false, not, get_or, set, Option, Some, None}
-use Rattle.std.proofs.Common.{sym, ◌∙◌, ap, subst, inl, inr, ⊎_elim, arith}
+use Rattle.std.proofs.Common.{sym, ◌∙◌, ap, subst, inl, ⊎_elim, arith}
 use mathlib.Core.List.Memᴰ
 use mathlib.Core.List.{List, [], ◌∷◌, Memᴰ}
 use Rattle.std.proofs.lemmas.Bool.{not-true, not-false}
@@ -34,7 +34,7 @@ use Rattle.solver.specs.Selection.Pricing.{Cheapest}
 use Rattle.solver.specs.Selection.PricingLaws.{set_cases, only}
 use Rattle.solver.specs.Selection.Selecting.{Chosen}
 use Rattle.solver.specs.Search.Searching.{Held, Whole, Sought, WaysSought}
-use Rattle.solver.specs.Lookahead.Ahead.{PricesBetter}
+use Rattle.solver.specs.Lookahead.Ahead.{PricesBetterBelow}
 
 -- ---- the plans that are counted
 
@@ -183,36 +183,36 @@ module _ (l : Line) (m marks best : List ℕ) (d : Day) (cost : ℕ) (limit : Op
 
   -- ---- trying all ways
 
-  module _ (conflict : Conflict) (real : Real l m (Some conflict)) where
+  module _ (conflict : Option Conflict) (real : Real l m conflict) where
     -- before the first: the marks are those after pricing, which are those of before
-    pub ways_priced : (marks₀ : List ℕ) (prices : List (Option ℕ)) → PricesBetter m marks₀ best d cost y conflict marks prices → (n : ℕ) →
-        n ≡ way_count (Some conflict) → WaysSought l marks best limit y conflict n prices marks best y
-    ways_priced marks₀ prices e n n-is =
+    pub ways_priced : (marks₀ : List ℕ) (prices : List (Option ℕ)) (k : ℕ) → PricesBetterBelow m marks₀ best d cost y conflict k marks prices →
+        (n : ℕ) → n ≤ k → WaysSought l marks best limit y conflict n prices marks best y
+    ways_priced marks₀ prices k e n few =
         record {
           marks_same = refl;
           tallied = g.tallied;
           steps_rise = omega arith;
           onward = inl refl;
-          done = λ _ k b dead c there.
+          done = λ _ j b dead c there.
               subst (λ (q : List ℕ). NoneBetter (planning l) (also c q) (best_of y best)) (sym e.marks_same)
-              (e.dead l (held_by marks₀ (sym e.marks_same)) real k (omega arith) dead c there);
+              (e.dead l (held_by marks₀ (sym e.marks_same)) real j (omega arith) dead c there);
         }
 
-    -- with none left the plan is searched
-    pub ways_done : (n : ℕ) → n ≡ way_count (Some conflict) → (prices : List (Option ℕ)) (marks' best' : List ℕ) (r : Tally) →
+    -- with none left the plan is searched, where there is a conflict
+    pub ways_done : (conflict ≡ None → ⊥) → (n : ℕ) → n ≡ way_count conflict → (prices : List (Option ℕ)) (marks' best' : List ℕ) (r : Tally) →
         WaysSought l marks best limit y conflict n prices marks' best' r → Cheapest prices n None → Sought l marks marks best limit y marks' best' r
-    ways_done n n-is prices marks' best' r s next =
+    ways_done some n n-is prices marks' best' r s next =
         record {
           marks_same = s.marks_same;
           tallied = s.tallied;
           steps_rise = s.steps_rise;
           onward = s.onward;
           none_better = λ whole.
-              none_split (planning l) L marks m (ways_of (Some conflict))
-              (conflict_splits l g.tabled.within g.tabled.raisable.arrays marks m (Some conflict) real (λ e. absurd (cc)))
+              none_split (planning l) L marks m (ways_of conflict)
+              (conflict_splits l g.tabled.within g.tabled.raisable.arrays marks m conflict real some)
               (best_of r best')
               (λ c there.
-              let (k, low, here) = way-number (Some conflict) c there in
+              let (k, low, here) = way-number conflict c there in
               let low' : k < n = omega arith in
               s.done whole k low' (next.none_left refl k low') c here);
         }
@@ -228,11 +228,11 @@ sought_by l marks₀ marks best limit y marks' best' r same s = subst (λ (q : L
 
 -- ---- one way more
 
-module _ (l : Line) (marks best : List ℕ) (limit : Option ℕ) (y : Tally) (conflict : Conflict) (n : ℕ)
+module _ (l : Line) (marks best : List ℕ) (limit : Option ℕ) (y : Tally) (conflict : Option Conflict) (n : ℕ)
     (prices : List (Option ℕ)) (marks₁ best₁ : List ℕ) (r₁ : Tally)
     (s : WaysSought l marks best limit y conflict n prices marks₁ best₁ r₁) (w : ℕ) where
   -- there is no such way
-  pub ways_skip : way_of (Some conflict) w ≡ [] → WaysSought l marks best limit y conflict n (set prices w None) marks₁ best₁ r₁
+  pub ways_skip : way_of conflict w ≡ [] → WaysSought l marks best limit y conflict n (set prices w None) marks₁ best₁ r₁
   ways_skip none =
       record {
         marks_same = s.marks_same;
@@ -241,13 +241,13 @@ module _ (l : Line) (marks best : List ℕ) (limit : Option ℕ) (y : Tally) (co
         onward = s.onward;
         done = λ whole k b dead c there.
             ⊎_elim
-            (λ e. absurd (Memᴰ.not-nil (subst (Memᴰ c) none (subst (λ (j : ℕ). Memᴰ c (way_of (Some conflict) j)) e.0 there))))
+            (λ e. absurd (Memᴰ.not-nil (subst (Memᴰ c) none (subst (λ (j : ℕ). Memᴰ c (way_of conflict j)) e.0 there))))
             (λ e. s.done whole k b (sym e ∙ dead) c there)
             (set_cases prices w None k);
       }
 
   -- it was tried: it holds nothing better, and the ways before it do not as the best goes on
-  pub ways-more : (c : Choice) → way_of (Some conflict) w ≡ c ∷ [] → (marks₂ best₂ : List ℕ) (r₂ : Tally) →
+  pub ways-more : (c : Choice) → way_of conflict w ≡ c ∷ [] → (marks₂ best₂ : List ℕ) (r₂ : Tally) →
       Sought l (also c marks₁) marks₁ best₁ limit r₁ marks₂ best₂ r₂ →
       WaysSought l marks best limit y conflict n (set prices w None) marks₂ best₂ r₂
   ways-more c one marks₂ best₂ r₂ k =
@@ -259,7 +259,7 @@ module _ (l : Line) (marks best : List ℕ) (limit : Option ℕ) (y : Tally) (co
         done = λ whole j b dead d there.
             ⊎_elim
             (λ e.
-            let same : d ≡ c = only (subst (Memᴰ d) one (subst (λ (j : ℕ). Memᴰ d (way_of (Some conflict) j)) e.0 there)) in
+            let same : d ≡ c = only (subst (Memᴰ d) one (subst (λ (j : ℕ). Memᴰ d (way_of conflict j)) e.0 there)) in
             subst (λ (x : Choice). NoneBetter (planning l) (also x marks) (best_of r₂ best₂)) (sym same)
             (subst (λ (p : Plan). NoneBetter (planning l) (also c p) (best_of r₂ best₂)) s.marks_same (k.none_better whole)))
             (λ e.

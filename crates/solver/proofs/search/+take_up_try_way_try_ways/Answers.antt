@@ -143,7 +143,7 @@ try_ways-cheapest-requires t c = omega (arith, c.loop-w.invariant.0, count_most 
 pub try_ways-loop-w-init : goal.try_ways-loop-w-init
 try_ways-loop-w-init t c = (
   c.way_count-n.ensures,
-  (λ l h real. ways_priced l _ _ _ _ _ _ _ h _ real _ _ c.chosen_prices-prices.ensures _ c.way_count-n.ensures),
+  (λ l h real. ways_priced l _ _ _ _ _ _ _ h _ real _ _ _ c.chosen_prices-prices.ensures _ (omega (arith, c.way_count-n.ensures))),
   search rules,
 )
 
@@ -208,4 +208,4 @@ try_ways-returns t c l h real =
     let same = c.chosen_prices-prices.ensures.marks_same in
     let held = held_by l _ _ _ _ _ None _ h _ same in
     sought_by l _ _ _ _ _ _ _ _ same
-    (ways_done l _ _ _ _ _ _ _ held _ real _ i.invariant.0 _ _ _ _ (i.invariant.1 l held real) (rw c.in_default.is at c.cheapest.ensures))
+    (ways_done l _ _ _ _ _ _ _ held _ real (λ e. absurd (cc)) _ i.invariant.0 _ _ _ _ (i.invariant.1 l held real) (rw c.in_default.is at c.cheapest.ensures))
