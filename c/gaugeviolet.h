@@ -9,8 +9,7 @@
  *     it is not null, not even for length 0;
  *   - `out` or `totals` overlaps nothing else that is lent to the same call (the other lent bytes may overlap each other);
  *   - nobody else writes to what is lent, or reads `out` or `totals`, until the call returns;
- *   - gaugeviolet_solve, gaugeviolet_walk_length and gaugeviolet_starts recurse: call them with 6 MB (6,291,456 bytes) of
- *     stack left.
+ *   - gaugeviolet_solve, gaugeviolet_walk_length and gaugeviolet_starts recurse: call them with 6 MB of stack left.
  *
  * Each answer is one number: see gaugeviolet_number and gaugeviolet_value. */
 #ifndef GAUGEVIOLET_H

@@ -133,7 +133,7 @@ fn export_for(line: Line, timetable: &[u8], out: &mut [u8]) -> Result<usize, Ref
     requires { Within line }
     ensures { Lent (spelt (stop_times_of line (timetable_file line timetable.now))) out.old out.new result }
 {
-    let read = read_timetable(timetable, line)?;
+    let (read, _) = read_timetable(timetable, line)?;
     write_stop_times(line, read.minutes, out)
 }
 

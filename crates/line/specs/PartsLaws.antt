@@ -142,3 +142,11 @@ module _ (s : List ℕ) where
 
   pub can_complete_after : {t : Track} {c : Cursor} → Parsed.got t c ≡ track_from s 0 → (t.station_count ≤ 12) × Counted c
   can_complete_after is = subst (λ (x : Parsed Track). CanComplete (end_of 0 x) x) (sym is) (can_complete s 0)
+
+  pub told_can_complete : (p : Parsed Track) → p ≡ track_from s 0 → CanComplete (end_of 0 p) p
+  told_can_complete (Parsed.got t c) is = can_complete_after is
+  told_can_complete (Parsed.bad n q) is = tt
+
+  pub told_in_parts : (p : Parsed Track) → p ≡ track_from s 0 → completed_from s (end_of 0 p) p ≡ line_file s
+  told_in_parts (Parsed.got t c) is = file_completed is
+  told_in_parts (Parsed.bad n q) is = file_refused is

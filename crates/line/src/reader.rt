@@ -1,10 +1,9 @@
-// The reader of the line file: the lent bytes and a position in them. Its functions are few and thin: `open` makes the reader, `moved` hands it back further
-// on, and the other two take it apart for `track_from` and `complete_from`, which do the work.
-ghost use Rattle.std.specs.Prelude.{◌≡◌, ◌≤◌};
-ghost use Rattle.text.specs.Places.Lines.{Counted};
+// The reader of the line file: the lent bytes and a position in them. Its functions are few and thin: `open` makes the reader, `moved` and `past` hand it back
+// further on, and the other two take it apart for `track_from` and `complete_from`, which do the work.
+ghost use Rattle.std.specs.Prelude.{◌≡◌};
 ghost use Rattle.text.specs.Reading.Told.{told};
 ghost use Rattle.line.specs.File.{answered};
-ghost use Rattle.line.specs.Parts.{track_from, completed_at};
+ghost use Rattle.line.specs.Parts.{track_from, end_of, CanComplete, completed_from};
 
 use crate::reading::{complete_from, track_from};
 use crate::{Line, Track};
@@ -41,11 +40,21 @@ impl<'a> Reader<'a> {
         track_from(self.src, self.at)
     }
 
-    // Completes this track to a line: reads the trains from where the reader stands, which is on this line.
-    pub fn complete(self, track: Track, line: usize) -> Result<Line, Refusal>
-        requires { (track.station_count ≤ 12) × Counted (record { at = self.at; line = line }) }
-        ensures { result ≡ answered (completed_at track self.entry.src.now (record { at = self.entry.at; line = line })) }
+    // The reader past this part: at the cursor after a track that was read, and where it stood where the track is refused.
+    pub fn past(self, part: &Result<(Track, Cursor), Refusal>) -> Reader<'a>
+        ensures { (result.src ≡ self.entry.src) × (result.at ≡ end_of self.entry.at (told part.now)) }
     {
-        complete_from(self.src, Cursor { at: self.at, line }, track)
+        match part {
+            Ok((_, after)) => self.moved(*after),
+            Err(_) => self,
+        }
+    }
+
+    // Completes this part to a line: reads the trains from where the reader stands, or hands the refusal of the track on.
+    pub fn complete(self, part: Result<(Track, Cursor), Refusal>) -> Result<Line, Refusal>
+        requires { CanComplete self.at (told part) }
+        ensures { result ≡ answered (completed_from self.entry.src.now self.entry.at (told part)) }
+    {
+        complete_from(self.src, self.at, part)
     }
 }

@@ -9,7 +9,7 @@ ghost use Rattle.line.specs.Record.{no_segment, no_train, no_listed, booked_with
 ghost use Rattle.line.specs.Bookings.{rises, between, stands_after};
 ghost use Rattle.text.specs.Sections.Chained.{chained};
 ghost use Rattle.line.specs.File.{told_kind, station_line, station_section, kind_at, after_field, segment_line, segment_section, path_at, head_at, train_with, train_line, train_section, booking_line, booking_section, empty_last, listed_line, rising_section, further_at, line_file, answered};
-ghost use Rattle.line.specs.Parts.{sections_with, track_from, completed_at};
+ghost use Rattle.line.specs.Parts.{sections_with, track_from, completed_at, completed_from, CanComplete};
 ghost use Rattle.line.specs.Rising.{ReadsOn, TellsPart, section_with};
 ghost use Rattle.line.specs.Ranges.{newest};
 
@@ -465,8 +465,9 @@ fn newest_counts(limits: Limits) -> Limits
     }
 }
 
-// The sections past the third: bookings, and 5. dues.
+// The sections past the third: bookings, and 5. dues. Laid into the reading of a file they are copied more often, which takes a short file a third longer.
 #[tactic(auto, using(crate::specs::SectionLaws::further_no_bookings))]
+#[inline(never)]
 fn further_sections(
     s: &[u8],
     start: Cursor,
@@ -508,9 +509,9 @@ pub fn track_from(s: &[u8], at: usize) -> Result<(Track, Cursor), Refusal>
     Ok((track, after_segments))
 }
 
-// This track completed to a line: the trains and the sections past them, and nothing after the last; or the first refusal.
+// This track completed to a line: the trains and the sections past them from a cursor on, and nothing after the last; or the first refusal.
 #[tactic(auto, using(crate::specs::PlaceLaws::trains_counted, crate::specs::PartsLaws::no_trains, crate::specs::PartsLaws::no_further, crate::specs::PartsLaws::bytes_after, crate::specs::PartsLaws::track_completed))]
-pub fn complete_from(s: &[u8], start: Cursor, track: Track) -> Result<Line, Refusal>
+fn complete_track(s: &[u8], start: Cursor, track: Track) -> Result<Line, Refusal>
     requires { (track.station_count ≤ 12) × Counted start }
     ensures { result ≡ answered (completed_at track s.now start) }
 {
@@ -536,11 +537,24 @@ pub fn complete_from(s: &[u8], start: Cursor, track: Track) -> Result<Line, Refu
     })
 }
 
+// This part completed to a line: its track with what follows from a position on; or the refusal of whichever of the two has one.
+pub fn complete_from(
+    s: &[u8],
+    at: usize,
+    part: Result<(Track, Cursor), Refusal>,
+) -> Result<Line, Refusal>
+    requires { CanComplete at (told part) }
+    ensures { result ≡ answered (completed_from s.now at (told part)) }
+{
+    let (track, after) = part?;
+    complete_track(s, Cursor { at, ..after }, track)
+}
+
 // Reads a line file: its line, or the number and place of its first fault.
 pub fn read(file: &[u8]) -> Result<Line, Refusal>
     ensures { result ≡ answered (line_file file.now) }
 {
     let start = Reader::open(file);
-    let (track, after) = start.read_track()?;
-    start.moved(after).complete(track, after.line)
+    let part = start.read_track();
+    start.past(&part).complete(part)
 }

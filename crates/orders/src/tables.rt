@@ -134,10 +134,10 @@ fn last_leg(train: Train, e: usize) -> u16
     last as u16
 }
 
-// Runs and stops of the last j legs of train i after the first.
-fn rest_of(line: Line, i: usize, j: usize) -> u16
-    requires { Runnable line × (i < line.traffic.train_count) × (j < legs line i) }
-    ensures { result ≡ rest_of line i j }
+// Runs and stops of the last j legs of train i after the first. The line is lent, here and in the three below: by value all of it is copied for each entry.
+fn rest_of(line: &Line, i: usize, j: usize) -> u16
+    requires { Runnable line.now × (i < line.now.traffic.train_count) × (j < legs line.now i) }
+    ensures { result ≡ rest_of line.now i j }
 {
     let train = line.traffic.trains[i];
     let legs = legs_between(train.origin, train.destination);
@@ -149,9 +149,9 @@ fn rest_of(line: Line, i: usize, j: usize) -> u16
 }
 
 // The stop after leg k of train i, none after its last.
-fn stop_after(line: Line, i: usize, k: usize) -> u16
-    requires { Runnable line × (i < line.traffic.train_count) × (k < legs line i) }
-    ensures { result ≡ stop_after line i k }
+fn stop_after(line: &Line, i: usize, k: usize) -> u16
+    requires { Runnable line.now × (i < line.now.traffic.train_count) × (k < legs line.now i) }
+    ensures { result ≡ stop_after line.now i k }
 {
     let train = line.traffic.trains[i];
     if k + 1 == legs_between(train.origin, train.destination) {
@@ -162,9 +162,9 @@ fn stop_after(line: Line, i: usize, k: usize) -> u16
 }
 
 // The latest arrival after leg k of train i from which it still ends in time.
-fn limit_of(line: Line, i: usize, k: usize) -> u16
-    requires { Runnable line × (i < line.traffic.train_count) × (k < legs line i) }
-    ensures { result ≡ limit_of line i k }
+fn limit_of(line: &Line, i: usize, k: usize) -> u16
+    requires { Runnable line.now × (i < line.now.traffic.train_count) × (k < legs line.now i) }
+    ensures { result ≡ limit_of line.now i k }
 {
     let train = line.traffic.trains[i];
     let rest = rest_of(
@@ -177,9 +177,9 @@ fn limit_of(line: Line, i: usize, k: usize) -> u16
 
 // Entry e of table n of legs, where it is a leg of a train. The number is that of the layout, where the tables stand one after another (docs/DECISIONS.md).
 #[tactic(auto, using(crate::specs::LineTables::TablesLaws::entry_of))]
-fn leg_entry(n: usize, line: Line, dues: &[u16], e: usize) -> u16
-    requires { Runnable line × Dues line dues.now × (n < 8) × (e < 176) × Leg line e }
-    ensures { result ≡ leg_entry line n e }
+fn leg_entry(n: usize, line: &Line, dues: &[u16], e: usize) -> u16
+    requires { Runnable line.now × Dues line.now dues.now × (n < 8) × (e < 176) × Leg line.now e }
+    ensures { result ≡ leg_entry line.now n e }
 {
     let i = e % 16;
     let train = line.traffic.trains[i];
@@ -264,7 +264,7 @@ pub fn tables_of(line: Line) -> Tables
         table[x] = if ds[e] == 0 {
             no_leg_entry(n, e)
         } else {
-            leg_entry(n, line, &dues, e)
+            leg_entry(n, &line, &dues, e)
         };
     }
     table

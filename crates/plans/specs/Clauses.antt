@@ -3,6 +3,7 @@
 -- not (`WayCosts`), what a search found (`FoundBest`); their laws are in proofs/Clauses.
 pub mod Keys
 pub mod Tallies
+pub mod TalliesLaws
 pub mod WaysTold
 pub mod Choosing
 pub mod WayCosts

@@ -7,6 +7,15 @@ use orders::prospects::{come_after_fails, follow_fails};
 use orders::raising::{come_after, follow};
 use orders::tables::Tables;
 
+// Copies the minutes entry by entry: where a whole array is assigned through a reference the archive for C asks for `memmove` from outside.
+pub fn copy_minutes(m: &[u16; 352], q: &mut [u16; 352])
+    ensures { q.new ≡ m.now }
+{
+    for e in 0..352 {
+        q[e] = m[e];
+    }
+}
+
 // The least minutes with the way's choice, marked already, at or above those in q, and what they cost; None where none are in time for the cut.
 pub fn raised(
     q: &mut [u16; 352],

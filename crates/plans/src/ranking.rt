@@ -8,10 +8,11 @@ use crate::tally::Tally;
 use line::{Line, legs_between};
 use rules::rules::segment_between;
 
-// The entry of leg k of train i, or 176 where there is none: an Option would be no plainer, as the test `x < 176` is that of the index too.
-fn key_entry(line: Line, i: usize, k: usize) -> u16
-    requires { Within line }
-    ensures { result ≡ key_entry line i k }
+// The entry of leg k of train i, or 176 where there is none: an Option would be no plainer, as the test `x < 176` is that of the index too. The line is lent: by
+// value all of it is copied for each entry.
+fn key_entry(line: &Line, i: usize, k: usize) -> u16
+    requires { Within line.now }
+    ensures { result ≡ key_entry line.now i k }
 {
     if usize::from(line.traffic.train_count) <= i {
         return 176;
@@ -32,7 +33,7 @@ pub fn key_of(line: Line) -> [u16; 132]
 {
     let mut key = [0u16; 132];
     for e in 0..132 {
-        key[e] = key_entry(line, e / 11, e % 11);
+        key[e] = key_entry(&line, e / 11, e % 11);
     }
     key
 }

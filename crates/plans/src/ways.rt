@@ -1,5 +1,5 @@
 // The ways out of a conflict, by number.
-ghost use Rattle.std.specs.Prelude.{◌≡◌, ◌+◌, ◌*◌, ◌≤◌, ◌<◌, Some};
+ghost use Rattle.std.specs.Prelude.{◌≡◌, ◌+◌, ◌*◌, ◌≤◌, ◌<◌, Some, IfSome};
 ghost use Rattle.rules.specs.declared.conflicts.Conflict.{Conflict as SomeConflict};
 ghost use Rattle.orders.specs.Plan.Bits.{with_bit};
 ghost use Rattle.plans.specs.Conflict.Ways.{two_of, way_of, way_count};
@@ -54,12 +54,14 @@ fn leg_out(ds: &[u16; 176], s: usize, a: usize) -> usize
     }
 }
 
-pub fn way_count(conflict: Conflict) -> usize
-    ensures { result ≡ way_count (Some conflict) }
+// How many numbers the ways out have; none where there is no conflict.
+pub fn way_count(conflict: Option<Conflict>) -> usize
+    ensures { result ≡ way_count conflict }
 {
     match conflict {
-        Conflict::OnSegment(_) => 2,
-        Conflict::AtStation(_) => 144,
+        None => 0,
+        Some(Conflict::OnSegment(_)) => 2,
+        Some(Conflict::AtStation(_)) => 144,
     }
 }
 
@@ -119,17 +121,18 @@ fn station_way(x: StationConflict, ds: &[u16; 176], w: usize) -> WayOut
     }
 }
 
-// Way w out of the conflict.
-#[tactic(auto, using(crate::proofs::Clauses::WaysToldLaws::steps_one))]
-pub fn way_of(conflict: Conflict, ds: &[u16; 176], w: usize) -> WayOut
-    requires { InRange conflict × (w < 144) }
-    ensures { TellsWay ds.now (way_of (Some conflict) w) result.way × Steps (Some conflict) w result.step }
+// Way w out of the conflict; no way where there is none.
+#[tactic(auto, using(crate::proofs::Clauses::WaysToldLaws::steps_one, crate::proofs::Clauses::WaysToldLaws::tells_nothing))]
+pub fn way_of(conflict: Option<Conflict>, ds: &[u16; 176], w: usize) -> WayOut
+    requires { IfSome conflict InRange × (w < 144) }
+    ensures { TellsWay ds.now (way_of conflict w) result.way × Steps conflict w result.step }
 {
     match conflict {
-        Conflict::OnSegment(x) => WayOut {
+        None => WayOut { way: None, step: 1 },
+        Some(Conflict::OnSegment(x)) => WayOut {
             way: Some(segment_way(x, w)),
             step: 1,
         },
-        Conflict::AtStation(x) => station_way(x, ds, w),
+        Some(Conflict::AtStation(x)) => station_way(x, ds, w),
     }
 }

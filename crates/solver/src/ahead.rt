@@ -97,7 +97,7 @@ fn look_at(
         return old;
     };
     let prices = forced_prices(m, marks, best, day, cost, old.hint, tally, conflict);
-    let score = score_of(&prices[..way_count(conflict)], cost);
+    let score = score_of(&prices[..way_count(Some(conflict))], cost);
     if score <= old.score {
         return old;
     }
@@ -122,7 +122,9 @@ fn unscored(plain: Selected) -> Selected
     }
 }
 
-// Looks ahead at the places of the highest scores; at once where one conflict has at most one way alive. `plain` is what a scan alone selects.
+// Looks ahead at the places of the highest scores; at once where one conflict has at most one way alive. `plain` is what a scan alone selects. Its arrays are
+// kept out of the levels of the search, each of which would have room for them else.
+#[inline(never)]
 fn look_ahead(
     m: &[u16; 352],
     marks: &mut [u16; 368],
@@ -187,10 +189,10 @@ pub fn chosen_prices(
     conflict: Conflict,
 ) -> [Option<u32>; 144]
     requires { CanTryAll m.now marks.old best.now day.now cost tally conflict }
-    ensures { PricesBetter m.now marks.old best.now day.now cost tally conflict marks.new result }
+    ensures { PricesBetter m.now marks.old best.now day.now cost tally (Some conflict) marks.new result }
 {
     if hint.ahead {
         return forced_prices(m, marks, best, day, cost, hint, tally, conflict);
     }
-    way_prices(m, marks, day, cost, cut_of(tally), conflict)
+    way_prices(m, marks, day, cost, cut_of(tally), Some(conflict))
 }

@@ -62,8 +62,8 @@ fn forced_way(
     let Some(conflict) = selected.conflict else {
         return Forced::Over;
     };
-    let n = way_count(conflict);
-    let mut prices = way_prices(m, marks, day, cost, cut, conflict);
+    let n = way_count(Some(conflict));
+    let mut prices = way_prices(m, marks, day, cost, cut, Some(conflict));
     let Some(w) = cheapest(&prices, n, cost, 0) else {
         return Forced::Dead;
     };
@@ -71,7 +71,7 @@ fn forced_way(
     if cheapest(&prices, n, cost, 0).is_some() {
         return Forced::Over;
     }
-    match way_of(conflict, &day.ds, w).way {
+    match way_of(Some(conflict), &day.ds, w).way {
         Some(way) => Forced::Next(way, selected.hint),
         None => Forced::Dead,
     }
@@ -127,14 +127,14 @@ pub fn forced_prices(
     conflict: Conflict,
 ) -> [Option<u32>; 144]
     requires { CanTryAll m.now marks.now best.now day.now cost tally conflict }
-    ensures { PricesAllForced m.now marks.now best.now day.now cost tally conflict result }
+    ensures { PricesAllForced m.now marks.now best.now day.now cost tally (Some conflict) result }
 {
     let mut prices = [None; 144];
-    let n = way_count(conflict);
+    let n = way_count(Some(conflict));
     let mut w: usize = 0;
     // The number goes on by the step of its way, which a `for` cannot do.
     while w < n {
-        let out = way_of(conflict, &day.ds, w);
+        let out = way_of(Some(conflict), &day.ds, w);
         if let Some(way) = out.way {
             prices[w] = forced_price(m, marks, best, day, cost, hint, tally, way);
         }

@@ -1,5 +1,5 @@
 // What the ways out of a conflict cost.
-ghost use Rattle.std.specs.Prelude.{◌≤◌};
+ghost use Rattle.std.specs.Prelude.{◌≡◌, ◌≤◌, ◌<◌};
 ghost use Rattle.solver.specs.Selection.Pricing.{CanPrice, Prices, CanPriceWays, PricesWays, Cheapest};
 
 use crate::drawing::varied;
@@ -29,14 +29,14 @@ pub fn way_price(
     price
 }
 
-// The prices of the ways out of the conflict, by number; None also where a number has no way. The marks are as before.
+// The prices of the ways out of the conflict, by number; None also where a number has no way, as none has without a conflict. The marks are as before.
 pub fn way_prices(
     m: &[u16; 352],
     marks: &mut [u16; 368],
     day: &Day,
     cost: u32,
     cut: u32,
-    conflict: Conflict,
+    conflict: Option<Conflict>,
 ) -> [Option<u32>; 144]
     requires { CanPriceWays m.now marks.old day.now cost conflict }
     ensures { PricesWays m.now marks.old day.now cost cut conflict marks.new result }
@@ -55,9 +55,12 @@ pub fn way_prices(
     prices
 }
 
-// By what the ways are put in order: a way's price, or by a row of drawn numbers what it is above the cost, varied.
-fn order_key(price: u32, cost: u32, row: usize, k: usize) -> u32 {
-    if row == 0 || price < cost || price - cost > 100000000 {
+// By what the ways are put in order: a way's price, or by a row of drawn numbers what it is above the cost, varied. The greatest number stays what it is,
+// and no other price comes to it.
+fn order_key(price: u32, cost: u32, row: usize, k: usize) -> u32
+    ensures { (price < 4294967295 → result < 4294967295) × (price ≡ 4294967295 → result ≡ 4294967295) }
+{
+    if row == 0 || price == u32::MAX || price < cost || price - cost > 100000000 {
         return price;
     }
     varied(price - cost + 40, row, 997 * (k % 144))

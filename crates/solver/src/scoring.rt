@@ -66,15 +66,15 @@ pub fn score_of(prices: &[Option<u32>], cost: u32) -> u32
     score(cost, alive)
 }
 
-// The score of a conflict by the prices of its ways, which are held no longer than for that. Of two ways the second is not priced where the first is
-// dead. The marks are as before.
+// The score of a conflict by the prices of its ways, which are held no longer than for that; where there is no conflict there are no ways. Of two ways the
+// second is not priced where the first is dead. The marks are as before.
 pub fn way_score(
     m: &[u16; 352],
     marks: &mut [u16; 368],
     day: &Day,
     cost: u32,
     cut: u32,
-    conflict: Conflict,
+    conflict: Option<Conflict>,
 ) -> u32
     requires { CanPriceWays m.now marks.old day.now cost conflict }
     ensures { Scores marks.old marks.new result }

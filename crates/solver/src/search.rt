@@ -7,7 +7,7 @@ ghost use Rattle.solver.specs.Search.Searching.{Whole, CanTakeUp, TakesUp, CanTr
 use crate::ahead::{choose_conflict, chosen_prices};
 use crate::pricing::cheapest;
 use crate::selecting::Hint;
-use plans::choosing::raised;
+use plans::choosing::{copy_minutes, raised};
 use plans::day::Day;
 use plans::ranking::improves;
 use plans::tally::{Tally, counted, cut_of};
@@ -49,7 +49,7 @@ pub fn take_up(
     }
     let selected = choose_conflict(m, former, marks, best, day, cost, hint, tally);
     let Some(conflict) = selected.conflict else {
-        *best = *m;
+        copy_minutes(m, best);
         return Tally {
             delay: Some(cost),
             ..tally
@@ -85,10 +85,10 @@ fn try_ways(
     ensures { TriesAll m.now marks.old best.old day.now cost limit tally conflict marks.new best.new result }
 {
     let mut prices = chosen_prices(m, marks, best, day, cost, hint, tally, conflict);
-    let n = way_count(conflict);
+    let n = way_count(Some(conflict));
     let mut b = tally;
     while let Some(w) = cheapest(&prices, n, cost, hint.row) {
-        if let Some(way) = way_of(conflict, &day.ds, w).way {
+        if let Some(way) = way_of(Some(conflict), &day.ds, w).way {
             b = try_way(m, marks, best, day, cost, hint, limit, b, way);
         }
         prices[w] = None;

@@ -114,10 +114,10 @@ fn higher_scored(
     x: Conflict,
     old: Scored,
 ) -> Scored
-    requires { CanScore m.now marks.old day.now cost x }
-    ensures { HigherScored marks.old x old marks.new result }
+    requires { CanScore m.now marks.old day.now cost (Some x) }
+    ensures { HigherScored marks.old (Some x) old marks.new result }
 {
-    let score = way_score(m, marks, day, cost, cut, x);
+    let score = way_score(m, marks, day, cost, cut, Some(x));
     if !settled_before(cost, cut, score, x, old.score, old.conflict) {
         return old;
     }

@@ -104,12 +104,13 @@ module _ (l : Line) (s : List ℕ) where
 
     -- the minutes, and then what the rest is to its end
     module _ {m : List ℕ} {c : Cursor} (minutes : minutes_at l s (record { at = 0; line = 1 }) ≡ Parsed.got m c) where
-      file_minutes : timetable_file l s ≡ map_parsed (with_rest m) (rest_at l s c)
+      -- the rest as the code tells it
+      pub file_minutes : {r : Parsed Rest} → r ≡ rest_at l s c → timetable_file l s ≡ map_parsed (with_rest m) r
       unfolding timetable_file
-      file_minutes = rw (le-ltb 4096 (length s) h, minutes) refl
+      file_minutes told = rw (le-ltb 4096 (length s) h, minutes, told) refl
 
       pub file_no_rest : {e : Refusal} → Err e ≡ answered (rest_at l s c) → Err e ≡ answered (timetable_file l s)
-      file_no_rest told = sym (ap answered (file_minutes ∙ ap (map_parsed (with_rest m)) (answered_bad (rest_at l s c) told)))
+      file_no_rest told = sym (ap answered (file_minutes refl ∙ ap (map_parsed (with_rest m)) (answered_bad (rest_at l s c) told)))
 
       pub file_rest : {r : Rest} → Ok r ≡ answered (rest_at l s c) → Ok (with_rest m r) ≡ answered (timetable_file l s)
-      file_rest told = sym (ap answered (file_minutes ∙ ap (map_parsed (with_rest m)) (answered_got (rest_at l s c) told).got))
+      file_rest told = sym (ap answered (file_minutes refl ∙ ap (map_parsed (with_rest m)) (answered_got (rest_at l s c) told).got))

@@ -1,5 +1,6 @@
 -- What the answers of the timetable's reader tell.
 use Rattle.std.specs.Prelude.{ℕ, List, Result, Ok, Err, map, take}
+use Rattle.text.specs.declared.Cursor.{Cursor}
 use Rattle.text.specs.declared.Refusal.{Refusal}
 use Rattle.line.specs.declared.Line.{Line}
 use Rattle.rules.specs.declared.orders.OrderList.{OrderList}
@@ -20,8 +21,17 @@ named_first n lists = map named (take n lists)
 abbrev pub rest_of : Line → List OrderList → ℕ → Rest
 rest_of l lists total = record { lists = named_first (list_count l) lists; total = total }
 
+-- as the code hands them on together
+abbrev pub rest_read : Line → List OrderList × ℕ → Rest
+rest_read l (lists, total) = rest_of l lists total
+
 abbrev pub timetable_of : Line → code.Timetable → Timetable
 timetable_of l t = record { minutes = t.minutes; rest = rest_of l t.lists t.total }
+
+-- an answer without the cursor after what was read
+abbrev pub without_cursor : {A : Type 0} → Result (A × Cursor) Refusal → Result A Refusal
+without_cursor (Ok (x, c)) = Ok x
+without_cursor (Err r) = Err r
 
 -- the second part of a line's text
 abbrev pub rest_told : Line → Result (List OrderList × ℕ) Refusal → Result Rest Refusal

@@ -70,12 +70,11 @@ fn judge(line: Line, read: &Timetable) -> Result<(), Refusal>
 }
 
 // A timetable's text for a line: read whole, then judged.
-#[tactic(auto, using(crate::specs::CheckLoopLaws::judged_refused, crate::specs::CheckLoopLaws::judged_read))]
 fn check_line(line: Line, timetable: &[u8]) -> Result<(), Refusal>
     requires { Within line }
     ensures { result ≡ judged line (timetable_file line timetable.now) }
 {
-    let read = read_timetable(timetable, line)?;
+    let (read, _) = read_timetable(timetable, line)?;
     judge(line, &read)
 }
 

@@ -3,12 +3,11 @@ ghost use Rattle.std.specs.Prelude.{◌≡◌, ◌+◌, ◌-◌, ◌≤◌, ◌<
 ghost use Rattle.text.specs.Places.Lines.{Counted};
 ghost use Rattle.text.specs.Reading.Parsed.{lines, map_parsed};
 ghost use Rattle.text.specs.Reading.Told.{told};
-ghost use Rattle.line.specs.File.{answered};
 ghost use Rattle.line.specs.Record.{legs_of};
 ghost use Rattle.line.specs.Within.{Within};
 ghost use Rattle.rules.specs.Statement.Paths.{Routed};
 ghost use Rattle.timetable.specs.Reading.{legs_at, trains_at, minutes_at, own_count_at, list_at, rest_at, timetable_file};
-ghost use Rattle.timetable.specs.Told.{named, named_first, rest_told, timetable_told};
+ghost use Rattle.timetable.specs.Told.{named, named_first, rest_read, timetable_of};
 
 use line::reading::after_field;
 use line::{Line, MAX_BYTES, Time, Train, legs_between};
@@ -142,9 +141,13 @@ fn list_lines(
 }
 
 // The second part of the text: the order lists and the total, and nothing after them.
-fn read_rest(s: &[u8], start: Cursor, line: Line) -> Result<([OrderList; 22], u32), Refusal>
+fn read_rest(
+    s: &[u8],
+    start: Cursor,
+    line: Line,
+) -> Result<(([OrderList; 22], u32), Cursor), Refusal>
     requires { Within line × Counted start }
-    ensures { rest_told line result ≡ answered (rest_at line s.now start) }
+    ensures { map_parsed (rest_read line) (told result) ≡ rest_at line s.now start }
 {
     let own = list_count(line);
     let (_, next) = start.ranged(s, LINE_FEED, Limits::only(own), FAULTS)?;
@@ -161,13 +164,13 @@ fn read_rest(s: &[u8], start: Cursor, line: Line) -> Result<([OrderList; 22], u3
             place: end.line,
         });
     }
-    Ok((lists, total))
+    Ok(((lists, total), end))
 }
 
-// The whole text: 7 before all, then field by field.
-pub fn read_timetable(s: &[u8], line: Line) -> Result<Timetable, Refusal>
+// The whole text: 7 before all, then field by field; with the cursor after it.
+pub fn read_timetable(s: &[u8], line: Line) -> Result<(Timetable, Cursor), Refusal>
     requires { Within line }
-    ensures { timetable_told line result ≡ answered (timetable_file line s.now) }
+    ensures { map_parsed (timetable_of line) (told result) ≡ timetable_file line s.now }
 {
     if MAX_BYTES < s.len() {
         return Err(Refusal {
@@ -176,10 +179,13 @@ pub fn read_timetable(s: &[u8], line: Line) -> Result<Timetable, Refusal>
         });
     }
     let (minutes, next) = read_minutes(s, Cursor { at: 0, line: 1 }, line)?;
-    let (lists, total) = read_rest(s, next, line)?;
-    Ok(Timetable {
-        minutes,
-        lists,
-        total,
-    })
+    let ((lists, total), end) = read_rest(s, next, line)?;
+    Ok((
+        Timetable {
+            minutes,
+            lists,
+            total,
+        },
+        end,
+    ))
 }

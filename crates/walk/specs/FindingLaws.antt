@@ -14,6 +14,7 @@ use Rattle.orders.specs.LeastMinutes.Least.{Least, minutes, none, Fit, IsLeast}
 use Rattle.orders.specs.LeastMinutes.Carried.{start}
 use Rattle.orders.specs.Plan.Marks.{free}
 use Rattle.orders.specs.Plan.Plans.{Keeps}
+use Rattle.plans.specs.declared.found.Found.{Found}
 use Rattle.plans.specs.declared.tally.Tally.{Tally}
 use Rattle.plans.specs.Theory.BestSoFar.{BestSoFar, nothing}
 use Rattle.walk.specs.Walk.{Walked, walk, plenty, take_up}
@@ -83,13 +84,13 @@ module _ (l : Line) (w : Within l) (a : Arrays l) where
             let cut : in_time l m ≡ false = is_false (decides_in_time l m) (late m least.fit least.keeps) in
             taken_up_lem (planning l) fuel free start m nothing e ∙ taken_cut (planning l) fuel free m nothing (rw cut refl)
 
-    pub finds_nothing : FindsWalked l (record { best = None; steps = 1 })
-    finds_nothing =
+    pub finds_nothing : (r : Found) → r.best ≡ None → r.steps ≡ 1 → FindsWalked l r
+    finds_nothing r none_found one =
         record {
           finds = record {
             best = λ x e. absurd (cc);
             delay_is = λ x e. absurd (cc);
             none = λ _. walk-nothing l w a (ap (λ (x : Walked). x.best) walk_one);
           };
-          steps = ap cut_off (sym (ap (λ (x : Walked). x.steps) walk_one));
+          steps = one ∙ ap cut_off (sym (ap (λ (x : Walked). x.steps) walk_one));
         }

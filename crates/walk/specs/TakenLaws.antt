@@ -14,7 +14,8 @@ use Rattle.plans.specs.Theory.BestSoFar.{improves}
 use Rattle.plans.specs.Conflict.Ways.{way_of, way_count}
 use Rattle.plans.specs.Instance.Planning.{planning}
 use Rattle.plans.specs.Clauses.Keys.{better_by}
-use Rattle.plans.specs.Clauses.Tallies.{best_of, cut_of, cut_off, Tallied}
+use Rattle.plans.specs.Clauses.Tallies.{best_of, cut_of, cut_off, DelayLow, Tallied}
+use Rattle.plans.specs.Clauses.TalliesLaws.{onward_low}
 use Rattle.plans.specs.Clauses.WaysTold.{TellsWay, Steps}
 use Rattle.walk.specs.Scanning.{ClearBelow, clear_segments}
 use Rattle.walk.specs.ScanningLaws.{clear_told}
@@ -23,7 +24,7 @@ use Rattle.walk.specs.Taking.{Tries, TriesFirst, Walks, plan_part, way_part, way
 use Rattle.plans.proofs.Clauses.TryingLaws.{way_there, way_absent, is_way, put_back}
 use Rattle.plans.proofs.Clauses.NextPlansLaws.{way_added, way_chooses, way_raises, way-least, next_planned, next_falls}
 use Rattle.plans.proofs.Clauses.GivenLaws.{conflict_known, told}
-use Rattle.walk.specs.WalksLaws.{walks_cut, walks_clear, walks_split, counted_tallied, walks_dead, walks_alive, walks_skip, walks_more}
+use Rattle.walk.specs.WalksLaws.{walks_cut, walks_clear, walks_split, walks_onward, counted_tallied, walks_dead, walks_alive, walks_skip, walks_more}
 use Rattle.plans.specs.declared.tally.Tally.{Tally}
 use Rattle.plans.specs.declared.ways.Way.{Way}
 
@@ -49,11 +50,11 @@ module _ (l : Line) (m marks best t ds key : List ℕ) (layout : Layout) (cost :
     given_cut n = walks_cut l g.tabled.within g.tabled.raisable.arrays m marks best cost y g.planned g.tallied (better_told ∙ not-true r n)
 
     module _ (better : not r ≡ false) where
-      pub given_clear : None ≡ conflict_in layout ds m → (best' : List ℕ) → best' ≡ m →
+      pub given_clear : (conflict : Option Conflict) → conflict ≡ conflict_in layout ds m → way_count conflict ≡ 0 → (best' : List ℕ) → best' ≡ m →
           Walks l m marks y (plan_part l m marks best y) marks best' (record { delay = Some cost; steps = y.steps })
-      given_clear is best' same =
+      given_clear conflict is empty best' same =
           walks_clear l g.tabled.within g.tabled.raisable.arrays m marks best cost y g.planned g.tallied (better_told ∙ not-false r better)
-          (conflict_known l m marks best t ds key layout cost y g None is) best' same
+          conflict (conflict_known l m marks best t ds key layout cost y g conflict is) empty best' same
 
       pub given_split : (conflict : Option Conflict) → conflict ≡ conflict_in layout ds m → (way_count conflict ≡ 0 → ⊥) → (marks' best' : List ℕ) (r : Tally) →
           Walks l m marks y (ways_part l m marks best y conflict (way_count conflict)) marks' best' r →
@@ -61,6 +62,15 @@ module _ (l : Line) (m marks best t ds key : List ℕ) (layout : Layout) (cost :
       given_split conflict is some =
           walks_split l g.tabled.within g.tabled.raisable.arrays m marks best cost y g.planned g.tallied (better_told ∙ not-false r better)
           conflict (conflict_known l m marks best t ds key layout cost y g conflict is) some
+
+  -- so the delay stays below the last number of its type, where it was
+  pub given_taken : (marks' best' : List ℕ) (r : Tally) → Walks l m marks y (plan_part l m marks best y) marks' best' r →
+      Walks l m marks y (plan_part l m marks best y) marks' best' r × (DelayLow y → DelayLow r)
+  given_taken marks' best' r h = (
+    h,
+    onward_low l g.tabled.within best best' y r g.tallied h.tallied
+        (walks_onward l g.tabled.within g.tabled.raisable.arrays m marks best cost y g.planned g.tallied marks' best' r h),
+  )
 
   -- ---- trying the ways: the same is given after some of them
 

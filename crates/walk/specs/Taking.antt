@@ -15,7 +15,7 @@ use Rattle.walk.specs.Scanning.{ClearBelow}
 use Rattle.walk.specs.Walk.{Walked, in_order, look_least, follow, take_up}
 use Rattle.plans.specs.Conflict.Ways.{way_of, way_count}
 use Rattle.plans.specs.Instance.Planning.{planning}
-use Rattle.plans.specs.Clauses.Tallies.{best_of, cut_off, Tallied}
+use Rattle.plans.specs.Clauses.Tallies.{best_of, cut_off, Tallied, DelayLow}
 use Rattle.plans.specs.Clauses.Choosing.{Given, IsWay}
 use Rattle.plans.specs.declared.tally.Tally.{Tally}
 use Rattle.plans.specs.declared.ways.Way.{Way}
@@ -55,9 +55,10 @@ pub record CanTakeUp (m former : List ℕ) (clear : ℕ) (marks best t ds key : 
   pub former_size : length former ≡ 352
   pub known : ClearBelow layout ds former clear
 
+-- and a delay below the last number of its type stays so
 abbrev pub TakesUp : List ℕ → List ℕ → List ℕ → List ℕ → List ℕ → List ℕ → Layout → ℕ → Tally → List ℕ → List ℕ → Tally → Type 0
 TakesUp m marks best t ds key layout cost y marks' best' r =
-    (l : Line) → Given l m marks best t ds key layout cost y → Walks l m marks y (plan_part l m marks best y) marks' best' r
+    (l : Line) → Given l m marks best t ds key layout cost y → Walks l m marks y (plan_part l m marks best y) marks' best' r × (DelayLow y → DelayLow r)
 
 -- ---- trying the ways out of its lowest conflict
 

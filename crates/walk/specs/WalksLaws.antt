@@ -1,6 +1,6 @@
 -- What the walk's functions do is what the walk does, part by part: taking up a plan, trying a way, and trying the ways in order.
-use Rattle.std.specs.Prelude.{ℕ, zero, suc, ◌+◌, ◌≤◌, ◌<◌, ◌≡◌, refl, Bool, true, false, ◌&&◌, List, [], ◌∷◌, ◌++◌, Option, Some, None}
-use Rattle.std.proofs.Common.{sym, ◌∙◌, ap, ap₂, arith}
+use Rattle.std.specs.Prelude.{ℕ, zero, suc, ◌+◌, ◌≤◌, ◌<◌, ◌≡◌, refl, Bool, true, false, ◌&&◌, List, [], ◌∷◌, ◌++◌, Option, Some}
+use Rattle.std.proofs.Common.{sym, ◌∙◌, ap, ap₂, subst, arith}
 use Rattle.std.proofs.Math.Bool.{and-eq-true_iff}
 use Rattle.finite.specs.Below.{gather}
 use Rattle.finite.specs.LoopLaws.{gather-more}
@@ -10,12 +10,16 @@ use Rattle.rules.specs.declared.conflicts.Conflict.{Conflict}
 use Rattle.rules.specs.Conflict.Conflicts.{conflict_of}
 use Rattle.orders.specs.LeastMinutes.NoLater.{slack}
 use Rattle.orders.specs.LeastMinutes.Least.{Least, minutes, none, Fit, IsLeast}
+use Rattle.orders.specs.LeastMinutes.LeastLaws.{least_one}
+use Rattle.orders.specs.LeastMinutes.Carried.{start}
 use Rattle.orders.specs.Plan.Choices.{Choice}
 use Rattle.orders.specs.Plan.Marks.{Plan, also}
 use Rattle.orders.specs.Plan.Plans.{Keeps}
 use Rattle.orders.specs.LeastMinutes.PlanArcs.{least}
 use Rattle.walk.specs.Walk.{Walked, in_order, take_up}
+use Rattle.plans.specs.Theory.Problem.{Laws}
 use Rattle.plans.specs.Theory.BestSoFar.{BestSoFar, found, improves, improves_true}
+use Rattle.plans.specs.Theory.Search.{Onward, Searched}
 use Rattle.plans.specs.Conflict.Ways.{way_of, way_count, ways}
 use Rattle.plans.proofs.Conflict.WaysLaws.{ways_none, all_ways, no_ways}
 use Rattle.plans.specs.Instance.Planning.{in_time, planning}
@@ -25,6 +29,7 @@ use Rattle.walk.specs.Taking.{taken_up, Walks, plan_part, way_part, ways_part}
 use Rattle.walk.specs.TakingLaws.{taken_up_lem, taken_none, taken_some, taken_cut, taken_clear, taken_split, none_more, more_best, more_steps}
 use Rattle.plans.proofs.Clauses.NextPlansLaws.{recounted, recounted_best, raise_none}
 use Rattle.walk.specs.ProblemLaws.{least_found}
+use Rattle.walk.specs.SoundLaws.{Enough, take_up_sound}
 use Rattle.plans.proofs.Instance.LineSearchedLaws.{planning_laws}
 use Rattle.plans.specs.declared.tally.Tally.{Tally}
 
@@ -67,9 +72,10 @@ module _ (l : Line) (w : Within l) (a : Arrays l) (m marks best : List ℕ) (cos
       taken : (fuel : ℕ) → taken_up (planning l) fuel marks m (best_of y best) ≡ record { best = best_of y best; steps = 1 }
       taken fuel = taken_cut (planning l) fuel marks m (best_of y best) (rw (g.timely, e) refl)
 
-  pub walks_clear : improves (planning l) m (best_of y best) ≡ true → None ≡ conflict_of l m → (best' : List ℕ) → best' ≡ m →
+  pub walks_clear : improves (planning l) m (best_of y best) ≡ true → (conflict : Option Conflict) → conflict ≡ conflict_of l m →
+      way_count conflict ≡ 0 → (best' : List ℕ) → best' ≡ m →
       Walks l m marks y (plan_part l m marks best y) marks best' (record { delay = Some cost; steps = y.steps })
-  walks_clear e is best' same = record {
+  walks_clear e conflict is empty best' same = record {
     marks_same = refl;
     tallied = record {
       size = rw same g.carried.least.fit.size;
@@ -81,7 +87,7 @@ module _ (l : Line) (w : Within l) (a : Arrays l) (m marks best : List ℕ) (cos
   }
     where
       clear : ways l m ≡ []
-      clear = no_ways l m None is refl
+      clear = no_ways l m conflict is empty
 
       taken : (fuel : ℕ) → taken_up (planning l) fuel marks m (best_of y best) ≡ record { best = found m; steps = 1 }
       taken fuel = taken_clear (planning l) fuel marks m (best_of y best) (rw (g.timely, e) refl) clear
@@ -107,6 +113,31 @@ module _ (l : Line) (w : Within l) (a : Arrays l) (m marks best : List ℕ) (cos
             best = (in_order (λ c. take_up (planning l) fuel (also c marks) m) ws (best_of y best)).best;
             steps = suc (in_order (λ c. take_up (planning l) fuel (also c marks) m) ws (best_of y best)).steps;
           }) (all_ways l m conflict is (way_count conflict) refl)
+
+  -- whichever it is, the best so far stays or a lawful timetable takes its place
+  pub walks_onward : (marks' best' : List ℕ) (r : Tally) → Walks l m marks y (plan_part l m marks best y) marks' best' r →
+      Onward (planning l) (best_of y best) (best_of r best')
+  walks_onward marks' best' r h =
+      subst (Onward (planning l) (best_of y best)) (sym (h.best_is fuel (omega arith) ∙ sym (ap (λ (x : Walked). x.best) walk_is))) whole.onward
+    where
+      fuel : ℕ
+      fuel = suc (suc (slack m))
+
+      L : Laws (planning l)
+      L = planning_laws l w a
+
+      walk_is : take_up (planning l) (suc fuel) marks start (best_of y best) ≡ taken_up (planning l) fuel marks m (best_of y best)
+      walk_is =
+          taken_up_lem (planning l) fuel marks start m (best_of y best) (least_found (planning l) L marks start L.start_fit m g.carried.least)
+
+      enough : Enough (planning l) (suc fuel) marks start
+      enough = record {
+        some = omega arith;
+        deep = λ k i. omega (arith, ap slack (least_one 352 (Keeps l marks) start m k g.carried.least i));
+      }
+
+      whole : Searched (planning l) marks (best_of y best) (take_up (planning l) (suc fuel) marks start (best_of y best)).best
+      whole = take_up_sound (planning l) L (suc fuel) marks start (best_of y best) enough L.start_fit (λ k lawful _. L.start_low k lawful)
 
   -- ---- trying the ways in order
 

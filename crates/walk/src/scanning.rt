@@ -1,6 +1,6 @@
 // The scan for the lowest conflict of a plan that comes from another by one choice. Few of its minutes differ, so segments that had no conflict below the
 // other's lowest one are looked at only for the trains whose minutes changed. What is found is the same.
-ghost use Rattle.std.specs.Prelude.{◌≡◌, true, false, ◌+◌, ◌*◌, ◌-◌, ◌≤◌, ◌<◌, Some, None};
+ghost use Rattle.std.specs.Prelude.{◌≡◌, true, false, ◌+◌, ◌*◌, ◌-◌, ◌≤◌, ◌<◌, None};
 ghost use Rattle.rules.specs.Conflict.Conflicts.{pair_on, segment_conflict, conflict_in};
 ghost use Rattle.rules.specs.Scan.Scanning.{LaidOut, Scans};
 ghost use Rattle.walk.specs.Scanning.{SameRow, SameOn, SameTimes, InNoConflict, ChangedApart, ClearBelow, ScansAgain, clear_segments};
@@ -161,13 +161,14 @@ pub fn lowest_conflict(
     segment_conflict(layout, ds, m, former, clear).or_else(|| station_conflict(layout, ds, m))
 }
 
-// How many segments have no conflict, where this is the lowest conflict.
-pub fn clear_segments(layout: Layout, conflict: Conflict) -> usize
+// How many segments have no conflict, where this is the lowest conflict, or there is none.
+pub fn clear_segments(layout: Layout, conflict: Option<Conflict>) -> usize
     requires { LaidOut layout }
-    ensures { result ≡ clear_segments layout (Some conflict) }
+    ensures { result ≡ clear_segments layout conflict }
 {
     match conflict {
-        Conflict::OnSegment(x) => x.segment,
-        Conflict::AtStation(_) => layout.stations - 1,
+        None => layout.stations - 1,
+        Some(Conflict::OnSegment(x)) => x.segment,
+        Some(Conflict::AtStation(_)) => layout.stations - 1,
     }
 }

@@ -4,7 +4,7 @@ ghost use Rattle.std.specs.Prelude.{Some};
 ghost use Rattle.walk.specs.Taking.{CanTakeUp, TakesUp, CanTry, Tries, CanTryAll, TriesAll};
 
 use crate::scanning::{clear_segments, lowest_conflict};
-use plans::choosing::{fails, raised};
+use plans::choosing::{copy_minutes, fails, raised};
 use plans::day::Day;
 use plans::ranking::improves;
 use plans::tally::{Tally, counted, cut_of};
@@ -31,7 +31,7 @@ pub fn take_up(
         return tally;
     }
     let Some(conflict) = lowest_conflict(day.layout, &day.ds, m, former, clear) else {
-        *best = *m;
+        copy_minutes(m, best);
         return Tally {
             delay: Some(cost),
             ..tally
@@ -54,13 +54,13 @@ fn try_ways(
     requires { CanTryAll m.now marks.old best.old day.now.tables day.now.ds day.now.key day.now.layout cost tally (Some conflict) }
     ensures { TriesAll m.now marks.old best.old day.now.tables day.now.ds day.now.key day.now.layout cost tally (Some conflict) marks.new best.new result }
 {
-    let n = way_count(conflict);
-    let clear = clear_segments(day.layout, conflict);
+    let n = way_count(Some(conflict));
+    let clear = clear_segments(day.layout, Some(conflict));
     let mut b = tally;
     let mut w: usize = 0;
     // The number goes on by the step of its way, which a `for` cannot do.
     while w < n {
-        let out = way_of(conflict, &day.ds, w);
+        let out = way_of(Some(conflict), &day.ds, w);
         if let Some(way) = out.way {
             b = try_way(m, marks, best, day, cost, b, way, clear);
         }

@@ -8,8 +8,8 @@
 
 use crate::{screen, unpacked, Refusal};
 
-/// The bytes of stack that the functions here need: what their recursion takes at its deepest, as far as
-/// that is argued, and nearly twice what the deepest line that we could make takes. No proof bounds it.
+/// The bytes of stack that the functions here need: about twice what their recursion takes at its
+/// deepest, as far as that is argued and tested. No proof bounds it.
 pub const SOLVE_STACK: usize = 6 << 20;
 
 /// Solves a line file: writes the text of its best timetable to the front of `lent` and returns its

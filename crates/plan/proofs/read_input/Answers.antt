@@ -1,5 +1,5 @@
 -- The answers; the idea of the proof is at the head of the invariants.
-use Rattle.std.proofs.Common.{◌≡◌, ℕ, ◌+◌, ◌-◌, ◌≤◌, List, ◌++◌, rules, arith, length, take, slice_range, sym, ap, ◌∙◌, subst, le_refl, drop_at, length-take-le}
+use Rattle.std.proofs.Common.{◌≡◌, ℕ, ◌+◌, ◌-◌, ◌≤◌, List, Option, ◌++◌, rules, arith, length, take, slice_range, sym, ap, ◌∙◌, subst, le_refl, drop_at, length-take-le}
 use Rattle.std.proofs.lemmas.Slice.{take-put_mid_below}
 use Rattle.std.specs.Io.KnownBytes.{Consumes}
 use Rattle.std.proofs.KnownBytes.{Consumes-trans}
@@ -20,11 +20,15 @@ slice_range-put_mid a k n xs ys within fits =
     let after = post_of a k xs in
     ap (take ((a + n) - a)) (drop_at (take a xs) (ys ++ after) a (length-take-le a xs within)) ∙ ap (λ m. take m (ys ++ after)) same ∙ take-append-le n ys after fits
 
+-- So what is read behind the bytes read so far goes on from them.
+read_on : (from more : ℕ) (old new : List ℕ) (start before after : Option (List ℕ)) → from ≤ length old → more ≤ length new → Consumes start before (take from old) →
+    Consumes before after (take more new) → Consumes start after (take (from + more) (put_mid from (length old - from) old new))
+read_on from more old new start before after within fits so_far here =
+    let room = length old - from in
+    let part = slice_range-put_mid from room more old new within fits in
+    let joined = take_split from (from + more) old (put_mid from room old new) (omega arith) (take-put_mid_below _ _ _ _ _ (le_refl _) within) in
+    subst (Consumes _ _) (ap (λ l. take from old ++ l) (sym part) ∙ joined) (Consumes-trans _ _ _ _ _ so_far here)
+
 pub loop-n-preserved : goal.loop-n-preserved
 loop-n-preserved g c =
-    let from = c.loop-n.n in
-    let room = length c.loop-n.file - from in
-    let within : from ≤ length c.loop-n.file = c.loop-n.invariant.0 in
-    let part = slice_range-put_mid from room c.in_ok-more.more c.loop-n.file c.read.new.buf within c.in_ok-more.ensures.bound.0 in
-    let joined = take_split from (from + c.in_ok-more.more) c.loop-n.file (put_mid from room c.loop-n.file c.read.new.buf) (omega arith) (take-put_mid_below _ _ _ _ _ (le_refl _) within) in
-    (search rules, search rules, subst (Consumes _ _) (ap (λ l. take from c.loop-n.file ++ l) (sym part) ∙ joined) (Consumes-trans _ _ _ _ _ c.loop-n.invariant.2 c.in_ok-more.ensures.bytes.0))
+    (search rules, search rules, read_on c.loop-n.n _ c.loop-n.file c.read.new.buf _ _ _ c.loop-n.invariant.0 (search rules) c.loop-n.invariant.2 (search rules))

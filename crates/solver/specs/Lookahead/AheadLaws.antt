@@ -7,12 +7,12 @@ use Rattle.plans.specs.Clauses.Tallies.{cut_of}
 use Rattle.plans.proofs.Clauses.NextPlansLaws.{none_raised}
 use Rattle.plans.specs.declared.day.Day.{Day}
 use Rattle.plans.specs.declared.tally.Tally.{Tally}
-use Rattle.solver.specs.Selection.Pricing.{CanPriceWays, PricesWays}
+use Rattle.solver.specs.Selection.Pricing.{CanPriceWays, PricesBelow}
 use Rattle.solver.specs.Selection.Selecting.{CanSelect, ChoosesOne, KnownReal, FindsReal}
 use Rattle.solver.specs.Selection.SelectingLaws.{some_chosen}
 use Rattle.solver.specs.Search.Searching.{CanTakeUp, CanTryAll}
 use Rattle.solver.specs.Search.SearchingLaws.{held_by}
-use Rattle.solver.specs.Lookahead.Ahead.{PricesBetter}
+use Rattle.solver.specs.Lookahead.Ahead.{PricesBetterBelow}
 
 -- ---- a plan to look ahead from
 
@@ -57,15 +57,15 @@ module _ (m marks : List ℕ) (d : Day) where
 -- ---- prices
 
 pub try_price : (m marks best : List ℕ) (d : Day) (cost : ℕ) (y : Tally) (conflict : Conflict) → CanTryAll m marks best d cost y conflict →
-    CanPriceWays m marks d cost conflict
+    CanPriceWays m marks d cost (Some conflict)
 try_price m marks best d cost y conflict h =
     let g = h.held.given in record { line = h.line; tabled = g.tabled; planned = g.planned; real = h.real }
 
 -- a way that is dead within the cut holds nothing better
-pub prices_better : (m marks best : List ℕ) (d : Day) (cost cut : ℕ) (y : Tally) → cut ≡ cut_of y → (conflict : Conflict)
-    (marks' : List ℕ) (prices : List (Option ℕ)) → PricesWays m marks d cost cut conflict marks' prices →
-    PricesBetter m marks best d cost y conflict marks' prices
-prices_better m marks best d cost cut y cut-is conflict marks' prices e =
+pub prices_better : (m marks best : List ℕ) (d : Day) (cost cut : ℕ) (y : Tally) → cut ≡ cut_of y → (conflict : Option Conflict)
+    (n : ℕ) (marks' : List ℕ) (prices : List (Option ℕ)) → PricesBelow m marks d cost cut conflict n marks' prices →
+    PricesBetterBelow m marks best d cost y conflict n marks' prices
+prices_better m marks best d cost cut y cut-is conflict n marks' prices e =
     record {
       marks_same = e.marks_same;
       dead = λ l h real k b dead c there.

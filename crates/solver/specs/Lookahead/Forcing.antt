@@ -68,14 +68,14 @@ abbrev pub PricesForced : List ℕ → List ℕ → List ℕ → Day → ℕ →
 PricesForced m marks best d cost y way r =
     (l : Line) (c : Choice) → Held l m marks best d cost y → IsWay l m d.ds c way → r ≡ None → NoneBetter (planning l) (also c marks) (best_of y best)
 
--- ---- all ways out of a conflict
+-- ---- all ways out of a conflict; there are none where there is no conflict
 
 -- of the first n numbers those priced as dead have ways of which that holds
-abbrev pub PricesForcedBelow : List ℕ → List ℕ → List ℕ → Day → ℕ → Tally → Conflict → ℕ → List (Option ℕ) → Type 0
+abbrev pub PricesForcedBelow : List ℕ → List ℕ → List ℕ → Day → ℕ → Tally → Option Conflict → ℕ → List (Option ℕ) → Type 0
 PricesForcedBelow m marks best d cost y conflict n prices =
-    (l : Line) → Held l m marks best d cost y → Real l m (Some conflict) →
+    (l : Line) → Held l m marks best d cost y → Real l m conflict →
     DeadBelow (λ c. NoneBetter (planning l) (also c marks) (best_of y best)) conflict n prices
 
 -- of all
-abbrev pub PricesAllForced : List ℕ → List ℕ → List ℕ → Day → ℕ → Tally → Conflict → List (Option ℕ) → Type 0
-PricesAllForced m marks best d cost y conflict prices = PricesForcedBelow m marks best d cost y conflict (way_count (Some conflict)) prices
+abbrev pub PricesAllForced : List ℕ → List ℕ → List ℕ → Day → ℕ → Tally → Option Conflict → List (Option ℕ) → Type 0
+PricesAllForced m marks best d cost y conflict prices = PricesForcedBelow m marks best d cost y conflict (way_count conflict) prices

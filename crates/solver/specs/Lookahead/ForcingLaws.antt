@@ -1,5 +1,5 @@
 -- The laws of forced choices: each is what one way out of a function, or one call in it, asks for.
-use Rattle.std.specs.Prelude.{ℕ, ◌≤◌, ◌<◌, ◌≡◌, ◌⊎◌, refl, Bool, true, not, get_or, set, Option, Some, None}
+use Rattle.std.specs.Prelude.{ℕ, ◌<◌, ◌≡◌, ◌⊎◌, refl, Bool, true, not, get_or, set, Option, Some, None}
 use Rattle.std.proofs.Common.{sym, ◌∙◌, subst, inl, inr, ⊎_elim, arith}
 use mathlib.Core.List.Memᴰ
 use mathlib.Core.List.{List, Memᴰ}
@@ -60,7 +60,7 @@ forces_none m marks d cost cut marks' r same not-forced =
 
 module _ (m marks : List ℕ) (d : Day) (cost cut : ℕ) (marks₁ : List ℕ) (conflict : Conflict) (chosen : ChoosesOne m marks d marks₁ (Some conflict))
     (n : ℕ) (n-is : n ≡ way_count (Some conflict)) (marks₂ : List ℕ) (prices : List (Option ℕ))
-    (priced : PricesWays m marks₁ d cost cut conflict marks₂ prices)
+    (priced : PricesWays m marks₁ d cost cut (Some conflict) marks₂ prices)
     (l : Line) (tabled : Tabled l d.tables d.ds) (planned : Planned l marks m cost) (layout_is : d.layout ≡ layout_of l) where
   pub real_of : Real l m (Some conflict)
   real_of = (chosen.chosen l tabled.within tabled.raisable.arrays layout_is tabled.raisable.directions).real

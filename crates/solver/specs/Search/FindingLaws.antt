@@ -1,5 +1,5 @@
 -- The laws of finding the best timetable in the terms of its contracts: each is what one way out of a function, or one call in it, asks for.
-use Rattle.std.specs.Prelude.{ℕ, ◌<◌, ◌≡◌, refl, Option, Some, None, List, []}
+use Rattle.std.specs.Prelude.{ℕ, ◌<◌, ◌≡◌, refl, Option, Some, None, List}
 use Rattle.std.proofs.Common.{sym, ◌∙◌, ap, subst, inl, arith}
 use Rattle.line.specs.declared.Line.{Line}
 use Rattle.line.specs.Within.{Within, Arrays}
@@ -14,12 +14,13 @@ use Rattle.plans.specs.Theory.Search.{Onward, Searched}
 use Rattle.plans.specs.Theory.SearchLaws.{onward_then, searched_dead}
 use Rattle.plans.specs.Instance.Planning.{planning}
 use Rattle.plans.proofs.Instance.LineSearchedLaws.{searched_best, searched_nothing}
-use Rattle.plans.specs.Clauses.FoundBest.{found_of}
+use Rattle.plans.specs.Clauses.FoundBest.{found_of, Finds}
 use Rattle.plans.specs.Clauses.FoundBestLaws.{finds_of}
 use Rattle.plans.proofs.Clauses.FirstLaws.{first_late}
 use Rattle.plans.proofs.Clauses.NextPlansLaws.{recounted, recounted_best}
 use Rattle.plans.specs.Clauses.Tallies.{best_by, best_of, Tallied}
 use Rattle.plans.specs.declared.day.Day.{Day}
+use Rattle.plans.specs.declared.found.Found.{Found}
 use Rattle.plans.specs.declared.tally.Tally.{Tally}
 use Rattle.solver.specs.Search.Searching.{Held, Sought}
 use Rattle.solver.specs.Search.SearchingLaws.{held_after}
@@ -137,7 +138,10 @@ module _ (l : Line) (w : Within l) (a : Arrays l) where
           (λ is. searched_nothing l w a (subst (λ (x : Option ℕ). Searched (planning l) free nothing (best_by x best')) is (searched delay e))))
 
   -- no minutes of the first plan are in time
-  pub finds_nothing : ((m : List ℕ) → Fit 352 m → Keeps l free m → EachTrain l (NotLate l m) → ⊥) → FindsBest l None
-  finds_nothing late =
-      finds_of l [] 0 None (λ c e. absurd (cc)) (λ c e. absurd (cc))
-      (λ _. searched_nothing l w a (searched_dead (planning l) free nothing (first_late l w a late)))
+  pub finds_nothing : ((m : List ℕ) → Fit 352 m → Keeps l free m → EachTrain l (NotLate l m) → ⊥) → (r : Found) → r.best ≡ None → Finds l r
+  finds_nothing late r none_found =
+      record {
+        best = λ x e. absurd (cc);
+        delay_is = λ x e. absurd (cc);
+        none = λ _. searched_nothing l w a (searched_dead (planning l) free nothing (first_late l w a late));
+      }

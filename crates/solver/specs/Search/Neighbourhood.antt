@@ -1,7 +1,7 @@
 -- The contracts of keeping a timetable's orders. Choice by choice a plan to search becomes one with a choice more, or is given up; which timetable the
 -- orders come from is left open. As in the walk the line is not among the parameters: what is needed holds of some line among those that the parameters
 -- fit, and what is given holds of all of them.
-use Rattle.std.specs.Prelude.{ℕ, ◌<◌, ◌≡◌, true, false, List}
+use Rattle.std.specs.Prelude.{ℕ, ◌<◌, ◌≡◌, false, List}
 use Rattle.line.specs.declared.Kind.{Kind}
 use Rattle.line.specs.declared.Line.{Line}
 use Rattle.line.specs.declared.Segment.{Segment}

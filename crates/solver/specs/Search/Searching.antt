@@ -6,11 +6,11 @@ use Rattle.line.specs.declared.Line.{Line}
 use Rattle.rules.specs.declared.conflicts.Conflict.{Conflict}
 use Rattle.orders.specs.Plan.Choices.{Choice}
 use Rattle.orders.specs.Plan.Marks.{Plan, also}
-use Rattle.plans.specs.Conflict.Ways.{way_of, way_count}
+use Rattle.plans.specs.Conflict.Ways.{way_of}
 use Rattle.plans.specs.Conflict.RealConflicts.{Real}
 use Rattle.plans.specs.Instance.Planning.{planning}
 use Rattle.plans.specs.Theory.Search.{Onward, Under, NoneBetter}
-use Rattle.plans.specs.Clauses.Tallies.{best_of, Tallied}
+use Rattle.plans.specs.Clauses.Tallies.{best_of, Tallied, DelayLow}
 use Rattle.plans.specs.Clauses.Choosing.{Given, IsWay}
 use Rattle.plans.specs.declared.day.Day.{Day}
 use Rattle.plans.specs.declared.tally.Tally.{Tally}
@@ -42,9 +42,10 @@ pub record CanTakeUp (m marks best : List ℕ) (d : Day) (cost : ℕ) (y : Tally
   pub line : Line
   pub held : Held line m marks best d cost y
 
+-- and a delay below the last number of its type stays so
 abbrev pub TakesUp : List ℕ → List ℕ → List ℕ → Day → ℕ → Option ℕ → Tally → List ℕ → List ℕ → Tally → Type 0
 TakesUp m marks best d cost limit y marks' best' r =
-    (l : Line) → Held l m marks best d cost y → Sought l marks marks best limit y marks' best' r
+    (l : Line) → Held l m marks best d cost y → Sought l marks marks best limit y marks' best' r × (DelayLow y → DelayLow r)
 
 -- ---- trying a way out of one of its conflicts
 
@@ -70,16 +71,16 @@ TriesAll m marks best d cost limit y conflict marks' best' r =
     (l : Line) → Held l m marks best d cost y → Real l m (Some conflict) → Sought l marks marks best limit y marks' best' r
 
 -- while they are tried: the ways below n whose price is that of a dead one hold nothing better
-pub record WaysSought (l : Line) (marks best : List ℕ) (limit : Option ℕ) (y : Tally) (conflict : Conflict) (n : ℕ) (prices : List (Option ℕ))
+pub record WaysSought (l : Line) (marks best : List ℕ) (limit : Option ℕ) (y : Tally) (conflict : Option Conflict) (n : ℕ) (prices : List (Option ℕ))
     (marks' best' : List ℕ) (r : Tally) : Type 0 where
   pub marks_same : marks' ≡ marks
   pub tallied : Tallied l best' r
   pub steps_rise : y.steps ≤ r.steps
   pub onward : Onward (planning l) (best_of y best) (best_of r best')
-  pub done : Whole limit r → (k : ℕ) → k < n → get_or prices k None ≡ None → (c : Choice) → Memᴰ c (way_of (Some conflict) k) →
+  pub done : Whole limit r → (k : ℕ) → k < n → get_or prices k None ≡ None → (c : Choice) → Memᴰ c (way_of conflict k) →
       NoneBetter (planning l) (also c marks) (best_of r best')
 
 abbrev pub TriesSome :
-    List ℕ → List ℕ → List ℕ → Day → ℕ → Option ℕ → Tally → Conflict → ℕ → List (Option ℕ) → List ℕ → List ℕ → Tally → Type 0
+    List ℕ → List ℕ → List ℕ → Day → ℕ → Option ℕ → Tally → Option Conflict → ℕ → List (Option ℕ) → List ℕ → List ℕ → Tally → Type 0
 TriesSome m marks best d cost limit y conflict n prices marks' best' r =
-    (l : Line) → Held l m marks best d cost y → Real l m (Some conflict) → WaysSought l marks best limit y conflict n prices marks' best' r
+    (l : Line) → Held l m marks best d cost y → Real l m conflict → WaysSought l marks best limit y conflict n prices marks' best' r

@@ -1,6 +1,6 @@
 -- The laws of searching in the terms of the search's contracts: each is what one way out of a function, or one call in it, asks for.
 use Rattle.std.specs.Prelude.{ℕ, ◌+◌, ◌≤◌, ◌<◌, ◌≡◌, refl, Bool, true, false, not, get_or, set, Option, Some, None}
-use Rattle.std.proofs.Common.{sym, ◌∙◌, ap, subst, inl, inr, ⊎_elim, arith}
+use Rattle.std.proofs.Common.{sym, ◌∙◌, ap, subst, inl, ⊎_elim, arith}
 use mathlib.Core.List.Memᴰ
 use mathlib.Core.List.{List, [], ◌∷◌, Memᴰ}
 use Rattle.std.proofs.lemmas.Bool.{not-true, not-false}
@@ -21,7 +21,8 @@ use Rattle.plans.proofs.Conflict.SplitsLaws.{conflict_splits}
 use Rattle.plans.specs.Instance.Planning.{planning}
 use Rattle.plans.proofs.Instance.LineSearchedLaws.{planning_laws, clear_lawful}
 use Rattle.plans.specs.Clauses.Keys.{better_by}
-use Rattle.plans.specs.Clauses.Tallies.{best_of, cut_of, cut_off, Tallied}
+use Rattle.plans.specs.Clauses.Tallies.{best_of, cut_of, cut_off, DelayLow, Tallied}
+use Rattle.plans.specs.Clauses.TalliesLaws.{onward_low}
 use Rattle.plans.specs.Clauses.Choosing.{Planned, Given, NoRaise, RaisesChoice, IsWay}
 use Rattle.plans.proofs.Clauses.TryingLaws.{put_back}
 use Rattle.plans.proofs.Clauses.NextPlansLaws.{recounted, recounted_best, none_raised, way_added, way_raises, way-least, next_planned}
@@ -33,7 +34,7 @@ use Rattle.solver.specs.Selection.Pricing.{Cheapest}
 use Rattle.solver.specs.Selection.PricingLaws.{set_cases, only}
 use Rattle.solver.specs.Selection.Selecting.{Chosen}
 use Rattle.solver.specs.Search.Searching.{Held, Whole, Sought, WaysSought}
-use Rattle.solver.specs.Lookahead.Ahead.{PricesBetter}
+use Rattle.solver.specs.Lookahead.Ahead.{PricesBetterBelow}
 
 -- ---- the plans that are counted
 
@@ -79,14 +80,14 @@ module _ (l : Line) (m marks best : List ℕ) (d : Day) (cost : ℕ) (limit : Op
         (λ _. none_worse (planning l) L marks m (best_of y best) h.under
         (improves_false (planning l) m (best_of y best) (told l m marks best d.tables d.ds d.key d.layout cost y g r r-is ∙ not-true r n)))
 
-    pub sought_clear : not r ≡ false → Chosen d m None → (best' : List ℕ) → best' ≡ m →
+    pub sought_clear : not r ≡ false → (conflict : Option Conflict) → Chosen d m conflict → way_count conflict ≡ 0 → (best' : List ℕ) → best' ≡ m →
         Sought l marks marks best limit y marks best' (record { delay = Some cost; steps = y.steps })
-    sought_clear better chosen best' same =
+    sought_clear better conflict chosen empty best' same =
         let p = g.planned in
         let w = g.tabled.within in
         let a = g.tabled.raisable.arrays in
         let c = chosen l w a g.layout_is g.tabled.raisable.directions in
-        let lawful = clear_lawful l w a marks m p.carried.least.fit p.carried.least.keeps p.timely (c.none refl) in
+        let lawful = clear_lawful l w a marks m p.carried.least.fit p.carried.least.keeps p.timely (c.none (nothing_of conflict empty)) in
         let i = improves_true (planning l) m (best_of y best) (told l m marks best d.tables d.ds d.key d.layout cost y g r r-is ∙ not-false r better) in
         let s = searched_clear (planning l) L marks m (best_of y best) h.under lawful i in
         record {
@@ -100,6 +101,16 @@ module _ (l : Line) (m marks best : List ℕ) (d : Day) (cost : ℕ) (limit : Op
           onward = rw same s.onward;
           none_better = λ _. rw same s.none_better;
         }
+      where
+        nothing_of : (c : Option Conflict) → way_count c ≡ 0 → c ≡ None
+        nothing_of None e = refl
+        nothing_of (Some (Conflict.OnSegment x)) e = absurd (omega arith)
+        nothing_of (Some (Conflict.AtStation x)) e = absurd (omega arith)
+
+  -- the delay stays below the last number of its type, where it was
+  pub sought_low : (marks' best' : List ℕ) (r : Tally) → Sought l marks marks best limit y marks' best' r →
+      Sought l marks marks best limit y marks' best' r × (DelayLow y → DelayLow r)
+  sought_low marks' best' r s = (s, onward_low l g.tabled.within best best' y r g.tallied s.tallied s.onward)
 
   -- what is held stays so
   pub held_after : (marks' best' : List ℕ) (r : Tally) → marks' ≡ marks → Tallied l best' r → Held l m marks' best' d cost r
@@ -172,36 +183,36 @@ module _ (l : Line) (m marks best : List ℕ) (d : Day) (cost : ℕ) (limit : Op
 
   -- ---- trying all ways
 
-  module _ (conflict : Conflict) (real : Real l m (Some conflict)) where
+  module _ (conflict : Option Conflict) (real : Real l m conflict) where
     -- before the first: the marks are those after pricing, which are those of before
-    pub ways_priced : (marks₀ : List ℕ) (prices : List (Option ℕ)) → PricesBetter m marks₀ best d cost y conflict marks prices → (n : ℕ) →
-        n ≡ way_count (Some conflict) → WaysSought l marks best limit y conflict n prices marks best y
-    ways_priced marks₀ prices e n n-is =
+    pub ways_priced : (marks₀ : List ℕ) (prices : List (Option ℕ)) (k : ℕ) → PricesBetterBelow m marks₀ best d cost y conflict k marks prices →
+        (n : ℕ) → n ≤ k → WaysSought l marks best limit y conflict n prices marks best y
+    ways_priced marks₀ prices k e n few =
         record {
           marks_same = refl;
           tallied = g.tallied;
           steps_rise = omega arith;
           onward = inl refl;
-          done = λ _ k b dead c there.
+          done = λ _ j b dead c there.
               subst (λ (q : List ℕ). NoneBetter (planning l) (also c q) (best_of y best)) (sym e.marks_same)
-              (e.dead l (held_by marks₀ (sym e.marks_same)) real k (omega arith) dead c there);
+              (e.dead l (held_by marks₀ (sym e.marks_same)) real j (omega arith) dead c there);
         }
 
-    -- with none left the plan is searched
-    pub ways_done : (n : ℕ) → n ≡ way_count (Some conflict) → (prices : List (Option ℕ)) (marks' best' : List ℕ) (r : Tally) →
+    -- with none left the plan is searched, where there is a conflict
+    pub ways_done : (conflict ≡ None → ⊥) → (n : ℕ) → n ≡ way_count conflict → (prices : List (Option ℕ)) (marks' best' : List ℕ) (r : Tally) →
         WaysSought l marks best limit y conflict n prices marks' best' r → Cheapest prices n None → Sought l marks marks best limit y marks' best' r
-    ways_done n n-is prices marks' best' r s next =
+    ways_done some n n-is prices marks' best' r s next =
         record {
           marks_same = s.marks_same;
           tallied = s.tallied;
           steps_rise = s.steps_rise;
           onward = s.onward;
           none_better = λ whole.
-              none_split (planning l) L marks m (ways_of (Some conflict))
-              (conflict_splits l g.tabled.within g.tabled.raisable.arrays marks m (Some conflict) real (λ e. absurd (cc)))
+              none_split (planning l) L marks m (ways_of conflict)
+              (conflict_splits l g.tabled.within g.tabled.raisable.arrays marks m conflict real some)
               (best_of r best')
               (λ c there.
-              let (k, low, here) = way-number (Some conflict) c there in
+              let (k, low, here) = way-number conflict c there in
               let low' : k < n = omega arith in
               s.done whole k low' (next.none_left refl k low') c here);
         }
@@ -217,11 +228,11 @@ sought_by l marks₀ marks best limit y marks' best' r same s = subst (λ (q : L
 
 -- ---- one way more
 
-module _ (l : Line) (marks best : List ℕ) (limit : Option ℕ) (y : Tally) (conflict : Conflict) (n : ℕ)
+module _ (l : Line) (marks best : List ℕ) (limit : Option ℕ) (y : Tally) (conflict : Option Conflict) (n : ℕ)
     (prices : List (Option ℕ)) (marks₁ best₁ : List ℕ) (r₁ : Tally)
     (s : WaysSought l marks best limit y conflict n prices marks₁ best₁ r₁) (w : ℕ) where
   -- there is no such way
-  pub ways_skip : way_of (Some conflict) w ≡ [] → WaysSought l marks best limit y conflict n (set prices w None) marks₁ best₁ r₁
+  pub ways_skip : way_of conflict w ≡ [] → WaysSought l marks best limit y conflict n (set prices w None) marks₁ best₁ r₁
   ways_skip none =
       record {
         marks_same = s.marks_same;
@@ -230,13 +241,13 @@ module _ (l : Line) (marks best : List ℕ) (limit : Option ℕ) (y : Tally) (co
         onward = s.onward;
         done = λ whole k b dead c there.
             ⊎_elim
-            (λ e. absurd (Memᴰ.not-nil (subst (Memᴰ c) none (subst (λ (j : ℕ). Memᴰ c (way_of (Some conflict) j)) e.0 there))))
+            (λ e. absurd (Memᴰ.not-nil (subst (Memᴰ c) none (subst (λ (j : ℕ). Memᴰ c (way_of conflict j)) e.0 there))))
             (λ e. s.done whole k b (sym e ∙ dead) c there)
             (set_cases prices w None k);
       }
 
   -- it was tried: it holds nothing better, and the ways before it do not as the best goes on
-  pub ways-more : (c : Choice) → way_of (Some conflict) w ≡ c ∷ [] → (marks₂ best₂ : List ℕ) (r₂ : Tally) →
+  pub ways-more : (c : Choice) → way_of conflict w ≡ c ∷ [] → (marks₂ best₂ : List ℕ) (r₂ : Tally) →
       Sought l (also c marks₁) marks₁ best₁ limit r₁ marks₂ best₂ r₂ →
       WaysSought l marks best limit y conflict n (set prices w None) marks₂ best₂ r₂
   ways-more c one marks₂ best₂ r₂ k =
@@ -248,7 +259,7 @@ module _ (l : Line) (marks best : List ℕ) (limit : Option ℕ) (y : Tally) (co
         done = λ whole j b dead d there.
             ⊎_elim
             (λ e.
-            let same : d ≡ c = only (subst (Memᴰ d) one (subst (λ (j : ℕ). Memᴰ d (way_of (Some conflict) j)) e.0 there)) in
+            let same : d ≡ c = only (subst (Memᴰ d) one (subst (λ (j : ℕ). Memᴰ d (way_of conflict j)) e.0 there)) in
             subst (λ (x : Choice). NoneBetter (planning l) (also x marks) (best_of r₂ best₂)) (sym same)
             (subst (λ (p : Plan). NoneBetter (planning l) (also c p) (best_of r₂ best₂)) s.marks_same (k.none_better whole)))
             (λ e.

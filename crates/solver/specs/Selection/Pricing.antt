@@ -24,28 +24,29 @@ pub record Prices (m marks : List ℕ) (d : Day) (way : Way) (cost cut : ℕ) (m
   pub marks_same : marks' ≡ marks
   pub dead : (l : Line) (c : Choice) → Tabled l d.tables d.ds → Planned l marks m cost → IsWay l m d.ds c way → r ≡ None → NoRaise l c marks m cut
 
--- ---- all ways
+-- ---- all ways; there are none where there is no conflict
 
-pub record CanPriceWays (m marks : List ℕ) (d : Day) (cost : ℕ) (conflict : Conflict) : Type 0 where
+pub record CanPriceWays (m marks : List ℕ) (d : Day) (cost : ℕ) (conflict : Option Conflict) : Type 0 where
   pub line : Line
   pub tabled : Tabled line d.tables d.ds
   pub planned : Planned line marks m cost
-  pub real : Real line m (Some conflict)
+  pub real : Real line m conflict
 
 -- of the numbers below n those priced as dead have choices of which D holds
-abbrev pub DeadBelow : (Choice → Type 0) → Conflict → ℕ → List (Option ℕ) → Type 0
+abbrev pub DeadBelow : (Choice → Type 0) → Option Conflict → ℕ → List (Option ℕ) → Type 0
 DeadBelow D conflict n prices =
-    (k : ℕ) → k < n → get_or prices k None ≡ None → (c : Choice) → Memᴰ c (way_of (Some conflict) k) → D c
+    (k : ℕ) → k < n → get_or prices k None ≡ None → (c : Choice) → Memᴰ c (way_of conflict k) → D c
 
 -- of the first n numbers those priced as dead are
-pub record PricesBelow (m marks : List ℕ) (d : Day) (cost cut : ℕ) (conflict : Conflict) (n : ℕ) (marks' : List ℕ) (prices : List (Option ℕ)) : Type 0 where
+pub record PricesBelow (m marks : List ℕ) (d : Day) (cost cut : ℕ) (conflict : Option Conflict) (n : ℕ) (marks' : List ℕ)
+    (prices : List (Option ℕ)) : Type 0 where
   pub marks_same : marks' ≡ marks
-  pub dead : (l : Line) → Tabled l d.tables d.ds → Planned l marks m cost → Real l m (Some conflict) →
+  pub dead : (l : Line) → Tabled l d.tables d.ds → Planned l marks m cost → Real l m conflict →
       DeadBelow (λ c. NoRaise l c marks m cut) conflict n prices
 
 -- of all
-abbrev pub PricesWays : List ℕ → List ℕ → Day → ℕ → ℕ → Conflict → List ℕ → List (Option ℕ) → Type 0
-PricesWays m marks d cost cut conflict marks' prices = PricesBelow m marks d cost cut conflict (way_count (Some conflict)) marks' prices
+abbrev pub PricesWays : List ℕ → List ℕ → Day → ℕ → ℕ → Option Conflict → List ℕ → List (Option ℕ) → Type 0
+PricesWays m marks d cost cut conflict marks' prices = PricesBelow m marks d cost cut conflict (way_count conflict) marks' prices
 
 -- ---- the score by the prices, which is never 0
 

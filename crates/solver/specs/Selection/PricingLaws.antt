@@ -1,5 +1,5 @@
 -- The laws of pricing the ways out of a conflict: each is what one way out of a function, or one call in it, asks for.
-use Rattle.std.specs.Prelude.{ℕ, zero, suc, ◌+◌, ◌≤◌, ◌<◌, ◌≡◌, refl, ◌⊎◌, Bool, true, false, cond, Option, Some, None, is_some, length, get_or, set}
+use Rattle.std.specs.Prelude.{ℕ, zero, suc, ◌+◌, ◌≤◌, ◌<◌, ◌≡◌, refl, ◌⊎◌, Bool, true, false, cond, Option, Some, None, IfSome, is_some, length, get_or, set}
 use Rattle.std.proofs.Common.{sym, ◌∙◌, ap, subst, inl, inr, ⊎_elim, arith, get_or-set_same, get_or-set_other}
 use Rattle.std.proofs.lemmas.Bool.{false≢true}
 use mathlib.Core.List.Memᴰ
@@ -8,13 +8,15 @@ use Rattle.std.proofs.Math.Decide.{dec_lt}
 use Rattle.finite.specs.Below.{EachBelow, count}
 use Rattle.finite.specs.LoopLaws.{count_grows}
 use Rattle.line.specs.declared.Line.{Line}
+use Rattle.line.specs.Within.{Within, Arrays}
 use Rattle.rules.specs.declared.conflicts.Conflict.{Conflict}
 use Rattle.orders.specs.Plan.Bits.{with_bit}
 use Rattle.orders.specs.Plan.Choices.{Choice}
 use Rattle.plans.specs.Conflict.Ways.{way_of, way_count}
-use Rattle.plans.specs.Clauses.WaysTold.{Tells, TellsWay, Steps}
+use Rattle.plans.specs.Clauses.WaysTold.{Tells, TellsWay, Steps, InRange}
+use Rattle.plans.specs.Conflict.RealConflicts.{Real}
 use Rattle.plans.specs.Clauses.Choosing.{Planned, NoRaise, RaisesChoice}
-use Rattle.plans.proofs.Clauses.TryingLaws.{way_there, way_absent, way_of_real, put_back}
+use Rattle.plans.proofs.Clauses.TryingLaws.{way_there, way_absent, range_of, way_of_real, put_back}
 use Rattle.plans.proofs.Clauses.NextPlansLaws.{way_raises}
 use Rattle.plans.specs.declared.day.Day.{Day}
 use Rattle.plans.specs.declared.ways.Way.{Way}
@@ -50,54 +52,59 @@ only (Memᴰ.tail k) = absurd (Memᴰ.not-nil k)
 
 -- ---- the ways one by one
 
+-- the numbers of a conflict, if there is one, are in range
+pub range_if : (l : Line) → Within l → Arrays l → (m : List ℕ) (c : Option Conflict) → Real l m c → IfSome c InRange
+range_if l w a m None real = tt
+range_if l w a m (Some c) real = range_of l w a m c real
+
 -- whatever a dead price says of a choice
-module _ (D : Choice → Type 0) (ds : List ℕ) (conflict : Conflict) (w : ℕ) (prices : List (Option ℕ)) (h : DeadBelow D conflict w prices)
-    (step : ℕ) (steps : Steps (Some conflict) w step) where
+module _ (D : Choice → Type 0) (ds : List ℕ) (conflict : Option Conflict) (w : ℕ) (prices : List (Option ℕ)) (h : DeadBelow D conflict w prices)
+    (step : ℕ) (steps : Steps conflict w step) where
   -- there is no way of this number, nor of any before the next
-  pub dead_skip : TellsWay ds (way_of (Some conflict) w) None → DeadBelow D conflict (w + step) prices
+  pub dead_skip : TellsWay ds (way_of conflict w) None → DeadBelow D conflict (w + step) prices
   dead_skip tells k b dead c there = elim (dec_lt k w) [
     | yes o ↦ h k o dead c there
     | no o ↦ absurd (Memᴰ.not-nil (subst (Memᴰ c) (nothing_at k (omega arith) b) there))
   ]
     where
-      nothing_at : (k : ℕ) → w ≤ k → k < w + step → way_of (Some conflict) k ≡ []
+      nothing_at : (k : ℕ) → w ≤ k → k < w + step → way_of conflict k ≡ []
       nothing_at k a b = elim (dec_lt w k) [
         | yes o ↦ steps.none_between k o b
-        | no o ↦ (let e : k ≡ w = omega arith in ap (way_of (Some conflict)) e ∙ way_absent ds (way_of (Some conflict) w) tells)
+        | no o ↦ (let e : k ≡ w = omega arith in ap (way_of conflict) e ∙ way_absent ds (way_of conflict w) tells)
       ]
 
   -- there is one, and v is its price
-  pub dead_more : (way : Way) → TellsWay ds (way_of (Some conflict) w) (Some way) → (v : Option ℕ) → w < length prices →
-      ((d : Choice) → way_of (Some conflict) w ≡ d ∷ [] → Tells ds d way → v ≡ None → D d) → DeadBelow D conflict (w + step) (set prices w v)
+  pub dead_more : (way : Way) → TellsWay ds (way_of conflict w) (Some way) → (v : Option ℕ) → w < length prices →
+      ((d : Choice) → way_of conflict w ≡ d ∷ [] → Tells ds d way → v ≡ None → D d) → DeadBelow D conflict (w + step) (set prices w v)
   dead_more way tells v room here k b dead c there = elim (dec_lt k w) [
     | yes o ↦ h k o (sym (get_or-set_other prices w k v None (omega arith)) ∙ dead) c there
     | no o ↦ elim (dec_lt w k) [
       | yes u ↦ absurd (Memᴰ.not-nil (subst (Memᴰ c) (steps.none_between k u b) there))
       | no u ↦
           (let at : k ≡ w = omega arith in
-          let (d, one, tells-d) = way_there ds way (way_of (Some conflict) w) tells in
-          let same : c ≡ d = only (subst (Memᴰ c) one (subst (λ (j : ℕ). Memᴰ c (way_of (Some conflict) j)) at there)) in
+          let (d, one, tells-d) = way_there ds way (way_of conflict w) tells in
+          let same : c ≡ d = only (subst (Memᴰ c) one (subst (λ (j : ℕ). Memᴰ c (way_of conflict j)) at there)) in
           subst D (sym same)
           (here d one tells-d
           (sym (get_or-set_same prices w v None room) ∙ ap (λ (j : ℕ). get_or (set prices w v) j None) (sym at) ∙ dead)))
     ]
   ]
 
-pub prices_none : (m marks : List ℕ) (d : Day) (cost cut : ℕ) (conflict : Conflict) (prices : List (Option ℕ)) →
+pub prices_none : (m marks : List ℕ) (d : Day) (cost cut : ℕ) (conflict : Option Conflict) (prices : List (Option ℕ)) →
     PricesBelow m marks d cost cut conflict 0 marks prices
 prices_none m marks d cost cut conflict prices = record { marks_same = refl; dead = λ l _ _ _ k b. absurd (omega arith) }
 
-module _ (m marks : List ℕ) (d : Day) (cost cut : ℕ) (conflict : Conflict) (n : ℕ) (n-is : n ≡ way_count (Some conflict)) (w : ℕ) (low : w < n)
+module _ (m marks : List ℕ) (d : Day) (cost cut : ℕ) (conflict : Option Conflict) (n : ℕ) (n-is : n ≡ way_count conflict) (w : ℕ) (low : w < n)
     (marks₁ : List ℕ) (prices : List (Option ℕ)) (h : PricesBelow m marks d cost cut conflict w marks₁ prices)
-    (step : ℕ) (steps : Steps (Some conflict) w step) where
-  pub prices_skip : TellsWay d.ds (way_of (Some conflict) w) None → PricesBelow m marks d cost cut conflict (w + step) marks₁ prices
+    (step : ℕ) (steps : Steps conflict w step) where
+  pub prices_skip : TellsWay d.ds (way_of conflict w) None → PricesBelow m marks d cost cut conflict (w + step) marks₁ prices
   prices_skip tells =
       record {
         marks_same = h.marks_same;
         dead = λ l tabled planned real. dead_skip _ d.ds conflict w prices (h.dead l tabled planned real) step steps tells;
       }
 
-  pub prices_more : (way : Way) → TellsWay d.ds (way_of (Some conflict) w) (Some way) → (marks₂ : List ℕ) (v : Option ℕ) →
+  pub prices_more : (way : Way) → TellsWay d.ds (way_of conflict w) (Some way) → (marks₂ : List ℕ) (v : Option ℕ) →
       Prices m marks₁ d way cost cut marks₂ v → w < length prices → PricesBelow m marks d cost cut conflict (w + step) marks₂ (set prices w v)
   prices_more way tells marks₂ v e room =
       record {
@@ -105,7 +112,7 @@ module _ (m marks : List ℕ) (d : Day) (cost cut : ℕ) (conflict : Conflict) (
         dead = λ l tabled planned real.
             dead_more (λ c. NoRaise l c marks m cut) d.ds conflict w prices (h.dead l tabled planned real) step steps way tells v room
             (λ x one tells-x dead.
-            let is_way = way_of_real l tabled.within tabled.raisable.arrays m (Some conflict) real d.ds way n w n-is low x one tells-x in
+            let is_way = way_of_real l tabled.within tabled.raisable.arrays m conflict real d.ds way n w n-is low x one tells-x in
             subst (λ (q : List ℕ). NoRaise l x q m cut) h.marks_same
             (e.dead l x tabled (subst (λ (q : List ℕ). Planned l q m cost) (sym h.marks_same) planned) is_way dead));
       }

@@ -1,6 +1,6 @@
 -- The contracts of selecting a conflict: any conflict of a plan's minutes may be settled, and there is none only where the minutes have none. The line is not
 -- among the parameters: what is promised holds for every line of which what is asked for holds.
-use Rattle.std.specs.Prelude.{ℕ, ◌<◌, ◌≡◌, ◌⊎◌, List, Option, Some, None}
+use Rattle.std.specs.Prelude.{ℕ, ◌<◌, ◌≡◌, ◌⊎◌, List, Option, None}
 use Rattle.line.specs.declared.Line.{Line}
 use Rattle.line.specs.declared.Segment.{Segment}
 use Rattle.line.specs.Within.{Within, Arrays}
@@ -44,15 +44,15 @@ pub record FindsReal (m marks : List ℕ) (d : Day) (marks' : List ℕ) (c : Opt
 
 -- ---- the score of one conflict
 
-pub record CanScore (m marks : List ℕ) (d : Day) (cost : ℕ) (conflict : Conflict) : Type 0 where
+pub record CanScore (m marks : List ℕ) (d : Day) (cost : ℕ) (conflict : Option Conflict) : Type 0 where
   pub line : Line
   pub tabled : Tabled line d.tables d.ds
   pub planned : Planned line marks m cost
-  pub real : Real line m (Some conflict)
+  pub real : Real line m conflict
 
-pub record HigherScored (marks : List ℕ) (x : Conflict) (old : Scored) (marks' : List ℕ) (r : Scored) : Type 0 where
+pub record HigherScored (marks : List ℕ) (x : Option Conflict) (old : Scored) (marks' : List ℕ) (r : Scored) : Type 0 where
   pub marks_same : marks' ≡ marks
-  pub pick : (r.conflict ≡ old.conflict) ⊎ (r.conflict ≡ Some x)
+  pub pick : (r.conflict ≡ old.conflict) ⊎ (r.conflict ≡ x)
 
 -- ---- the conflicts on a segment
 

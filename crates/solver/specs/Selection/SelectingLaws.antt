@@ -1,5 +1,5 @@
 -- The laws of selecting a conflict: each is what one way out of a function, or one call in it, asks for.
-use Rattle.std.specs.Prelude.{ℕ, ◌+◌, ◌-◌, ◌≤◌, ◌<◌, ◌≡◌, refl, Bool, true, false, not, List, Option, Some, None, get_or}
+use Rattle.std.specs.Prelude.{ℕ, ◌+◌, ◌-◌, ◌≤◌, ◌<◌, ◌≡◌, refl, Bool, true, false, not, List, Option, None, get_or}
 use Rattle.std.proofs.Common.{sym, ◌∙◌, ap, subst, ⊎_elim, arith}
 use Rattle.std.proofs.lemmas.Bool.{not-false}
 use Rattle.line.specs.declared.Line.{Line}
@@ -62,8 +62,8 @@ clash-on l w a d m ds g n p on i j b c r h e =
     (subst (λ (x : Segment). clash x d.ds m p i j ≡ true) on.segment_is (h (not-false r e))))
 
 -- the higher scored of two is in conflict where both are
-pub higher_real : (l : Line) (m marks marks' : List ℕ) (x : Conflict) (old r : Scored) → HigherScored marks x old marks' r → Real l m old.conflict →
-    Real l m (Some x) → Real l m r.conflict
+pub higher_real : (l : Line) (m marks marks' : List ℕ) (x : Option Conflict) (old r : Scored) → HigherScored marks x old marks' r → Real l m old.conflict →
+    Real l m x → Real l m r.conflict
 higher_real l m marks marks' x old r h a b =
     ⊎_elim (λ e. subst (Real l m) (sym e) a) (λ e. subst (Real l m) (sym e) b) h.pick
 

@@ -17,7 +17,7 @@ sum_fits {line} {i} {j} {k} w h b a q so_far =
     omega (arith, rest_step line i k q refl refl so_far, rest_most line i w h (k + 1) (omega arith), legs-most line i w h)
 
 pub loop-k-init : goal.loop-k-init
-loop-k-init c = rest_start c.args.line c.args.i
+loop-k-init c = rest_start c.args.line.now c.args.i
 
 pub overflow_add-rest : goal.overflow_add-rest
 overflow_add-rest c =
@@ -29,4 +29,4 @@ overflow_add-rest-in-loop-k c =
 
 pub loop-k-preserved : goal.loop-k-preserved
 loop-k-preserved c =
-    omega (arith, rest_step c.args.line c.args.i c.loop-k.k c.legs_between-legs.ensures refl refl c.loop-k.invariant)
+    omega (arith, rest_step c.args.line.now c.args.i c.loop-k.k c.legs_between-legs.ensures refl refl c.loop-k.invariant)

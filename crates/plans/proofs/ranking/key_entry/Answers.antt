@@ -16,8 +16,8 @@ returns-then-legs-k c = entry_none _ _ _ (λ h. omega (arith, h.1, c.legs_betwee
 pub segment_between-p-requires : goal.segment_between-p-requires
 segment_between-p-requires c =
     let legs = c.legs_between-legs.ensures in
-    let w = within_runnable c.args.line c.requires in
-    let r = routed_leg c.args.line c.args.i w (omega (arith, c.if-from-i.false)) (omega (arith, legs, c.if-legs-k.false)) in
+    let w = within_runnable c.args.line.now c.requires in
+    let r = routed_leg c.args.line.now c.args.i w (omega (arith, c.if-from-i.false)) (omega (arith, legs, c.if-legs-k.false)) in
     (r.origin.0, r.origin.1, r.destination.0, r.destination.1, omega (arith, legs, c.if-legs-k.false))
 
 pub returns : goal.returns

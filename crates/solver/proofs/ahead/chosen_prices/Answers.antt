@@ -7,4 +7,4 @@ pub way_prices-requires : goal.way_prices-requires
 way_prices-requires c = try_price _ _ _ _ _ _ _ c.requires
 
 pub returns : goal.returns
-returns c = prices_better _ _ _ _ _ _ _ c.cut_of.ensures _ _ _ c.way_prices.ensures
+returns c = prices_better _ _ _ _ _ _ _ c.cut_of.ensures _ _ _ _ c.way_prices.ensures

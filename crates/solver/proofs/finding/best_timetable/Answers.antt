@@ -14,7 +14,7 @@ pub first_minutes-first-requires : goal.first_minutes-first-requires
 first_minutes-first-requires c = within_runnable c.args.line c.requires.0
 
 pub returns-then-not-first : goal.returns-then-not-first
-returns-then-not-first c = finds_nothing c.args.line c.requires.0 c.requires.1 (c.first_minutes-first.ensures.late c.if-not-first.true)
+returns-then-not-first c = finds_nothing c.args.line c.requires.0 c.requires.1 (c.first_minutes-first.ensures.late c.if-not-first.true) _ refl
 
 pub search_whole-whole-requires : goal.search_whole-whole-requires
 search_whole-whole-requires c =

@@ -39,4 +39,4 @@ returns c l h =
     let g = h.given in
     let near = (rw c.in-Some.is at (c.keep_orders.ensures (rw c.in-Some.is (some_alive refl)))).leads l (record { tabled = g.tabled; layout_is = g.layout_is })
     (first_searchable l c.args.first.now _ _ _ h _ refl) in
-    improved_sought l _ _ _ c.afresh-b.ensures _ _ _ _ _ _ (c.take_up.ensures l (near_held l _ _ _ c.afresh-b.ensures c.args.first.now _ h _ _ _ near))
+    improved_sought l _ _ _ c.afresh-b.ensures _ _ _ _ _ _ (c.take_up.ensures l (near_held l _ _ _ c.afresh-b.ensures c.args.first.now _ h _ _ _ near)).0

@@ -16,4 +16,4 @@ pub returns : goal.returns
 unfolding free
 returns c l h =
     let afresh = c.afresh.ensures in
-    searched_sought l _ _ _ afresh _ _ _ _ (c.take_up.ensures l (afresh_held l _ _ _ afresh _ _ _ _ h))
+    searched_sought l _ _ _ afresh _ _ _ _ (c.take_up.ensures l (afresh_held l _ _ _ afresh _ _ _ _ h)).0

@@ -3,11 +3,11 @@ use Prim.Native.Nat.{ℕ}
 use mathlib.Core.Path.{◌≡◌}
 use native.Mathlib.Omega.{arith}
 use lib.ListN.{length-set, length-replicate}
-use Rattle.std.specs.Prelude.{Option, Some, None}
+use Rattle.std.specs.Prelude.{Option, None}
 use Rattle.plans.specs.Conflict.Ways.{way_of, way_count}
 use Rattle.plans.proofs.Clauses.WaysToldLaws.{steps_within}
-use Rattle.plans.proofs.Clauses.TryingLaws.{way_there, count_most, range_of, way_of_real}
-use Rattle.solver.specs.Selection.PricingLaws.{prices_none, prices_skip, prices_more, planned_after}
+use Rattle.plans.proofs.Clauses.TryingLaws.{way_there, count_most, way_of_real}
+use Rattle.solver.specs.Selection.PricingLaws.{range_if, prices_none, prices_skip, prices_more, planned_after}
 use Rattle.solver.proofs.pricing.way_prices.Goals as goal
 use Rattle.solver.proofs.pricing.way_prices.Goals.{in-Some, in_default}
 
@@ -17,22 +17,22 @@ loop-w-init c = (omega arith, prices_none _ _ _ _ _ _ _, length-replicate {A = O
 pub way_of-out-requires : goal.way_of-out-requires
 way_of-out-requires c =
     let a = c.requires in (
-      range_of a.line a.tabled.within a.tabled.raisable.arrays _ c.args.conflict a.real,
-      omega (arith, c.way_count-n.ensures, count_most (Some c.args.conflict), c.loop-w-test.true),
+      range_if a.line a.tabled.within a.tabled.raisable.arrays _ c.args.conflict a.real,
+      omega (arith, c.way_count-n.ensures, count_most c.args.conflict, c.loop-w-test.true),
     )
 
 pub way_price-requires : goal.way_price-requires
 way_price-requires c =
     let i = c.loop-w in
     let a = c.requires in
-    let there = way_there _ _ (way_of (Some c.args.conflict) i.w) (rw c.in-Some.is at c.way_of-out.ensures.0) in
+    let there = way_there _ _ (way_of c.args.conflict i.w) (rw c.in-Some.is at c.way_of-out.ensures.0) in
     record {
       line = a.line;
       choice = there.0;
       tabled = a.tabled;
       planned = planned_after _ _ _ _ _ i.invariant.1.marks_same a.planned;
       is_way =
-          way_of_real a.line a.tabled.within a.tabled.raisable.arrays _ (Some c.args.conflict) a.real _ _ _ i.w c.way_count-n.ensures
+          way_of_real a.line a.tabled.within a.tabled.raisable.arrays _ c.args.conflict a.real _ _ _ i.w c.way_count-n.ensures
           c.loop-w-test.true there.0 there.1 there.2;
     }
 
@@ -52,7 +52,7 @@ loop-w-preserved c =
       elim c.match-out.branch [
         | in-Some w ↦
             rw (w.marks-is, w.prices-is) (prices_more _ _ _ _ _ _ _ count _ low _ _ i.invariant.1 _ out.1 _ (rw w.in-Some.is at out.0) _ _ w.way_price.ensures
-            (omega (arith, i.invariant.2, count, count_most (Some c.args.conflict))))
+            (omega (arith, i.invariant.2, count, count_most c.args.conflict)))
         | in_default w ↦ rw (w.marks-is, w.prices-is) (prices_skip _ _ _ _ _ _ _ count _ low _ _ i.invariant.1 _ out.1 (rw w.in_default.is at out.0))
       ],
       elim c.match-out.branch [
@@ -64,5 +64,5 @@ loop-w-preserved c =
 pub returns : goal.returns
 returns c =
     let i = c.loop-w in
-    let all : i.w ≡ way_count (Some c.args.conflict) = omega (arith, c.loop-w-test.false, i.invariant.0, c.way_count-n.ensures) in
+    let all : i.w ≡ way_count c.args.conflict = omega (arith, c.loop-w-test.false, i.invariant.0, c.way_count-n.ensures) in
     rw (← all) i.invariant.1

@@ -10,17 +10,18 @@ use Rattle.plans.specs.Conflict.Ways.{way_of}
 use Rattle.plans.proofs.Clauses.TryingLaws.{way_there, way_absent, count_most, range_of, way_of_real}
 use Rattle.plans.proofs.Clauses.NextPlansLaws.{row_few, second_there, way_chooses, next_falls}
 use Rattle.solver.specs.Selection.PricingLaws.{untried_falls}
-use Rattle.solver.specs.Search.SearchingLaws.{held_after, held_by, sought_spent, sought_cut, sought_clear, sought_dead, next_held}
+use Rattle.solver.specs.Search.SearchingLaws.{held_after, held_by, sought_low, sought_spent, sought_cut, sought_clear, sought_dead, next_held}
 use Rattle.solver.specs.Search.SearchingLaws.{sought_alive, sought_marks, sought_by, ways_priced, ways_done, ways_skip, ways-more}
 use Rattle.solver.proofs.search.+take_up_try_way_try_ways.Goals as goal
 use Rattle.solver.proofs.search.+take_up_try_way_try_ways.Goals.{try_ways-in-Some-way, try_ways-in_default-way}
 
 pub take_up-returns-then-spent : goal.take_up-returns-then-spent
 take_up-returns-then-spent t c l h =
-    sought_spent l _ _ _ _ _ _ _ h _ c.if-spent.true c.spent.ensures
+    sought_low l _ _ _ _ _ _ _ h _ _ _ (sought_spent l _ _ _ _ _ _ _ h _ c.if-spent.true c.spent.ensures)
 
 pub take_up-returns-then-not-improves : goal.take_up-returns-then-not-improves
-take_up-returns-then-not-improves t c l h = sought_cut l _ _ _ _ _ _ _ h _ c.improves.ensures (ap not c.if-not-improves.true)
+take_up-returns-then-not-improves t c l h =
+    sought_low l _ _ _ _ _ _ _ h _ _ _ (sought_cut l _ _ _ _ _ _ _ h _ c.improves.ensures (ap not c.if-not-improves.true))
 
 pub take_up-choose_conflict-selected-requires : goal.take_up-choose_conflict-selected-requires
 take_up-choose_conflict-selected-requires t c = c.requires
@@ -28,8 +29,9 @@ take_up-choose_conflict-selected-requires t c = c.requires
 pub take_up-returns-in_default : goal.take_up-returns-in_default
 take_up-returns-in_default t c l h =
     let o = rw c.in_default.is at c.choose_conflict-selected.ensures in
-    sought_marks l _ _ _ _ _ _ _ _ o.marks_same
-    (sought_clear l _ _ _ _ _ _ _ h _ c.improves.ensures (ap not c.if-not-improves.false) o.chosen _ refl)
+    sought_low l _ _ _ _ _ _ _ h _ _ _
+    (sought_marks l _ _ _ _ _ _ _ _ o.marks_same
+    (sought_clear l _ _ _ _ _ _ _ h _ c.improves.ensures (ap not c.if-not-improves.false) None o.chosen refl _ c.copy_minutes.ensures))
 
 pub take_up-try_ways-requires : goal.take_up-try_ways-requires
 take_up-try_ways-requires t c =
@@ -48,9 +50,10 @@ pub take_up-returns : goal.take_up-returns
 take_up-returns t c l h =
     let g = h.given in
     let o = rw c.in-Some.is at c.choose_conflict-selected.ensures in
-    sought_by l _ _ _ _ _ _ _ _ o.marks_same
+    sought_low l _ _ _ _ _ _ _ h _ _ _
+    (sought_by l _ _ _ _ _ _ _ _ o.marks_same
     (c.try_ways.ensures l (held_by l _ _ _ _ _ None _ h _ o.marks_same)
-    (o.chosen l g.tabled.within g.tabled.raisable.arrays g.layout_is g.tabled.raisable.directions).real)
+    (o.chosen l g.tabled.within g.tabled.raisable.arrays g.layout_is g.tabled.raisable.directions).real))
 
 pub try_way-offset_bounds-marks-row : goal.try_way-offset_bounds-marks-row
 try_way-offset_bounds-marks-row t c =
@@ -129,7 +132,7 @@ try_way-returns t c l x h i =
     let held = next_held l _ _ _ _ _ None _ h x _ i _ c.counted-b.ensures _ c.with_bit.ensures _ refl _
     c.cut_of.ensures _ _ raised (some_alive refl) in
     sought_alive l _ _ _ _ _ _ _ h x _ i _ c.counted-b.ensures _ c.with_bit.ensures _ refl _
-    c.cut_of.ensures _ _ raised _ _ _ (c.take_up-r.ensures l held)
+    c.cut_of.ensures _ _ raised _ _ _ (c.take_up-r.ensures l held).0
 
 pub try_ways-chosen_prices-prices-requires : goal.try_ways-chosen_prices-prices-requires
 try_ways-chosen_prices-prices-requires t c = c.requires
@@ -140,7 +143,7 @@ try_ways-cheapest-requires t c = omega (arith, c.loop-w.invariant.0, count_most 
 pub try_ways-loop-w-init : goal.try_ways-loop-w-init
 try_ways-loop-w-init t c = (
   c.way_count-n.ensures,
-  (λ l h real. ways_priced l _ _ _ _ _ _ _ h _ real _ _ c.chosen_prices-prices.ensures _ c.way_count-n.ensures),
+  (λ l h real. ways_priced l _ _ _ _ _ _ _ h _ real _ _ _ c.chosen_prices-prices.ensures _ (omega (arith, c.way_count-n.ensures))),
   search rules,
 )
 
@@ -205,4 +208,4 @@ try_ways-returns t c l h real =
     let same = c.chosen_prices-prices.ensures.marks_same in
     let held = held_by l _ _ _ _ _ None _ h _ same in
     sought_by l _ _ _ _ _ _ _ _ same
-    (ways_done l _ _ _ _ _ _ _ held _ real _ i.invariant.0 _ _ _ _ (i.invariant.1 l held real) (rw c.in_default.is at c.cheapest.ensures))
+    (ways_done l _ _ _ _ _ _ _ held _ real (λ e. absurd (cc)) _ i.invariant.0 _ _ _ _ (i.invariant.1 l held real) (rw c.in_default.is at c.cheapest.ensures))

@@ -23,7 +23,7 @@ decreases-try_ways l = 3 * slack l.m.now + 1
 abbrev pub invariant-try_ways-loop-w : goal.invariant-try_ways-loop-w
 invariant-try_ways-loop-w l =
     (l.n ≡ way_count (Some l.conflict)) ×
-    TriesSome l.m l.initial.marks l.initial.best l.day l.cost l.limit l.initial.b l.conflict l.n l.prices l.marks l.best l.b × (length l.prices ≡ 144)
+    TriesSome l.m l.initial.marks l.initial.best l.day l.cost l.limit l.initial.b (Some l.conflict) l.n l.prices l.marks l.best l.b × (length l.prices ≡ 144)
 
 abbrev pub decreases-try_ways-loop-w : goal.decreases-try_ways-loop-w
 decreases-try_ways-loop-w l = count (untried l.prices) l.n

@@ -3,9 +3,9 @@ use mathlib.Core.Path.{◌∙◌, sym, ap}
 use native.Mathlib.Omega.{arith}
 use Rattle.text.specs.Places.Lines.{Counted, AnyNumber}
 use Rattle.text.proofs.Places.LinesLaws.{keeps_counted, field_counted, stands_got}
-use Rattle.text.proofs.Reading.HandedLaws.{handed_on}
-use Rattle.line.specs.File.{answered}
-use Rattle.timetable.specs.Told.{rest_told}
+use Rattle.text.specs.Reading.Parsed.{map_parsed}
+use Rattle.text.proofs.Reading.HandedLaws.{told_on}
+use Rattle.timetable.specs.Told.{rest_read}
 use Rattle.timetable.specs.PlaceLaws.{any_timetable_number, stands_lists}
 use Rattle.timetable.specs.RestLaws.{rest_no_count, rest_no_lists, rest_no_total, rest_more, rest_whole}
 use Rattle.timetable.proofs.reading.read_rest.Goals as goal
@@ -13,7 +13,7 @@ use Rattle.timetable.proofs.reading.read_rest.Goals as goal
 pub returns-in_err-next : goal.returns-in_err-next
 returns-in_err-next c =
     let count = rw c.only.ensures at (sym c.in_err-next.ensures) in
-    ap (rest_told c.args.line) (handed_on _ c.from_residual.ensures.1) ∙ sym (ap answered (rest_no_count _ _ _ c.list_count-own.ensures.0 count))
+    ap (map_parsed (rest_read c.args.line)) (told_on _ c.from_residual.ensures.1) ∙ sym (rest_no_count _ _ _ c.list_count-own.ensures.0 count)
 
 pub list_lines-requires : goal.list_lines-requires
 list_lines-requires c = (
@@ -26,8 +26,8 @@ pub returns-in_err-lists : goal.returns-in_err-lists
 returns-in_err-lists c =
     let count = rw c.only.ensures at (sym c.in_ok-next.ensures) in
     let lists = rw c.from.ensures at (sym c.in_err-lists.ensures) in
-    ap (rest_told c.args.line) (handed_on _ c.from_residual-in_err-lists.ensures.1)
-    ∙ sym (ap answered (rest_no_lists _ _ _ c.list_count-own.ensures.0 count lists))
+    ap (map_parsed (rest_read c.args.line)) (told_on _ c.from_residual-in_err-lists.ensures.1)
+    ∙ sym (rest_no_lists _ _ _ c.list_count-own.ensures.0 count lists)
 
 pub long_number_field-requires : goal.long_number_field-requires
 long_number_field-requires c =
@@ -39,14 +39,14 @@ returns-in_default c =
     let count = rw c.only.ensures at (sym c.in_ok-next.ensures) in
     let lists = rw c.from.ensures at (sym c.in_ok-lists.ensures) in
     let total = sym c.long_number_field.ensures ∙ c.in_default.is in
-    sym (ap answered (rest_no_total _ _ _ c.list_count-own.ensures.0 count lists total))
+    sym (rest_no_total _ _ _ c.list_count-own.ensures.0 count lists total)
 
 pub returns-then-end-s : goal.returns-then-end-s
 returns-then-end-s c =
     let count = rw c.only.ensures at (sym c.in_ok-next.ensures) in
     let lists = rw c.from.ensures at (sym c.in_ok-lists.ensures) in
     let total = sym c.long_number_field.ensures ∙ c.in-Some.is in
-    sym (ap answered (rest_more _ _ _ c.list_count-own.ensures.0 count lists total c.if-end-s.true))
+    sym (rest_more _ _ _ c.list_count-own.ensures.0 count lists total c.if-end-s.true)
 
 pub returns : goal.returns
 returns c =
@@ -54,4 +54,4 @@ returns c =
     let count = rw c.only.ensures at (sym c.in_ok-next.ensures) in
     let lists = rw (c.from.ensures, own) at (sym c.in_ok-lists.ensures) in
     let total = sym c.long_number_field.ensures ∙ c.in-Some.is in
-    sym (ap answered (rest_whole _ _ _ own count (rw own lists) total (omega (arith, c.if-end-s.false))))
+    sym (rest_whole _ _ _ own count (rw own lists) total (omega (arith, c.if-end-s.false)))

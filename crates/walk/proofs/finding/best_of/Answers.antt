@@ -17,7 +17,7 @@ first_minutes-first-requires c = within_runnable c.args.line c.requires.0
 
 pub returns-then-not-first : goal.returns-then-not-first
 returns-then-not-first c =
-    finds_nothing c.args.line c.requires.0 c.requires.1 (c.first_minutes-first.ensures.late (not-true _ c.if-not-first.true))
+    finds_nothing c.args.line c.requires.0 c.requires.1 (c.first_minutes-first.ensures.late (not-true _ c.if-not-first.true)) _ refl refl
 
 pub take_up-tally-requires : goal.take_up-tally-requires
 unfolding free
@@ -39,4 +39,4 @@ returns c =
     (record { delay = None; steps = 1 }) refl (omega arith) in
     subst (FindsWalked c.args.line) (sym c.found_of.ensures)
     (finds_walked c.args.line c.requires.0 c.requires.1 c.first_minutes-first.result.minutes carried.least (replicate 352 0) refl refl
-    (c.take_up-tally.ensures c.args.line given))
+    (c.take_up-tally.ensures c.args.line given).0)

@@ -11,7 +11,7 @@ use Rattle.walk.specs.WalksLaws.{walks_none}
 use Rattle.walk.specs.TakenLaws.{some_ways}
 use Rattle.plans.proofs.Clauses.TryingLaws.{way_there, count_most, conflict_range, is_way}
 use Rattle.plans.proofs.Clauses.GivenLaws.{key_long, laid_out, conflict_known}
-use Rattle.walk.specs.TakenLaws.{clear_known, given_cut, given_clear, given_split, given_fails, given_dead, next_given}
+use Rattle.walk.specs.TakenLaws.{clear_known, given_taken, given_cut, given_clear, given_split, given_fails, given_dead, next_given}
 use Rattle.walk.specs.TakenLaws.{given_alive, given_after, tries_more, tries_skip}
 use Rattle.plans.proofs.Clauses.NextPlansLaws.{row_few, second_there, way_chooses, next_falls}
 use Rattle.walk.proofs.walk.+take_up_try_way_try_ways.Goals as goal
@@ -23,7 +23,8 @@ try_way-returns-then-fails t c l x g i =
     (c.fails.ensures c.if-fails.true)
 
 pub take_up-returns-then-not-improves : goal.take_up-returns-then-not-improves
-take_up-returns-then-not-improves t c l g = given_cut l _ _ _ _ _ _ _ _ _ g _ c.improves.ensures (ap not c.if-not-improves.true)
+take_up-returns-then-not-improves t c l g =
+    given_taken l _ _ _ _ _ _ _ _ _ g _ _ _ (given_cut l _ _ _ _ _ _ _ _ _ g _ c.improves.ensures (ap not c.if-not-improves.true))
 
 pub take_up-lowest_conflict-requires : goal.take_up-lowest_conflict-requires
 take_up-lowest_conflict-requires t c =
@@ -39,8 +40,9 @@ take_up-lowest_conflict-requires t c =
 
 pub take_up-returns-in_default : goal.take_up-returns-in_default
 take_up-returns-in_default t c l g =
-    given_clear l _ _ _ _ _ _ _ _ _ g _ c.improves.ensures (ap not c.if-not-improves.false)
-    (sym c.in_default.is ∙ c.lowest_conflict.ensures) _ refl
+    given_taken l _ _ _ _ _ _ _ _ _ g _ _ _
+    (given_clear l _ _ _ _ _ _ _ _ _ g _ c.improves.ensures (ap not c.if-not-improves.false)
+    _ (sym c.in_default.is ∙ c.lowest_conflict.ensures) refl _ c.copy_minutes.ensures)
 
 pub take_up-try_ways-requires : goal.take_up-try_ways-requires
 take_up-try_ways-requires t c =
@@ -56,8 +58,9 @@ take_up-try_ways-requires t c =
 pub take_up-returns : goal.take_up-returns
 take_up-returns t c l g =
     let is = sym c.in-Some.is ∙ c.lowest_conflict.ensures in
-    given_split l _ _ _ _ _ _ _ _ _ g _ c.improves.ensures (ap not c.if-not-improves.false) _ is (some_ways c.in-Some.conflict) _ _ _
-    (c.try_ways.ensures l g (conflict_known l _ _ _ _ _ _ _ _ _ g _ is))
+    given_taken l _ _ _ _ _ _ _ _ _ g _ _ _
+    (given_split l _ _ _ _ _ _ _ _ _ g _ c.improves.ensures (ap not c.if-not-improves.false) _ is (some_ways c.in-Some.conflict) _ _ _
+    (c.try_ways.ensures l g (conflict_known l _ _ _ _ _ _ _ _ _ g _ is)))
 
 pub try_way-fails-requires : goal.try_way-fails-requires
 try_way-fails-requires t c =
@@ -100,7 +103,7 @@ try_way-returns t c l x g i =
     let given = next_given l _ _ _ _ _ _ _ _ _ g x _ i _ c.with_bit.ensures _ c.counted-b.ensures _
     refl _ c.cut_of-2.ensures _ _ (rw c.in-Some.is at c.raised.ensures) (some_alive refl) in
     given_alive l _ _ _ _ _ _ _ _ _ g x _ i _ c.with_bit.ensures _ c.counted-b.ensures _ refl _
-    c.cut_of-2.ensures _ _ (rw c.in-Some.is at c.raised.ensures) (some_alive refl) _ _ _ (c.take_up-r.ensures l given)
+    c.cut_of-2.ensures _ _ (rw c.in-Some.is at c.raised.ensures) (some_alive refl) _ _ _ (c.take_up-r.ensures l given).0
 
 pub try_ways-clear_segments-clear-requires : goal.try_ways-clear_segments-clear-requires
 try_ways-clear_segments-clear-requires t c = laid_out c.requires.line _ _ _ _ _ _ _ _ _ c.requires.given
