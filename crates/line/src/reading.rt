@@ -465,7 +465,8 @@ fn newest_counts(limits: Limits) -> Limits
     }
 }
 
-// The sections past the third: bookings, and 5. dues. Laid into the reading of a file they are copied more often, which takes a short file a third longer.
+// The sections past the third: bookings, and 5. dues. They are read by a function of their own: laid into the reading of a file they were copied more often, and
+// reading a short file took a third longer.
 #[tactic(auto, using(crate::specs::SectionLaws::further_no_bookings))]
 #[inline(never)]
 fn further_sections(

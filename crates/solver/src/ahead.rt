@@ -122,8 +122,8 @@ fn unscored(plain: Selected) -> Selected
     }
 }
 
-// Looks ahead at the places of the highest scores; at once where one conflict has at most one way alive. `plain` is what a scan alone selects. Its arrays are
-// kept out of the levels of the search, each of which would have room for them else.
+// Looks ahead at the places of the highest scores; at once where one conflict has at most one way alive. `plain` is what a scan alone selects. It is
+// not laid into a level of the search, each of which would then have room for its arrays.
 #[inline(never)]
 fn look_ahead(
     m: &[u16; 352],
